@@ -1,0 +1,7 @@
+-- Laws that several functions' proofs cite, and the theorem about the root's definition.
+mod Patterns
+mod WholeRoot
+mod RoundedRoot
+mod ScaledRoot
+mod RootOperand
+mod NearestRoot
