@@ -1,5 +1,6 @@
 -- Laws that several functions' proofs cite, and the theorem about the root's definition.
 mod Patterns
+mod NearWhole
 mod WholeRoot
 mod RoundedRoot
 mod ScaledRoot

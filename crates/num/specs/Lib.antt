@@ -1,6 +1,13 @@
+-- Definitions: F32, Const, Steps, Root, NearestRoot, and Private for the contracts of private functions. Laws that callers cite: Order, Within,
+-- Signs, Values. Worked cases: Cases.
 pub mod F32
 pub mod Const
 pub mod Steps
 pub mod Root
 pub mod NearestRoot
 pub mod Private
+pub mod Order
+pub mod Within
+pub mod Signs
+pub mod Values
+pub mod Cases

@@ -1,0 +1,170 @@
+-- What adding 2 ^ 23 does to a value from 0 to below 2 ^ 23: the sum is rounded to a whole number, at most a half away, whose last digits stand in
+-- the bit pattern. Assumes nothing.
+use mathlib.Core.Path.{_≡_, refl, sym, ap, _∙_, subst}
+use Prim.Native.Nat.{ℕ, zero, suc, _+_, _-_, _*_, _/_, _%_, _^_, _≤_, _<_, zero-le, suc-le-suc, compare, Ordering, Ordering·lt, Ordering·eq, Ordering·gt}
+use native.Mathlib.Nat.{le-trans, le-of-eq, lt-of-lt-of-le, not-suc-le-zero, zero-mul, mul-left-comm, mul-one, mul-assoc, mul-right-comm, mul-pos, add-mul, suc-mul, add-zero, one-mul, le-of-suc-le-suc, lt-of-mul-lt-mul-right, mul-le-mul-right, mul-lt-mul-of-pos-right, mod-lt, div-add-mod', le-div-iff-mul-le, div-lt-iff-lt-mul, div-eq-of-lt-le}
+use native.Mathlib.Omega.{arith}
+use mathlib.Core.Bool.{Bool, true, false, not}
+use lib.Dec.{T, isLe, isEq, leb→le, nleb→lt, eqb→eq, ltb→lt, lt→ltb, lit<, lit≤}
+use lib.Pow.{pow-add, pow-pos}
+use lib.Ieee.{Float, nan, inf, fin, binary32, up, down, size, nearest, units, round, add, isNan, ofBits, toBits}
+use lib.Ieee.Fits.{down-pos, core, round-is}
+use lib.Ieee.Nearest.{closest, closest-mono, closest-same}
+use lib.Ieee.Bits.{toBits-ofBits, nanBits-is}
+use Rattle.num.specs.Private.{under, Near, c2^23}
+use Rattle.num.proofs.Patterns.{size-is, units-pattern, no-nan}
+
+-- ---- the nearest whole number to a / c is at most a half away
+
+abbrev Bounds : ℕ → ℕ → ℕ → Type 0
+Bounds a c n = (2 * a ≤ (2 * n + 1) * c) × (2 * n * c ≤ 2 * a + c)
+
+doubled : (n c : ℕ) → (2 * n + 1) * c ≡ 2 * (n * c) + c
+doubled n c = add-mul (2 * n) 1 c ∙ parts (2 * n * c) (n * c) (1 * c) c (mul-assoc 2 n c) (one-mul c)
+  where
+    parts : (u v x c : ℕ) → u ≡ 2 * v → x ≡ c → u + x ≡ 2 * v + c
+    parts u v x c e k = omega arith
+
+bounds-down : (a c q r : ℕ) → q * c + r ≡ a → r * 2 ≤ c → Bounds a c q
+bounds-down a c q r e h = (omega (arith, doubled q c), omega (arith, mul-assoc 2 q c))
+
+bounds-up : (a c q r : ℕ) → q * c + r ≡ a → c ≤ r * 2 → r < c → Bounds a c (suc q)
+bounds-up a c q r e h l = (omega (arith, doubled (suc q) c, suc-mul q c), omega (arith, mul-assoc 2 (suc q) c, suc-mul q c))
+
+bounds : (a c q r : ℕ) (o : Ordering) → q * c + r ≡ a → r < c → (T (isLe o) → r * 2 ≤ c) → (T (not (isLe o)) → c < r * 2) → (T (isEq o) → r * 2 ≡ c)
+    → Bounds a c (nearest q o)
+bounds a c q r Ordering·lt e l below above level = bounds-down a c q r e (below tt)
+bounds a c q r Ordering·gt e l below above level = bounds-up a c q r e (omega (arith, above tt)) l
+bounds a c q r Ordering·eq e l below above level = go (q % 2) refl
+  where
+    go : (p : ℕ) → q % 2 ≡ p → Bounds a c (q + p)
+    go zero k = subst (Bounds a c) (sym (add-zero q)) (bounds-down a c q r e (below tt))
+    go (suc p) k =
+        let one : q + suc p ≡ suc q = omega arith in
+        subst (Bounds a c) (sym one) (bounds-up a c q r e (le-of-eq (sym (level tt))) l)
+
+closest-near : (a c : ℕ) → 0 < c → Bounds a c (closest a c)
+closest-near a c p =
+    bounds a c (a / c) (a % c) (compare (a % c * 2) c) (div-add-mod' a c) (mod-lt a p) (leb→le (a % c * 2) c) (nleb→lt (a % c * 2) c) (eqb→eq (a % c * 2) c)
+
+-- ---- a fraction from 2 ^ 23 to below 2 ^ 24 is rounded to a whole number
+
+module _ (a c : ℕ) (p : 0 < c) (lo : 8388608 * c ≤ a) (hi : a < 16777216 * c) where
+  digits : size (a * 2 ^ 149 / c) ≡ 173
+  digits =
+      size-is 172 (a * 2 ^ 149 / c)
+      (le-div-iff-mul-le p .1 (le-trans (le-of-eq (ap (λ (x : ℕ). x * c) (pow-add 2 23 149) ∙ mul-right-comm 8388608 (2 ^ 149) c)) (mul-le-mul-right (2 ^ 149) lo)))
+      (div-lt-iff-lt-mul p .1 (lt-of-lt-of-le (mul-lt-mul-of-pos-right hi (pow-pos 149)) (le-of-eq (mul-right-comm 16777216 c (2 ^ 149) ∙ ap (λ (x : ℕ). x * c) (sym (pow-add 2 24 149))))))
+
+  rounded : round binary32 false a c ≡ units binary32 false (closest a c) 149
+  rounded =
+      round-is binary32 false a c
+      ∙ ap (λ (k : ℕ). core binary32 false (a * 2 ^ 149) c (k - 24)) digits
+      ∙ ap (λ (q : ℕ). units binary32 false q 149) (closest-same (a * 2 ^ 149) (c * 2 ^ 149) a c (mul-pos p (pow-pos 149)) p (mul-right-comm a (2 ^ 149) c ∙ mul-assoc a c (2 ^ 149)))
+
+  at-least : 8388608 ≤ closest a c
+  at-least = closest-mono 8388608 1 a c (lit< tt) p (le-trans lo (le-of-eq (sym (mul-one a))))
+
+  at-most : closest a c ≤ 16777216
+  at-most = closest-mono a c 16777216 1 p (lit< tt) (omega arith)
+
+  pub rounded-bits : round binary32 false a c ≡ ofBits binary32 (closest a c + 1249902592)
+  rounded-bits = rounded ∙ sym (units-pattern (closest a c) 149 at-least at-most (lit≤ tt))
+
+-- ---- the sum
+
+abbrev pub sumOf : Float → Float
+sumOf v = add binary32 v c2^23
+
+-- n, plus 2 ^ 23, has the sum's pattern
+abbrev Sum : Float → Type 0
+Sum v = (n : ℕ) × (sumOf v ≡ ofBits binary32 (1258291200 + n)) × Near v n × (n ≤ 8388608)
+
+summed : (v : Float) → T (under 8388608 v) → Sum v
+unfolding under add ofBits Near
+summed (fin false m e) h =
+    let A = m * up e in
+    let C = down e in
+    let a = A * 1 + 8388608 * C in
+    let c = C * 1 in
+    let l : A < 8388608 * C = ltb→lt A (8388608 * C) h in
+    let p : 0 < c = mul-pos (down-pos e) (lit< tt) in
+    let lo : 8388608 * c ≤ a = omega arith in
+    let hi : a < 16777216 * c = omega arith in
+    let N = closest a c in
+    let n = N - 8388608 in
+    let b = closest-near a c p in
+    let more : 8388608 ≤ N = at-least a c p lo hi in
+    let most : N ≤ 16777216 = at-most a c p lo hi in
+    let is : N ≡ n + 8388608 = omega arith in
+    let low : (2 * N + 1) * c ≡ (2 * n + 1) * C + 16777216 * C = shifted N n C is in
+    let high : 2 * N * c ≡ 2 * n * C + 16777216 * C = shifted-too N n C is in
+    let bits : N + 1249902592 ≡ 1258291200 + n = omega arith in (
+      n,
+      rounded-bits a c p lo hi ∙ ap (ofBits binary32) bits,
+      (omega (arith, b .0), omega (arith, b .1)),
+      omega arith,
+    )
+  where
+    shifted : (N n C : ℕ) → N ≡ n + 8388608 → (2 * N + 1) * (C * 1) ≡ (2 * n + 1) * C + 16777216 * C
+    shifted N n C e =
+        let s : 2 * N + 1 ≡ (2 * n + 1) + 16777216 = omega arith in
+        ap (λ (x : ℕ). x * (C * 1)) s ∙ ap (λ (x : ℕ). (2 * n + 1 + 16777216) * x) (mul-one C) ∙ add-mul (2 * n + 1) 16777216 C
+
+    shifted-too : (N n C : ℕ) → N ≡ n + 8388608 → 2 * N * (C * 1) ≡ 2 * n * C + 16777216 * C
+    shifted-too N n C e =
+        let s : 2 * N ≡ 2 * n + 16777216 = omega arith in
+        ap (λ (x : ℕ). x * (C * 1)) s ∙ ap (λ (x : ℕ). (2 * n + 16777216) * x) (mul-one C) ∙ add-mul (2 * n) 16777216 C
+
+pub sum-bits : (v : Float) → T (under 8388608 v) → T (not (isNan (sumOf v))) × (1258291200 ≤ toBits binary32 (sumOf v)) × Near v (toBits binary32 (sumOf v) - 1258291200)
+sum-bits v h =
+    let s = summed v h in
+    let n = s .0 in
+    let small : n ≤ 8388608 = s .3 in
+    let number : T (not (isNan (ofBits binary32 (1258291200 + n)))) = subst (λ (b : Bool). T (not b)) (nanBits-is binary32 (1258291200 + n)) (no-nan (1258291200 + n) (omega arith)) in
+    let bits : toBits binary32 (sumOf v) ≡ 1258291200 + n = ap (toBits binary32) (s .1) ∙ toBits-ofBits binary32 (1258291200 + n) (omega arith) number in
+    let is : toBits binary32 (sumOf v) - 1258291200 ≡ n = omega arith in
+    (subst (λ (x : Float). T (not (isNan x))) (sym (s .1)) number, omega arith, subst (Near v) (sym is) (s .2))
+
+-- a whole number near a value below k is at most k
+pub near-le : (k n : ℕ) (v : Float) → T (under k v) → Near v n → n ≤ k
+unfolding under Near
+near-le k n (fin false m e) h b =
+    let A = m * up e in
+    let C = down e in
+    let l : A < k * C = ltb→lt A (k * C) h in
+    le-of-suc-le-suc (lt-of-mul-lt-mul-right C (le-trans (omega (arith, b .1, mul-assoc 2 n C, down-pos e)) (le-of-eq (sym (suc-mul k C)))))
+
+pub under-more : (k n : ℕ) (v : Float) → k ≤ n → T (under k v) → T (under n v)
+unfolding under
+under-more k n (fin false m e) l h = lt→ltb (m * up e) (n * down e) (lt-of-lt-of-le (ltb→lt (m * up e) (k * down e) h) (mul-le-mul-right (down e) l))
+
+-- ---- from the nearest whole number to the whole part of A / C, and to that of A / C + 1/2
+
+one-more : (n c : ℕ) → (n + 1) * c ≡ n * c + c
+one-more n c = add-mul n 1 c ∙ ap (λ (x : ℕ). n * c + x) (one-mul c)
+
+module _ (A C n : ℕ) (p : 0 < C) (b : (2 * A ≤ (2 * n + 1) * C) × (2 * n * C ≤ 2 * A + C)) where
+  pub floor-less : A < n * C → (1 ≤ n) × (n - 1 ≡ A / C)
+  floor-less l = go n l (b .1)
+    where
+      go : (n : ℕ) → A < n * C → 2 * n * C ≤ 2 * A + C → (1 ≤ n) × (n - 1 ≡ A / C)
+      go zero l h = absurd (not-suc-le-zero (subst (λ (x : ℕ). A < x) (zero-mul C) l))
+      go (suc k) l h =
+          let e : suc k - 1 ≡ k = omega arith in
+          (suc-le-suc zero-le, e ∙ sym (div-eq-of-lt-le C (omega (arith, suc-mul k C, mul-assoc 2 (suc k) C)) (omega (arith, suc-mul k C, one-more k C))))
+
+  pub floor-is : n * C ≤ A → n ≡ A / C
+  floor-is l = sym (div-eq-of-lt-le C l (omega (arith, doubled n C, one-more n C, b .0)))
+
+  pub half-above : (2 * n + 1) * C ≤ A * 2 → n + 1 ≡ (2 * A + C) / (2 * C)
+  half-above l =
+      sym
+      (div-eq-of-lt-le (2 * C) (omega (arith, doubled n C, one-more n C, mul-left-comm (n + 1) 2 C))
+      (omega (arith, doubled n C, one-more n C, one-more (n + 1) C, mul-left-comm (n + 1 + 1) 2 C, b .0)))
+
+  pub half-below : A * 2 < (2 * n + 1) * C → n ≡ (2 * A + C) / (2 * C)
+  half-below l =
+      sym
+      (div-eq-of-lt-le (2 * C) (omega (arith, mul-assoc 2 n C, mul-left-comm n 2 C, b .1))
+      (omega (arith, doubled n C, one-more n C, mul-left-comm (n + 1) 2 C)))
