@@ -1,0 +1,49 @@
+//! The comparison of the number steps with Rust's own. Two scripts build and start it from the
+//! repository's root: `oracle/compare` and `oracle/bench`.
+
+mod bench;
+mod constants;
+mod patterns;
+mod probe;
+mod steps;
+mod tally;
+
+use std::path::Path;
+use std::process::ExitCode;
+
+use steps::Mode;
+use tally::Total;
+
+fn main() -> ExitCode {
+    let words: Vec<String> = std::env::args().skip(1).collect();
+    let words: Vec<&str> = words.iter().map(String::as_str).collect();
+    match words[..] {
+        ["bench"] => bench::run(),
+        ["quick"] => compare(Mode::Quick, None),
+        ["full"] => compare(Mode::Full, None),
+        ["quick", original] => compare(Mode::Quick, Some(Path::new(original))),
+        ["full", original] => compare(Mode::Full, Some(Path::new(original))),
+        _ => {
+            eprintln!("expected: bench, or quick or full and then the original's folder, if any");
+            ExitCode::from(2)
+        }
+    }
+}
+
+fn compare(mode: Mode, original: Option<&Path>) -> ExitCode {
+    let mut total = Total::default();
+    // The constants first: if they cannot be read, that is known before minutes of number steps.
+    if let Some(original) = original {
+        if let Err(what) = constants::run(original, &mut total) {
+            eprintln!("the constants were not compared: {what}");
+            return ExitCode::FAILURE;
+        }
+    }
+    steps::run(mode, &mut total);
+    println!("{total}");
+    if total.different == 0 {
+        ExitCode::SUCCESS
+    } else {
+        ExitCode::FAILURE
+    }
+}

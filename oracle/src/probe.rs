@@ -1,0 +1,83 @@
+//! The steps under comparison, from the static library `probe`, as safe functions. The only file
+//! with `unsafe`: nothing checks these declarations against the library's source,
+//! crates/probe/src/lib.rt, so a change there must be made here too.
+
+/// The declarations, in a module of their own so that the safe functions may bear short names.
+mod exports {
+    #[link(name = "probe", kind = "static")]
+    extern "C" {
+        pub fn probe_cut(xs: *const f32, xs_len: usize, out: *mut u32, out_len: usize);
+        pub fn probe_nearest(xs: *const f32, xs_len: usize, out: *mut u32, out_len: usize);
+        pub fn probe_round(xs: *const f32, xs_len: usize, out: *mut f32, out_len: usize);
+        pub fn probe_root(xs: *const f32, xs_len: usize, out: *mut f32, out_len: usize);
+        pub fn probe_clamp(x: f32, lo: f32, hi: f32) -> f32;
+        pub fn probe_min(a: f32, b: f32) -> f32;
+        pub fn probe_max(a: f32, b: f32) -> f32;
+        pub fn probe_abs(x: f32) -> f32;
+        pub fn probe_limit(x: f32, lo: f32, hi: f32) -> f32;
+    }
+}
+
+/// An export over slices: it reads `xs`, and writes `out` up to the shorter of the two lengths.
+type Export<T> = unsafe extern "C" fn(*const f32, usize, *mut T, usize);
+
+/// Calls an export on two slices. `export` must be one of those declared above.
+fn over<T>(export: Export<T>, xs: &[f32], out: &mut [T]) {
+    assert_lendable(xs.as_ptr(), xs.len());
+    assert_lendable(out.as_ptr(), out.len());
+    // SAFETY: both pointers come with the length of their own slice, and a shared and a mutable
+    // slice never overlap. The export keeps neither pointer.
+    unsafe { export(xs.as_ptr(), xs.len(), out.as_mut_ptr(), out.len()) }
+}
+
+/// What the library takes for granted of a slice that it is lent, an empty one included: words of
+/// four bytes, a pointer that is aligned and not null, and a size that a pointer can span. A Rust
+/// slice has all this. It is asserted because the other side cannot be seen from here.
+fn assert_lendable<T>(start: *const T, len: usize) {
+    assert!(size_of::<T>() == 4);
+    assert!(!start.is_null() && start.is_aligned());
+    assert!(len <= isize::MAX as usize / size_of::<T>());
+}
+
+pub fn cut(xs: &[f32], out: &mut [u32]) {
+    over(exports::probe_cut, xs, out);
+}
+
+pub fn nearest(xs: &[f32], out: &mut [u32]) {
+    over(exports::probe_nearest, xs, out);
+}
+
+pub fn round(xs: &[f32], out: &mut [f32]) {
+    over(exports::probe_round, xs, out);
+}
+
+pub fn root(xs: &[f32], out: &mut [f32]) {
+    over(exports::probe_root, xs, out);
+}
+
+// The others take numbers only and are defined for all of them, so there is nothing to assert.
+
+pub fn clamp(x: f32, lo: f32, hi: f32) -> f32 {
+    // SAFETY: numbers in, a number out.
+    unsafe { exports::probe_clamp(x, lo, hi) }
+}
+
+pub fn min(a: f32, b: f32) -> f32 {
+    // SAFETY: as above.
+    unsafe { exports::probe_min(a, b) }
+}
+
+pub fn max(a: f32, b: f32) -> f32 {
+    // SAFETY: as above.
+    unsafe { exports::probe_max(a, b) }
+}
+
+pub fn abs(x: f32) -> f32 {
+    // SAFETY: as above.
+    unsafe { exports::probe_abs(x) }
+}
+
+pub fn limit(x: f32, lo: f32, hi: f32) -> f32 {
+    // SAFETY: as above.
+    unsafe { exports::probe_limit(x, lo, hi) }
+}

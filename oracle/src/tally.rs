@@ -1,0 +1,189 @@
+//! The count that each comparison keeps: how many values, how many that differ, and how many fell
+//! under each listed difference.
+
+use std::fmt;
+
+/// How many differing inputs of a step are printed.
+const SHOWN: usize = 5;
+
+/// A result of a step.
+pub trait Outcome: Copy + fmt::Debug {
+    /// What an output slice is filled with before a call. No step has it as a result, so a slot
+    /// that a call leaves out is seen.
+    const MARK: Self;
+
+    fn same(self, other: Self) -> bool;
+}
+
+impl Outcome for u32 {
+    const MARK: u32 = u32::MAX;
+
+    fn same(self, other: u32) -> bool {
+        self == other
+    }
+}
+
+impl Outcome for f32 {
+    /// Neither a whole number nor a root.
+    const MARK: f32 = -0.75;
+
+    /// Equal bits, so that 0.0 and -0.0 count as different. Of a NaN nothing is promised but that
+    /// it is one.
+    fn same(self, other: f32) -> bool {
+        self.to_bits() == other.to_bits() || (self.is_nan() && other.is_nan())
+    }
+}
+
+/// What a step's result is held to.
+pub enum Asked<T> {
+    /// Rust's own result.
+    Rust(T),
+    /// A listed difference: its place in the step's list, and the result that is promised there.
+    Listed(usize, T),
+}
+
+/// The count for one step of `K` operands.
+pub struct Tally<const K: usize> {
+    name: &'static str,
+    compared: u64,
+    different: u64,
+    /// The first few differences.
+    shown: Vec<String>,
+    listed: Vec<Listed<K>>,
+}
+
+struct Listed<const K: usize> {
+    what: &'static str,
+    values: u64,
+    /// The operands with the smallest patterns.
+    smallest: Option<[u32; K]>,
+}
+
+impl<const K: usize> Tally<K> {
+    pub fn new(name: &'static str, listed: &[&'static str]) -> Self {
+        let listed = listed.iter().map(|&what| Listed {
+            what,
+            values: 0,
+            smallest: None,
+        });
+        Tally {
+            name,
+            compared: 0,
+            different: 0,
+            shown: Vec::new(),
+            listed: listed.collect(),
+        }
+    }
+
+    /// Holds the result `here` for these operands to what is asked of it.
+    pub fn check<T: Outcome>(&mut self, operands: [f32; K], here: T, asked: Asked<T>) {
+        self.compared += 1;
+        match asked {
+            Asked::Rust(rust) => {
+                if !here.same(rust) {
+                    self.differ(|| format!("{}: here {here:?}, Rust {rust:?}", shown(operands)));
+                }
+            }
+            Asked::Listed(place, promised) => {
+                let listed = &mut self.listed[place];
+                listed.values += 1;
+                let patterns = operands.map(f32::to_bits);
+                if listed.smallest.is_none_or(|smallest| patterns < smallest) {
+                    listed.smallest = Some(patterns);
+                }
+                if !here.same(promised) {
+                    self.differ(|| {
+                        format!("{}: here {here:?}, promised {promised:?}", shown(operands))
+                    });
+                }
+            }
+        }
+    }
+
+    /// Counts one value, which is either right or as `text` says.
+    pub fn count(&mut self, right: bool, text: impl FnOnce() -> String) {
+        self.compared += 1;
+        if !right {
+            self.differ(text);
+        }
+    }
+
+    /// Counts a difference. Apart from `check`, since it is the rare case of a loop over billions.
+    #[cold]
+    pub fn differ(&mut self, text: impl FnOnce() -> String) {
+        self.different += 1;
+        if self.shown.len() < SHOWN {
+            self.shown.push(text());
+        }
+    }
+
+    /// Adds the count of another thread for the same step.
+    pub fn join(&mut self, other: Tally<K>) {
+        self.compared += other.compared;
+        self.different += other.different;
+        self.shown.extend(other.shown);
+        // A text begins with its pattern, so this leaves the smallest. A pattern that was compared
+        // twice is shown once.
+        self.shown.sort();
+        self.shown.dedup();
+        self.shown.truncate(SHOWN);
+        for (listed, more) in self.listed.iter_mut().zip(other.listed) {
+            listed.values += more.values;
+            listed.smallest = listed.smallest.into_iter().chain(more.smallest).min();
+        }
+    }
+}
+
+/// Operands as patterns and as values.
+fn shown<const K: usize>(operands: [f32; K]) -> String {
+    let patterns = operands.map(|x| format!("{:#010x}", x.to_bits()));
+    let values = operands.map(|x| format!("{x:?}"));
+    format!("{} ({})", patterns.join(" "), values.join(", "))
+}
+
+impl<const K: usize> fmt::Display for Tally<K> {
+    fn fmt(&self, f: &mut fmt::Formatter) -> fmt::Result {
+        writeln!(
+            f,
+            "{}: {} values compared, {} different",
+            self.name, self.compared, self.different
+        )?;
+        for text in &self.shown {
+            writeln!(f, "    different at {text}")?;
+        }
+        for listed in &self.listed {
+            write!(f, "    listed, {}: {} of them", listed.what, listed.values)?;
+            if let Some(smallest) = listed.smallest {
+                write!(f, ", smallest {}", shown(smallest.map(f32::from_bits)))?;
+            }
+            writeln!(f)?;
+        }
+        Ok(())
+    }
+}
+
+/// The count over all steps.
+#[derive(Default)]
+pub struct Total {
+    compared: u64,
+    pub different: u64,
+}
+
+impl Total {
+    /// Prints a step's count and adds it.
+    pub fn add<const K: usize>(&mut self, tally: &Tally<K>) {
+        print!("{tally}");
+        self.compared += tally.compared;
+        self.different += tally.different;
+    }
+}
+
+impl fmt::Display for Total {
+    fn fmt(&self, f: &mut fmt::Formatter) -> fmt::Result {
+        write!(
+            f,
+            "{} values compared, {} different",
+            self.compared, self.different
+        )
+    }
+}
