@@ -4,10 +4,10 @@ use mathlib.Core.Path.{_≡_, refl, sym, ap, _∙_, subst}
 use Prim.Native.Nat.{ℕ, zero, suc, _+_, _-_, _*_, _/_, _%_, _^_, _≤_, _<_, zero-le, suc-le-suc, compare, Ordering, Ordering·lt, Ordering·eq, Ordering·gt}
 use native.Mathlib.Nat.{le-trans, le-of-eq, lt-of-lt-of-le, not-suc-le-zero, zero-mul, mul-left-comm, mul-one, mul-assoc, mul-right-comm, mul-pos, add-mul, suc-mul, add-zero, one-mul, le-of-suc-le-suc, lt-of-mul-lt-mul-right, mul-le-mul-right, mul-lt-mul-of-pos-right, mod-lt, div-add-mod', le-div-iff-mul-le, div-lt-iff-lt-mul, div-eq-of-lt-le}
 use native.Mathlib.Omega.{arith}
-use mathlib.Core.Bool.{Bool, true, false, not}
+use mathlib.Core.Bool.{Bool, false, not}
 use lib.Dec.{T, isLe, isEq, leb→le, nleb→lt, eqb→eq, ltb→lt, lt→ltb, lit<, lit≤}
 use lib.Pow.{pow-add, pow-pos}
-use lib.Ieee.{Float, nan, inf, fin, binary32, up, down, size, nearest, units, round, add, isNan, ofBits, toBits}
+use lib.Ieee.{Float, fin, binary32, up, down, size, nearest, units, round, add, isNan, ofBits, toBits}
 use lib.Ieee.Fits.{down-pos, core, round-is}
 use lib.Ieee.Nearest.{closest, closest-mono, closest-same}
 use lib.Ieee.Bits.{toBits-ofBits, nanBits-is}

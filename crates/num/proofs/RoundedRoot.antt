@@ -3,13 +3,12 @@
 use mathlib.Core.Path.{_≡_, refl, sym, ap, _∙_, subst}
 use mathlib.Core.Logic.{_⊎_, inl, inr}
 use Prim.Native.Nat.{ℕ, zero, suc, _+_, _-_, _*_, _/_, _%_, _^_, _≤_, _<_}
-use native.Mathlib.Nat.{le-trans, le-of-eq, le-antisymm, lt-of-lt-of-le, lt-of-le-of-lt, lt-of-not-le, not-le-of-lt, mul-assoc, mul-comm, mul-le-mul-left, mul-le-mul-right, mul-lt-mul-of-pos-right, mul-lt-mul-of-pos-left, mul-mul-mul-comm, mul-pos, mul-add, add-mul, mul-one, one-mul, add-assoc, add-comm, add-left-comm, div-eq-of-lt-le}
+use native.Mathlib.Nat.{le-trans, le-of-eq, lt-of-lt-of-le, mul-assoc, mul-comm, mul-le-mul-left, mul-le-mul-right, mul-lt-mul-of-pos-right, mul-lt-mul-of-pos-left, mul-mul-mul-comm, mul-pos, mul-add, add-mul, mul-one, one-mul, add-assoc, add-comm, add-left-comm, div-eq-of-lt-le}
 use native.Mathlib.Omega.{arith}
 use mathlib.Core.Bool.{Bool, true, false, cond}
 use lib.Dec.{ltb, lit<}
-use lib.Pow.{pow-add, pow-pos, pow-mono, shr-shr}
+use lib.Pow.{pow-add, pow-pos, shr-shr}
 use lib.Ieee.{Float, binary32, size, units}
-use lib.Ieee.Digits.{size-lt, size-le}
 use borrow.Author.Tests.{lt-ltb, le-ltb}
 use Rattle.num.specs.Root.{wholeRoot, nearestRoot}
 use Rattle.num.proofs.WholeRoot.{whole-is, le-whole, whole-lt}

@@ -1,6 +1,5 @@
 -- The decimal constants of the original, by name: each is the binary32 nearest its decimal (`right`, at the end). A constant is written by its bit
 -- pattern, as a literal of the code shows in a goal. Assumes nothing.
-use Prim.Native.Nat.{ℕ}
 use mathlib.Core.List.{List, [], _∷_, map}
 use mathlib.Core.Path.{_≡_, refl}
 use lib.Ieee.{Float, binary32, ofBits}

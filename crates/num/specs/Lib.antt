@@ -1,5 +1,5 @@
--- Definitions: F32, Const, Steps, Root, NearestRoot, and Private for the contracts of private functions. Laws that callers cite: Order, Within,
--- Signs, Values. Worked cases: Cases.
+-- Definitions: F32, Const, Steps, Root, NearestRoot, and Private for the contracts of private functions. Laws that callers cite: Order, Within, Bounds,
+-- Index, Signs, Values. Worked cases: Cases.
 pub mod F32
 pub mod Const
 pub mod Steps
@@ -8,6 +8,8 @@ pub mod NearestRoot
 pub mod Private
 pub mod Order
 pub mod Within
+pub mod Bounds
+pub mod Index
 pub mod Signs
 pub mod Values
 pub mod Cases

@@ -5,7 +5,7 @@ use Prim.Native.Nat.{ℕ, _+_, _*_, _/_, _≤_, _<_, zero-le}
 use native.Mathlib.Nat.{zero-mul, mul-one, mul-comm, mul-pos, mul-assoc, mul-left-comm, add-mul, le-trans, le-of-lt, le-of-eq, le-refl, eq-of-mul-eq-mul-right, zero-div}
 use native.Mathlib.Omega.{arith}
 use mathlib.Core.Bool.{Bool, true, false, not, _&&_, _||_, cond, true≢false}
-use borrow.Author.Tests.{ltb-true, ltb-false, eqb-true, eqb-false, le-leb, lt-leb, le-ltb}
+use borrow.Author.Tests.{ltb-true, ltb-false, eqb-true, eqb-false, le-leb, le-ltb}
 use lib.IntN.{ℤ, pos}
 use lib.Dec.{T, leb, ltb, eqb, eqb→eq, lit<}
 use lib.Ieee.{Float, nan, inf, fin, binary32, up, down, below, level, lt, le, eq, isNan, ofBits}

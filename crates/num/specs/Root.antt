@@ -17,7 +17,7 @@ wholeRoot n = rootDigits (size n) n 0
 
 -- The binary32 nearest to a root whose square is n, the root counted in units of the format's smallest value, 2 ^ -149.
 -- Of its whole part w the format keeps 24 digits, q, and drops k. So the value is q * 2 ^ k units or (q + 1) * 2 ^ k, the
--- second where h, which is the two together, is below twice the root. (h is never twice the root: the order in `root-nearest` is strict.)
+-- second where h, which is the two together, is below twice the root. (h is never twice the root: the order in `RootIsNearest` is strict.)
 unfoldable pub nearestRoot : ℕ → Float
 unfolding wholeRoot size units
 nearestRoot n =

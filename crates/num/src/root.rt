@@ -1,4 +1,7 @@
-// The square root of a binary32 value, correctly rounded, with no product, quotient or remainder of two variables.
+// The square root, correctly rounded: the binary32 nearest the true root. The value is taken apart into whole digits and a
+// power of two, the digits are scaled by their leading zeros, their whole root is found digit by digit, and the two are put
+// together again. There is no table, and no product, quotient or remainder of two variables. Definition: specs/Root.antt;
+// that it is the nearest value: specs/NearestRoot.antt.
 ghost use mathlib.Core.Path.{_≡_};
 ghost use mathlib.Core.Bool.{false};
 ghost use Prim.Native.Nat.{_+_, _-_, _*_, _^_, _<_, _≤_};

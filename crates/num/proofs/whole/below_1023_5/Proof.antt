@@ -1,9 +1,9 @@
 -- `num::whole::below_1023_5` meets its contract, by cases on x. Assumes nothing.
-use mathlib.Core.Path.{_≡_, refl, sym, ap, _∙_, subst}
+use mathlib.Core.Path.{_≡_, refl, sym, _∙_, subst}
 use Prim.Native.Nat.{ℕ, _+_, _*_, _/_, _≤_, _<_}
 use native.Mathlib.Nat.{zero-mul, mul-one, mul-pos, le-div-iff-mul-le, div-eq-of-lt}
 use native.Mathlib.Omega.{arith}
-use mathlib.Core.Bool.{Bool, true, false, true≢false}
+use mathlib.Core.Bool.{true, false, true≢false}
 use borrow.Author.Tests.{ltb-true, ltb-false}
 use lib.Dec.{T, lt→ltb, lit<}
 use lib.Ieee.{Float, nan, inf, fin, binary32, up, down, round, lt, ofBits}
@@ -12,7 +12,8 @@ use lib.Ieee.Order.{round-mono}
 use Rattle.num.specs.Const.{c0·0}
 use Rattle.num.specs.Steps.{cutOf, roundOf}
 use Rattle.num.specs.Private.{under, halfUpOf}
-use Rattle.num.specs.Within.{cut-round, cut-negative, cut-large, round-signed}
+use Rattle.num.specs.Within.{round-signed}
+use Rattle.num.specs.Bounds.{cut-round, cut-negative, cut-large}
 use Rattle.num.proofs.whole.below_1023_5.Statement.{statement}
 use Rattle.num.proofs.whole.below_1023_5.Tie as tie
 

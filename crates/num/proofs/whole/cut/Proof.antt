@@ -12,7 +12,7 @@ use Rattle.num.specs.F32.{whole}
 use Rattle.num.specs.Steps.{cutOf}
 use Rattle.num.specs.Private.{under, floorOf, Near}
 use Rattle.num.specs.Values.{whole-value, lt-value, not-lt-value}
-use Rattle.num.specs.Within.{cut-le}
+use Rattle.num.specs.Bounds.{cut-le}
 use Rattle.num.proofs.NearWhole.{near-le, under-more, floor-less, floor-is}
 use Rattle.num.proofs.whole.cut.Statement.{statement}
 use Rattle.num.proofs.whole.cut.Tie as tie

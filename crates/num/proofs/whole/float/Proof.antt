@@ -4,12 +4,12 @@ use Prim.Native.Nat.{ℕ, _≤_}
 use native.Mathlib.Omega.{arith}
 use lib.Dec.{T}
 use lib.IntN.{ℤ, pos}
-use lib.Ieee.{Float, binary32, ofInt, inFloat}
+use lib.Ieee.{binary32, ofInt, inFloat}
 use mir.Syntax.{w32}
 use mir.Val.{toZ}
 use mir.Facts.{toZ-pos}
 use borrow.Author.Needs.{needs}
-use Rattle.num.specs.Within.{in-float}
+use Rattle.num.specs.Bounds.{in-float}
 use Rattle.num.proofs.whole.float.Statement.{statement}
 use Rattle.num.proofs.whole.float.Tie as tie
 

@@ -1,14 +1,14 @@
 -- `num::whole::half_up` meets its contract. The nearest whole number n is the one wanted, but at a tie that went down: there v is n + 1/2, a sum
 -- that is exact below 2 ^ 23, and at n = 2 ^ 23, which v does not reach, is 2 ^ 23. Assumes nothing.
-use mathlib.Core.Path.{_≡_, refl, sym, ap, _∙_, subst}
-use mathlib.Core.Logic.{_⊎_, inl, inr}
+use mathlib.Core.Path.{_≡_, refl, ap, subst}
+use mathlib.Core.Logic.{inl, inr}
 use Prim.Native.Nat.{ℕ, _+_, _*_, _≤_, _<_}
-use native.Mathlib.Nat.{eq-or-lt-of-le, mul-comm}
+use native.Mathlib.Nat.{eq-or-lt-of-le}
 use native.Mathlib.Omega.{arith}
 use mathlib.Core.Bool.{true, false}
 use borrow.Author.Needs.{needs}
 use lib.Dec.{T, ltb→lt, lit<}
-use lib.Ieee.{Float, fin, binary32, up, down, add, ofInt, round, le, ofBits}
+use lib.Ieee.{Float, fin, up, down, add, ofInt, le, ofBits}
 use lib.Ieee.Fits.{down-pos}
 use lib.Ieee.Exact.{HasValue}
 use Rattle.num.specs.Const.{c0·5}

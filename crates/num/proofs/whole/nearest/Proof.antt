@@ -1,9 +1,9 @@
 -- `num::whole::nearest` meets its contract: the two calls' own. Assumes nothing.
-use mathlib.Core.Path.{_≡_, sym, _∙_, subst}
+use mathlib.Core.Path.{sym, _∙_, subst}
 use Prim.Native.Nat.{ℕ, _≤_}
 use lib.Dec.{lit≤}
 use Rattle.num.specs.Steps.{roundOf}
-use Rattle.num.specs.Within.{cut-le}
+use Rattle.num.specs.Bounds.{cut-le}
 use Rattle.num.proofs.NearWhole.{under-more}
 use Rattle.num.proofs.whole.nearest.Statement.{statement}
 use Rattle.num.proofs.whole.nearest.Tie as tie

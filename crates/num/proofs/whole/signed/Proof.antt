@@ -1,11 +1,11 @@
 -- `num::whole::signed` meets its contract: the sign is the highest bit of the pattern. Assumes nothing.
 use mathlib.Core.Path.{_≡_, refl, sym, ap, _∙_, subst}
-use Prim.Native.Nat.{ℕ, zero, suc, _+_, _*_, _/_, _%_, _≤_, _<_}
+use Prim.Native.Nat.{ℕ, zero, suc, _+_, _/_, _%_}
 use mathlib.Core.Bool.{Bool, true, false, not, cond}
 use borrow.Author.Tests.{le-leb, lt-leb}
 use borrow.Author.Needs.{needs}
 use lib.Dec.{T, leb, eqb}
-use lib.Ieee.{Float, nan, inf, fin, binary32, odd, fits, isNan, ofFields, ofBits, toBits}
+use lib.Ieee.{Float, nan, inf, binary32, odd, fits, isNan, ofFields, ofBits, toBits}
 use lib.Ieee.Bits.{ofBits-toBits}
 use Rattle.num.specs.Private.{negative}
 use Rattle.num.proofs.whole.signed.Statement.{statement}

@@ -1,5 +1,4 @@
 -- `num::whole::small` meets its contract: each arm returns what `cond` picks. Assumes nothing.
-use mathlib.Core.Path.{ap, sym}
 use Rattle.num.proofs.whole.small.Statement.{statement}
 use Rattle.num.proofs.whole.small.Tie as tie
 
