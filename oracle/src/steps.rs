@@ -1,5 +1,6 @@
 //! The comparison of the number steps, each with the Rust that the passes were written with.
 
+use std::hint::black_box;
 use std::sync::atomic::{AtomicU64, Ordering};
 use std::thread;
 use std::time::Instant;
@@ -47,6 +48,7 @@ pub fn run(mode: Mode, total: &mut Total) {
     total.add(&min(&few));
     total.add(&max(&few));
     total.add(&limit(&boundaries));
+    total.add(&power());
 }
 
 // ---- what is asked of each step
@@ -294,6 +296,18 @@ fn limit(boundaries: &[f32]) -> Tally<3> {
             let asked = Asked::Rust(plain.clamp(lo, hi));
             tally.check([x, lo, hi], probe::limit(x, lo, hi), asked);
         }
+    }
+    tally
+}
+
+/// Power with exponent 1.0, which is the operand itself here and needs no step. Rust does not promise
+/// how precise `powf` is, so its own result is what is compared, for all that the original raises:
+/// a channel divided by 255.
+fn power() -> Tally<1> {
+    let mut tally = Tally::new("power 1.0", &[]);
+    for k in 0..=255 {
+        let x = k as f32 / 255.0;
+        tally.check([x], x, Asked::Rust(x.powf(black_box(1.0))));
     }
     tally
 }
