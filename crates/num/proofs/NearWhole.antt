@@ -11,7 +11,8 @@ use lib.Ieee.{Float, fin, binary32, up, down, size, nearest, units, round, add, 
 use lib.Ieee.Fits.{down-pos, core, round-is}
 use lib.Ieee.Nearest.{closest, closest-mono, closest-same}
 use lib.Ieee.Bits.{toBits-ofBits, nanBits-is}
-use Rattle.num.specs.Private.{under, Near, c2^23}
+use Rattle.num.specs.Const.{c8388608·0}
+use Rattle.num.specs.Private.{under, Near}
 use Rattle.num.proofs.Patterns.{size-is, units-pattern, no-nan}
 
 -- ---- the nearest whole number to a / c is at most a half away
@@ -74,7 +75,7 @@ module _ (a c : ℕ) (p : 0 < c) (lo : 8388608 * c ≤ a) (hi : a < 16777216 * c
 -- ---- the sum
 
 abbrev pub sumOf : Float → Float
-sumOf v = add binary32 v c2^23
+sumOf v = add binary32 v c8388608·0
 
 -- n, plus 2 ^ 23, has the sum's pattern
 abbrev Sum : Float → Type 0

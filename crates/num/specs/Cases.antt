@@ -5,7 +5,7 @@ use mathlib.Core.List.{List, [], _∷_, map}
 use mathlib.Core.Path.{_≡_, refl}
 use Prim.Native.Nat.{ℕ}
 use lib.Ieee.{Float, nan, inf, binary32, ofBits, neg}
-use Rattle.num.specs.Const.{c0·0, c0·5, c0·95, c1·0, c2·0, c3·0, c4·0}
+use Rattle.num.specs.Const.{c0·0, c0·5, c0·95, c1·0, c2·0, c3·0, c4·0, c1023·0, c1023·5, c8388608·0}
 use Rattle.num.specs.F32.{dec}
 use Rattle.num.specs.Steps.{clampOf, minOf, maxOf, plusZeroOf, limitOf, absOf, cutOf, roundOf}
 use Rattle.num.specs.Root.{rootOf}
@@ -38,9 +38,9 @@ cuts =
     (cutOf (neg c1·0), 0)
     ∷ (cutOf (neg c0·0), 0)
     ∷ (cutOf (dec 99 2), 0)
-    ∷ (cutOf (dec 10230 1), 1023)
+    ∷ (cutOf c1023·0, 1023)
     ∷ (cutOf (ofBits binary32 0x447f_c001), 0)
-    ∷ (cutOf (dec 10235 1), 0)
+    ∷ (cutOf c1023·5, 0)
     ∷ (cutOf nan, 0)
     ∷ (cutOf (inf false), 0)
     ∷ []
@@ -53,7 +53,7 @@ cuts-hold = refl
 abbrev pub rounds : List (Float × Float)
 rounds =
     (roundOf (neg (dec 2 1)), neg c0·0)
-    ∷ (roundOf (dec 83886075 1), dec 83886080 1)
+    ∷ (roundOf (dec 83886075 1), c8388608·0)
     ∷ (roundOf (inf true), inf true)
     ∷ (roundOf nan, nan)
     ∷ []

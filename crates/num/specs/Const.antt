@@ -1,4 +1,4 @@
--- The decimal constants of the original, by name: each is the binary32 nearest its decimal (`right`, at the end). A constant is written by its bit
+-- The decimal constants of the original and of the steps here, by name: each is the binary32 nearest its decimal (`right`, at the end). A constant is written by its bit
 -- pattern, as a literal of the code shows in a goal. Assumes nothing.
 use mathlib.Core.List.{List, [], _∷_, map}
 use mathlib.Core.Path.{_≡_, refl}
@@ -155,6 +155,16 @@ c18·0 = ofBits binary32 0x41900000
 abbrev pub c255·0 : Float
 c255·0 = ofBits binary32 0x437f0000
 
+abbrev pub c1023·0 : Float
+c1023·0 = ofBits binary32 0x447fc000
+
+abbrev pub c1023·5 : Float
+c1023·5 = ofBits binary32 0x447fe000
+
+-- 2 ^ 23, from which on every value is whole
+abbrev pub c8388608·0 : Float
+c8388608·0 = ofBits binary32 0x4b000000
+
 -- each constant beside the binary32 nearest its decimal
 abbrev table : List (Float × Float)
 table =
@@ -208,6 +218,9 @@ table =
     ∷ (c14·0, dec 140 1)
     ∷ (c18·0, dec 180 1)
     ∷ (c255·0, dec 2550 1)
+    ∷ (c1023·0, dec 10230 1)
+    ∷ (c1023·5, dec 10235 1)
+    ∷ (c8388608·0, dec 83886080 1)
     ∷ []
 
 pub right : map (λ (p : Float × Float). p .0) table ≡ map (λ (p : Float × Float). p .1) table

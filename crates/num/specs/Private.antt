@@ -2,7 +2,7 @@
 use Prim.Native.Nat.{ℕ, _+_, _*_, _/_, _≤_}
 use mathlib.Core.Bool.{Bool, false, not, _&&_, cond}
 use lib.Dec.{ltb}
-use lib.Ieee.{Float, nan, inf, fin, binary32, up, down, lt, ofBits}
+use lib.Ieee.{Float, nan, inf, fin, up, down, lt}
 use Rattle.num.specs.Const.{c0·0, c1·0}
 
 -- x is from +0 to below n
@@ -37,7 +37,3 @@ negative (fin s m e) = s
 -- x where it is above 0, and 1 elsewhere
 abbrev pub operand : Float → Float
 operand x = cond (lt c0·0 x) x c1·0
-
--- 2 ^ 23, from which on every value is whole
-abbrev pub c2^23 : Float
-c2^23 = ofBits binary32 0x4b000000

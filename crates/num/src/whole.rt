@@ -5,11 +5,11 @@ ghost use mathlib.Core.Path.{_≡_};
 ghost use mathlib.Core.Bool.{not, cond};
 ghost use Prim.Native.Nat.{_≤_};
 ghost use lib.Dec.{T};
-ghost use lib.Ieee.{binary32, ofBits, isNan, lt, neg};
-ghost use Rattle.num.specs.Const.{c0·0};
+ghost use lib.Ieee.{isNan, lt, neg};
+ghost use Rattle.num.specs.Const.{c0·0, c8388608·0};
 ghost use Rattle.num.specs.F32.{whole};
 ghost use Rattle.num.specs.Steps.{absOf, cutOf, roundOf};
-ghost use Rattle.num.specs.Private.{under, floorOf, halfUpOf, Near, negative, c2^23};
+ghost use Rattle.num.specs.Private.{under, floorOf, halfUpOf, Near, negative};
 use super::steps::abs;
 
 // The whole number nearest to v, a half to the even one, for v from 0 to below 2^23: from 2^23 on a float has no digit below
@@ -81,7 +81,7 @@ pub fn nearest(x: f32) -> u32
 
 // x where its size is below 2^23, and 0 elsewhere, at a NaN too.
 fn small(x: f32) -> f32
-    ensures { λ r. ⌜ r ≡ cond (lt (absOf x) c2^23) x c0·0 ⌝ }
+    ensures { λ r. ⌜ r ≡ cond (lt (absOf x) c8388608·0) x c0·0 ⌝ }
 {
     if abs(x) < 8388608.0 { x } else { 0.0 }
 }

@@ -9,16 +9,13 @@ use lib.Dec.{T, lt→ltb, lit<}
 use lib.Ieee.{Float, nan, inf, fin, binary32, up, down, round, lt, ofBits}
 use lib.Ieee.Fits.{down-pos}
 use lib.Ieee.Order.{round-mono}
-use Rattle.num.specs.Const.{c0·0}
+use Rattle.num.specs.Const.{c0·0, c1023·5}
 use Rattle.num.specs.Steps.{cutOf, roundOf}
 use Rattle.num.specs.Private.{under, halfUpOf}
 use Rattle.num.specs.Within.{round-signed}
 use Rattle.num.specs.Bounds.{cut-round, cut-negative, cut-large}
 use Rattle.num.proofs.whole.below_1023_5.Statement.{statement}
 use Rattle.num.proofs.whole.below_1023_5.Tie as tie
-
-abbrev c1023·5 : Float
-c1023·5 = ofBits binary32 0x447fe000
 
 -- ---- from above 0 to below 1023.5
 

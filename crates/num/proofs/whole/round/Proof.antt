@@ -13,10 +13,10 @@ use lib.Ieee.{Float, nan, inf, fin, binary32, up, down, lt, neg, fits, isNan, of
 use lib.Ieee.Fits.{down-pos, round-fits, and-l, and-r}
 use lib.Ieee.Exact.{round-exact}
 use lib.Ieee.Back.{whole-unique}
-use Rattle.num.specs.Const.{c0·0}
+use Rattle.num.specs.Const.{c0·0, c8388608·0}
 use Rattle.num.specs.F32.{whole}
 use Rattle.num.specs.Steps.{absOf, roundOf}
-use Rattle.num.specs.Private.{under, halfUpOf, negative, c2^23}
+use Rattle.num.specs.Private.{under, halfUpOf, negative}
 use Rattle.num.specs.Signs.{round-neg}
 use Rattle.num.proofs.whole.round.Statement.{statement}
 use Rattle.num.proofs.whole.round.Tie as tie
@@ -25,9 +25,9 @@ use Rattle.num.proofs.whole.round.Tie as tie
 
 -- x, or 0 in its place
 abbrev smallOf : Float → Float
-smallOf x = cond (lt (absOf x) c2^23) x c0·0
+smallOf x = cond (lt (absOf x) c8388608·0) x c0·0
 
-below : (x : Float) → lt (absOf x) c2^23 ≡ true → T (under 8388608 (absOf x)) × T (not (isNan x))
+below : (x : Float) → lt (absOf x) c8388608·0 ≡ true → T (under 8388608 (absOf x)) × T (not (isNan x))
 unfolding lt absOf under isNan ofBits
 below nan h = absurd (true≢false (sym h))
 below (inf s) h = absurd (true≢false (sym h))
@@ -38,9 +38,9 @@ unfolding absOf under isNan ofBits
 zero-below = (tt, tt)
 
 small-below : (x : Float) → T (under 8388608 (absOf (smallOf x))) × T (not (isNan (smallOf x)))
-small-below x = go (lt (absOf x) c2^23) refl
+small-below x = go (lt (absOf x) c8388608·0) refl
   where
-    go : (b : Bool) → lt (absOf x) c2^23 ≡ b → T (under 8388608 (absOf (cond b x c0·0))) × T (not (isNan (cond b x c0·0)))
+    go : (b : Bool) → lt (absOf x) c8388608·0 ≡ b → T (under 8388608 (absOf (cond b x c0·0))) × T (not (isNan (cond b x c0·0)))
     go true h = below x h
     go false h = zero-below
 
@@ -51,7 +51,7 @@ half-up-le (fin false m e) h =
     let p = down-pos e in
     le-of-suc-le-suc (div-lt-iff-lt-mul (mul-pos (lit< tt) (down-pos e)) .1 (omega arith))
 
-with-sign : (x : Float) → lt (absOf x) c2^23 ≡ true → cond (negative x) (neg (whole (halfUpOf (absOf x)))) (whole (halfUpOf (absOf x))) ≡ roundOf x
+with-sign : (x : Float) → lt (absOf x) c8388608·0 ≡ true → cond (negative x) (neg (whole (halfUpOf (absOf x)))) (whole (halfUpOf (absOf x))) ≡ roundOf x
 unfolding lt absOf halfUpOf negative roundOf ofInt ofBits
 with-sign nan h = absurd (true≢false (sym h))
 with-sign (inf s) h = absurd (true≢false (sym h))
@@ -79,7 +79,7 @@ too-fine m p h l q = omega arith
 no-zero : (u c : ℕ) → 8388608 * c ≤ 0 * u * 1 → 0 < c → ⊥
 no-zero u c h p = omega (arith, zero-mul u)
 
-large : (x : Float) → T (fits binary32 x) → lt (absOf x) c2^23 ≡ false → x ≡ roundOf x
+large : (x : Float) → T (fits binary32 x) → lt (absOf x) c8388608·0 ≡ false → x ≡ roundOf x
 unfolding lt absOf roundOf ofBits fits
 large nan f h = refl
 large (inf s) f h = refl
@@ -128,7 +128,7 @@ returns c =
     let a = n .before in
     let y = a .before in
     let x = y .before .args .x in
-    let taken : lt (absOf x) c2^23 ≡ true = subst (λ (v : Float). lt v c2^23 ≡ true) (c .before .abs2 .ensures) (c .if1 .taken) in
+    let taken : lt (absOf x) c8388608·0 ≡ true = subst (λ (v : Float). lt v c8388608·0 ≡ true) (c .before .abs2 .ensures) (c .if1 .taken) in
     let own : y .small .result ≡ x = y .small .ensures ∙ ap (λ (b : Bool). cond b x c0·0) taken in
     let float : w .float .result ≡ whole (halfUpOf (absOf x)) = w .float .ensures ∙ ap whole (n .half-up .ensures ∙ ap halfUpOf (a .abs .ensures ∙ ap absOf own)) in
     s .signed .ensures ∙ ap (λ (v : Float). cond (negative v) (neg (w .float .result)) (w .float .result)) own
@@ -137,7 +137,7 @@ returns c =
 returns-2 : tie.Need-returns-2
 returns-2 c =
     let start = c .before .before .before .before .before .before .before in
-    large (start .args .x) (subst T (sym (start .good .0 .1)) tt) (subst (λ (v : Float). lt v c2^23 ≡ false) (c .before .abs2 .ensures) (c .if1 .left))
+    large (start .args .x) (subst T (sym (start .good .0 .1)) tt) (subst (λ (v : Float). lt v c8388608·0 ≡ false) (c .before .abs2 .ensures) (c .if1 .left))
 
 pub round-spec : {M : Type 1} → statement M
 round-spec =

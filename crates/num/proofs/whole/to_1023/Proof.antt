@@ -6,17 +6,14 @@ use native.Mathlib.Omega.{arith}
 use mathlib.Core.Bool.{Bool, true, false, _&&_, _||_, cond, true≢false}
 use borrow.Author.Tests.{ltb-false, le-leb, lt-leb}
 use lib.Dec.{T, leb, ltb, eqb, lt→ltb}
-use lib.Ieee.{Float, nan, inf, fin, binary32, up, down, lt, le, ofBits}
+use lib.Ieee.{Float, nan, inf, fin, up, down, lt, le, ofBits}
 use lib.Ieee.Fits.{down-pos}
-use Rattle.num.specs.Const.{c0·0}
+use Rattle.num.specs.Const.{c0·0, c1023·0}
 use Rattle.num.specs.Steps.{cutOf}
 use Rattle.num.specs.Private.{under, floorOf}
 use Rattle.num.specs.Order.{tests-le, tests-lt}
 use Rattle.num.proofs.whole.to_1023.Statement.{statement}
 use Rattle.num.proofs.whole.to_1023.Tie as tie
-
-abbrev c1023·0 : Float
-c1023·0 = ofBits binary32 0x447fc000
 
 -- ---- from above 0 to 1023
 
