@@ -69,7 +69,7 @@ module _ (a c : ℕ) (p : 0 < c) (lo : 8388608 * c ≤ a) (hi : a < 16777216 * c
   at-most : closest a c ≤ 16777216
   at-most = closest-mono a c 16777216 1 p (lit< tt) (omega arith)
 
-  pub rounded-bits : round binary32 false a c ≡ ofBits binary32 (closest a c + 1249902592)
+  rounded-bits : round binary32 false a c ≡ ofBits binary32 (closest a c + 1249902592)
   rounded-bits = rounded ∙ sym (units-pattern (closest a c) 149 at-least at-most (lit≤ tt))
 
 -- ---- the sum
@@ -98,8 +98,8 @@ summed (fin false m e) h =
     let more : 8388608 ≤ N = at-least a c p lo hi in
     let most : N ≤ 16777216 = at-most a c p lo hi in
     let is : N ≡ n + 8388608 = omega arith in
-    let low : (2 * N + 1) * c ≡ (2 * n + 1) * C + 16777216 * C = shifted N n C is in
-    let high : 2 * N * c ≡ 2 * n * C + 16777216 * C = shifted-too N n C is in
+    let low : (2 * N + 1) * c ≡ (2 * n + 1) * C + 16777216 * C = shifted (2 * N + 1) (2 * n + 1) C (omega arith) in
+    let high : 2 * N * c ≡ 2 * n * C + 16777216 * C = shifted (2 * N) (2 * n) C (omega arith) in
     let bits : N + 1249902592 ≡ 1258291200 + n = omega arith in (
       n,
       rounded-bits a c p lo hi ∙ ap (ofBits binary32) bits,
@@ -107,15 +107,8 @@ summed (fin false m e) h =
       omega arith,
     )
   where
-    shifted : (N n C : ℕ) → N ≡ n + 8388608 → (2 * N + 1) * (C * 1) ≡ (2 * n + 1) * C + 16777216 * C
-    shifted N n C e =
-        let s : 2 * N + 1 ≡ (2 * n + 1) + 16777216 = omega arith in
-        ap (λ (x : ℕ). x * (C * 1)) s ∙ ap (λ (x : ℕ). (2 * n + 1 + 16777216) * x) (mul-one C) ∙ add-mul (2 * n + 1) 16777216 C
-
-    shifted-too : (N n C : ℕ) → N ≡ n + 8388608 → 2 * N * (C * 1) ≡ 2 * n * C + 16777216 * C
-    shifted-too N n C e =
-        let s : 2 * N ≡ 2 * n + 16777216 = omega arith in
-        ap (λ (x : ℕ). x * (C * 1)) s ∙ ap (λ (x : ℕ). (2 * n + 16777216) * x) (mul-one C) ∙ add-mul (2 * n) 16777216 C
+    shifted : (x y C : ℕ) → x ≡ y + 16777216 → x * (C * 1) ≡ y * C + 16777216 * C
+    shifted x y C e = ap (λ (k : ℕ). k * (C * 1)) e ∙ ap (λ (k : ℕ). (y + 16777216) * k) (mul-one C) ∙ add-mul y 16777216 C
 
 pub sum-bits : (v : Float) → T (under 8388608 v) → T (not (isNan (sumOf v))) × (1258291200 ≤ toBits binary32 (sumOf v)) × Near v (toBits binary32 (sumOf v) - 1258291200)
 sum-bits v h =

@@ -32,7 +32,8 @@ fn to_1023(x: f32) -> f32
     }
 }
 
-// The whole part of x, for x from 0 to 1023, and 0 for any other x.
+// The whole part of x, for x from 0 to 1023, and 0 for any other x. n is at most 1024, so that `u16` holds it; from there the
+// conversion to a float is a short one.
 pub fn cut(x: f32) -> u32
     ensures { λ r. ⌜ r ≡ cutOf x ⌝ }
     ensures { λ r. ⌜ r ≤ 1023 ⌝ }
