@@ -251,12 +251,15 @@ fn sample(sample: Sample, progress: bool) -> Single {
 // ---- steps of two and three operands
 
 fn clamp(few: &[f32]) -> Tally<3> {
-    let mut tally = Tally::new("clamp", &[]);
+    let mut tally = Tally::new("clamp", &CLAMP);
     for &lo in few {
-        // Rust panics at the other ends: low above high, or a NaN.
-        for &hi in few.iter().filter(|&&hi| lo <= hi) {
+        for &hi in few {
             for &x in few {
-                let asked = Asked::Rust(x.clamp(lo, hi));
+                let asked = if lo <= hi {
+                    Asked::Rust(x.clamp(lo, hi))
+                } else {
+                    Asked::Listed(0, compared(x, lo, hi))
+                };
                 tally.check([x, lo, hi], probe::clamp(x, lo, hi), asked);
             }
         }
@@ -264,21 +267,37 @@ fn clamp(few: &[f32]) -> Tally<3> {
     tally
 }
 
-fn min(few: &[f32]) -> Tally<2> {
-    let mut tally = Tally::new("min", &CHOSEN);
-    for &a in few {
-        for &b in few {
-            tally.check([a, b], probe::min(a, b), chosen(a, b, a.min(b)));
-        }
+const CLAMP: [&str; 1] = ["low above high, or an end a NaN (here by comparisons, Rust panics)"];
+
+/// What the step promises at ends where Rust has no answer.
+fn compared(x: f32, lo: f32, hi: f32) -> f32 {
+    if x < lo {
+        lo
+    } else if hi < x {
+        hi
+    } else {
+        x
     }
-    tally
+}
+
+fn min(few: &[f32]) -> Tally<2> {
+    pairs("min", few, probe::min, f32::min)
 }
 
 fn max(few: &[f32]) -> Tally<2> {
-    let mut tally = Tally::new("max", &CHOSEN);
+    pairs("max", few, probe::max, f32::max)
+}
+
+fn pairs(
+    name: &'static str,
+    few: &[f32],
+    step: fn(f32, f32) -> f32,
+    rust: fn(f32, f32) -> f32,
+) -> Tally<2> {
+    let mut tally = Tally::new(name, &CHOSEN);
     for &a in few {
         for &b in few {
-            tally.check([a, b], probe::max(a, b), chosen(a, b, a.max(b)));
+            tally.check([a, b], step(a, b), chosen(a, b, rust(a, b)));
         }
     }
     tally
@@ -288,17 +307,21 @@ fn max(few: &[f32]) -> Tally<2> {
 const LIMITS: [(f32, f32); 5] = [(0.0, 1.0), (0.0, 0.95), (0.0, 0.5), (0.0, 4.0), (-1.0, 1.0)];
 
 fn limit(boundaries: &[f32]) -> Tally<3> {
-    let mut tally = Tally::new("limit", &[]);
+    let mut tally = Tally::new("limit", &LIMIT);
     for (lo, hi) in LIMITS {
         for &x in boundaries {
-            // A setting of -0.0 becomes 0.0.
-            let plain = if x == 0.0 { 0.0 } else { x };
-            let asked = Asked::Rust(plain.clamp(lo, hi));
+            let asked = if x == 0.0 && x.is_sign_negative() {
+                Asked::Listed(0, 0.0)
+            } else {
+                Asked::Rust(x.clamp(lo, hi))
+            };
             tally.check([x, lo, hi], probe::limit(x, lo, hi), asked);
         }
     }
     tally
 }
+
+const LIMIT: [&str; 1] = ["-0 (here 0, Rust -0)"];
 
 /// Power with exponent 1.0, which is the operand itself here and needs no step. Rust does not promise
 /// how precise `powf` is, so its own result is what is compared, for all that the original raises:

@@ -29,7 +29,7 @@ add-at f (fin false m e) (fin true n g) a c b d C D v w = absurd (true≢false (
 add-at f (fin false m e) (fin false n g) a c b d C D v w =
     round-same f false (m * up e * down g + n * up g * down e) (down e * down g) (a * d + b * c) (c * d) (mul-pos (down-pos e) (down-pos g)) (mul-pos C D)
     (add-mul (m * up e * down g) (n * up g * down e) (c * d)
-    ∙ ap (λ (k : ℕ). k + n * up g * down e * (c * d)) (regroup (m * up e) (down g) c d (a) (down e) (v .1))
+    ∙ ap (λ (k : ℕ). k + n * up g * down e * (c * d)) (regroup (m * up e) (down g) c d a (down e) (v .1))
     ∙ ap (λ (k : ℕ). a * d * (down e * down g) + k) (ap (λ (k : ℕ). n * up g * down e * k) (mul-comm c d) ∙ regroup (n * up g) (down e) d c b (down g) (w .1) ∙ ap (λ (k : ℕ). b * c * k) (mul-comm (down g) (down e)))
     ∙ sym (add-mul (a * d) (b * c) (down e * down g)))
   where
@@ -63,39 +63,32 @@ half-more n l =
 
 -- ---- comparisons of m * up e / down e with p / q
 
-module _ (m : ℕ) (e : ℤ) (z : Float) (p q : ℕ) (Q : 0 < q) (v : HasValue z false p q) where
-  pub lt-value : lt (fin false m e) z ≡ true → m * up e * q < p * down e
+module _ (m : ℕ) (e : ℤ) (p q : ℕ) (Q : 0 < q) where
+  -- i / d is p / q: their order with m * up e / down e is the same
+  from-value : (i d : ℕ) → 0 < d → i * q ≡ p * d → i * down e ≤ m * up e * d → p * down e ≤ m * up e * q
+  from-value i d D v h = transfer p (m * up e) q (down e) i (m * up e) d (down e) D (down-pos e) (sym v) refl h
+
+  to-value : (i d : ℕ) → i * q ≡ p * d → m * up e * d < i * down e → m * up e * q < p * down e
+  to-value i d v h =
+      lt-of-not-le (λ (k : p * down e ≤ m * up e * q). not-le-of-lt h (transfer i (m * up e) d (down e) p (m * up e) q (down e) Q (down-pos e) v refl k))
+
+  pub lt-value : (z : Float) → HasValue z false p q → lt (fin false m e) z ≡ true → m * up e * q < p * down e
   unfolding lt
-  lt-value = go z v
-    where
-      go : (z : Float) → HasValue z false p q → lt (fin false m e) z ≡ true → m * up e * q < p * down e
-      go (fin true i g) v h = absurd (true≢false (v .0))
-      go (fin false i g) v h =
-          lt-of-not-le (λ (k : p * down e ≤ m * up e * q). not-le-of-lt (ltb-true (m * up e * down g) (i * up g * down e) h) (transfer (i * up g) (m * up e) (down g) (down e) p (m * up e) q (down e) Q (down-pos e) (v .1) refl k))
+  lt-value (fin true i g) v h = absurd (true≢false (v .0))
+  lt-value (fin false i g) v h = to-value (i * up g) (down g) (v .1) (ltb-true (m * up e * down g) (i * up g * down e) h)
 
-  pub not-lt-value : lt (fin false m e) z ≡ false → p * down e ≤ m * up e * q
+  pub not-lt-value : (z : Float) → HasValue z false p q → lt (fin false m e) z ≡ false → p * down e ≤ m * up e * q
   unfolding lt
-  not-lt-value = go z v
-    where
-      go : (z : Float) → HasValue z false p q → lt (fin false m e) z ≡ false → p * down e ≤ m * up e * q
-      go (fin true i g) v h = absurd (true≢false (v .0))
-      go (fin false i g) v h =
-          transfer p (m * up e) q (down e) (i * up g) (m * up e) (down g) (down e) (down-pos g) (down-pos e) (sym (v .1)) refl (ltb-false (m * up e * down g) (i * up g * down e) h)
+  not-lt-value (fin true i g) v h = absurd (true≢false (v .0))
+  not-lt-value (fin false i g) v h = from-value (i * up g) (down g) (down-pos g) (v .1) (ltb-false (m * up e * down g) (i * up g * down e) h)
 
-  pub value-le : le z (fin false m e) ≡ true → p * down e ≤ m * up e * q
+  pub value-le : (z : Float) → HasValue z false p q → le z (fin false m e) ≡ true → p * down e ≤ m * up e * q
   unfolding le
-  value-le = go z v
-    where
-      go : (z : Float) → HasValue z false p q → le z (fin false m e) ≡ true → p * down e ≤ m * up e * q
-      go (fin true i g) v h = absurd (true≢false (v .0))
-      go (fin false i g) v h =
-          transfer p (m * up e) q (down e) (i * up g) (m * up e) (down g) (down e) (down-pos g) (down-pos e) (sym (v .1)) refl (tests-le (i * up g * down e) (m * up e * down g) true (subst T (sym h) tt))
+  value-le (fin true i g) v h = absurd (true≢false (v .0))
+  value-le (fin false i g) v h =
+      from-value (i * up g) (down g) (down-pos g) (v .1) (tests-le (i * up g * down e) (m * up e * down g) true (subst T (sym h) tt))
 
-  pub value-not-le : le z (fin false m e) ≡ false → m * up e * q < p * down e
+  pub value-not-le : (z : Float) → HasValue z false p q → le z (fin false m e) ≡ false → m * up e * q < p * down e
   unfolding le
-  value-not-le = go z v
-    where
-      go : (z : Float) → HasValue z false p q → le z (fin false m e) ≡ false → m * up e * q < p * down e
-      go (fin true i g) v h = absurd (true≢false (v .0))
-      go (fin false i g) v h =
-          lt-of-not-le (λ (k : p * down e ≤ m * up e * q). not-le-of-lt (tests-lt (i * up g * down e) (m * up e * down g) h) (transfer (i * up g) (m * up e) (down g) (down e) p (m * up e) q (down e) Q (down-pos e) (v .1) refl k))
+  value-not-le (fin true i g) v h = absurd (true≢false (v .0))
+  value-not-le (fin false i g) v h = to-value (i * up g) (down g) (v .1) (tests-lt (i * up g * down e) (m * up e * down g) h)

@@ -3,7 +3,7 @@ use mathlib.Core.Path.{_≡_, refl, sym, _∙_, subst}
 use Prim.Native.Nat.{ℕ, zero, suc, _+_, _*_, _≤_, _<_}
 use native.Mathlib.Nat.{zero-mul}
 use native.Mathlib.Omega.{arith}
-use mathlib.Core.Bool.{Bool, true, false, _&&_, _||_, cond}
+use mathlib.Core.Bool.{Bool, true, false, _&&_, _||_, cond, true≢false}
 use borrow.Author.Tests.{ltb-true, ltb-false, eqb-true, eq-eqb}
 use lib.IntN.{ℤ, pos}
 use lib.Dec.{T, eqb}
@@ -14,9 +14,6 @@ use Rattle.num.specs.Steps.{plusZeroOf, absOf}
 use Rattle.num.proofs.steps.abs.Statement.{statement}
 use Rattle.num.proofs.steps.abs.Tie as tie
 
-no : {X : Type 0} → _≡_ {A = Bool} false true → X
-no e = absurd (subst T (sym e) tt)
-
 not-lt-zero : (a : ℕ) → a < 0 → ⊥
 not-lt-zero a h = omega arith
 
@@ -25,9 +22,9 @@ none-below a d h = not-lt-zero a (subst (λ (x : ℕ). a < x) (zero-mul d) h)
 
 below-zero : (x : Float) → lt x c0·0 ≡ true → neg x ≡ absOf x
 unfolding lt neg absOf ofBits
-below-zero nan h = no h
+below-zero nan h = absurd (true≢false (sym h))
 below-zero (inf true) h = refl
-below-zero (inf false) h = no h
+below-zero (inf false) h = absurd (true≢false (sym h))
 below-zero (fin true m e) h = refl
 below-zero (fin false m e) h = absurd (none-below (m * up e * 1) (down e) (ltb-true (m * up e * 1) (0 * down e) h))
 
@@ -46,8 +43,8 @@ zero-fits = tt
 
 at-zero : (x : Float) → T (fits binary32 x) → eq x c0·0 ≡ true → c0·0 ≡ absOf x
 unfolding eq absOf ofBits
-at-zero nan f h = no h
-at-zero (inf s) f h = no h
+at-zero nan f h = absurd (true≢false (sym h))
+at-zero (inf s) f h = absurd (true≢false (sym h))
 at-zero (fin s m e) f h =
     whole-unique binary32 (fin false 0 (pos 0)) (fin false m e) false 0 zero-fits (unsigned-fits s m e f) (refl, refl)
     (refl, eqb-true (m * up e * 1) (0 * down e) (both (eqb (m * up e * 1) (0 * down e)) _ h))
@@ -56,14 +53,14 @@ nothing : (a b : ℕ) → a + b ≤ 0 → (a ≡ b) × (a ≡ 0)
 nothing a b h = (omega arith, omega arith)
 
 clash : (p q : Bool) → p ≡ true → q ≡ true → (p && (false || q)) ≡ false → ⊥
-clash true true a b h = no (sym h)
-clash true false a b h = no b
-clash false q a b h = no a
+clash true true a b h = true≢false h
+clash true false a b h = true≢false (sym b)
+clash false q a b h = true≢false (sym a)
 
 above-zero : (x : Float) → lt x c0·0 ≡ false → eq x c0·0 ≡ false → x ≡ absOf x
 unfolding lt eq absOf ofBits
 above-zero nan h k = refl
-above-zero (inf true) h k = no (sym h)
+above-zero (inf true) h k = absurd (true≢false h)
 above-zero (inf false) h k = refl
 above-zero (fin false m e) h k = refl
 above-zero (fin true m e) h k =

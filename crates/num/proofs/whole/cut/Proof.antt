@@ -29,7 +29,7 @@ module _ (n : ℕ) (v : Float) (h : T (under 1024 v)) (b : Near v n) where
       go : (v : Float) → T (under 1024 v) → Near v n → lt v (whole n) ≡ true → (1 ≤ n) × (n - 1 ≡ floorOf v)
       go (fin false m e) h b l =
           floor-less (m * up e) (down e) n (down-pos e) b
-          (subst (λ (a : ℕ). a < n * down e) (mul-one (m * up e)) (lt-value m e (whole n) n 1 (lit< tt) (whole-value n small) l))
+          (subst (λ (a : ℕ). a < n * down e) (mul-one (m * up e)) (lt-value m e n 1 (lit< tt) (whole n) (whole-value n small) l))
 
   if-not : lt v (whole n) ≡ false → n ≡ floorOf v
   unfolding under Near floorOf
@@ -38,7 +38,7 @@ module _ (n : ℕ) (v : Float) (h : T (under 1024 v)) (b : Near v n) where
       go : (v : Float) → T (under 1024 v) → Near v n → lt v (whole n) ≡ false → n ≡ floorOf v
       go (fin false m e) h b l =
           floor-is (m * up e) (down e) n (down-pos e) b
-          (subst (λ (a : ℕ). n * down e ≤ a) (mul-one (m * up e)) (not-lt-value m e (whole n) n 1 (lit< tt) (whole-value n small) l))
+          (subst (λ (a : ℕ). n * down e ≤ a) (mul-one (m * up e)) (not-lt-value m e n 1 (lit< tt) (whole n) (whole-value n small) l))
 
 -- ---- the needs
 

@@ -37,8 +37,8 @@ module _ (n : ℕ) (v : Float) (h : T (under 8388608 v)) (b : Near v n) where
       go : (v : Float) → T (under 8388608 v) → Near v n → le (whole n ⊕ c0·5) v ≡ true → n + 1 ≡ halfUpOf v
       go (fin false m e) h b l =
           elim (eq-or-lt-of-le small) [
-            | inl i ↦ absurd (too-far (m * up e) (down e) (value-le m e (whole 8388608 ⊕ c0·5) 8388608 1 (lit< tt) top (subst (λ (k : ℕ). le (whole k ⊕ c0·5) (fin false m e) ≡ true) i l)) (ltb→lt (m * up e) (8388608 * down e) h))
-            | inr k ↦ half-above (m * up e) (down e) n (down-pos e) b (value-le m e (whole n ⊕ c0·5) (2 * n + 1) 2 (lit< tt) (half-more n k) l)
+            | inl i ↦ absurd (too-far (m * up e) (down e) (value-le m e 8388608 1 (lit< tt) (whole 8388608 ⊕ c0·5) top (subst (λ (k : ℕ). le (whole k ⊕ c0·5) (fin false m e) ≡ true) i l)) (ltb→lt (m * up e) (8388608 * down e) h))
+            | inr k ↦ half-above (m * up e) (down e) n (down-pos e) b (value-le m e (2 * n + 1) 2 (lit< tt) (whole n ⊕ c0·5) (half-more n k) l)
           ]
 
   if-not : le (whole n ⊕ c0·5) v ≡ false → n ≡ halfUpOf v
@@ -55,7 +55,7 @@ module _ (n : ℕ) (v : Float) (h : T (under 8388608 v)) (b : Near v n) where
           half-below (m * up e) (down e) n (down-pos e) b
           (elim (eq-or-lt-of-le small) [
             | inl i ↦ under-top (m * up e) (down e) n i (ltb→lt (m * up e) (8388608 * down e) h)
-            | inr k ↦ value-not-le m e (whole n ⊕ c0·5) (2 * n + 1) 2 (lit< tt) (half-more n k) l
+            | inr k ↦ value-not-le m e (2 * n + 1) 2 (lit< tt) (whole n ⊕ c0·5) (half-more n k) l
           ])
 
 -- ---- the needs
