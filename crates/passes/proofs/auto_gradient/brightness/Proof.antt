@@ -1,0 +1,12 @@
+-- `passes::auto_gradient::brightness` meets its contract. Assumes nothing.
+use borrow.Author.Needs.{needs}
+use Rattle.passes.specs.AutoGradient.{brightness}
+use Rattle.passes.proofs.auto_gradient.brightness.Statement.{statement}
+use Rattle.passes.proofs.auto_gradient.brightness.Tie as tie
+
+returns : tie.Need-returns
+unfolding brightness
+returns c = cc
+
+pub brightness-spec : {M : Type 1} → statement M
+brightness-spec = tie.close (tie.spec (λ c κs. search needs) (λ c κs. tt) returns)

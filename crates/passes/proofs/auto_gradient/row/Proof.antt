@@ -1,0 +1,31 @@
+-- `passes::auto_gradient::row` meets its contract. Assumes nothing.
+use Prim.Native.Nat.{_-_}
+use native.Mathlib.Omega.{arith}
+use lib.ListN.{length}
+use Rattle.passes.specs.Rewrite.{Rewritten, none, more, all}
+use Rattle.passes.specs.AutoGradient.{at}
+use Rattle.passes.proofs.auto_gradient.row.Statement.{statement}
+use Rattle.passes.proofs.auto_gradient.row.Tie as tie
+
+abbrev Inv-loop : tie.InvT-loop
+Inv-loop row₀ y w h vertical horizontal a t x₀ row x = Rewritten x (λ k. at w h vertical horizontal a k y) row₀ row
+
+abbrev μ-loop : tie.MeasureT-loop
+μ-loop row₀ y w h vertical horizontal a t x₀ row x = length row₀ - x
+
+loop-holds : tie.Need-loop-holds Inv-loop μ-loop
+loop-holds c = none _ _
+
+loop-again : tie.Need-loop-again Inv-loop μ-loop
+loop-again c =
+    let in-loop = c .before .before .before in
+    more (in-loop .before .loop .inv) 0 (in-loop .loop-test .taken) (cc)
+
+returns : tie.Need-returns Inv-loop μ-loop
+returns c = all (c .before .loop .inv) (c .loop-test .left)
+
+pub row-spec : {M : Type 1} → statement M
+row-spec =
+    tie.close
+    (tie.spec Inv-loop μ-loop (λ c κs. omega arith) loop-holds (λ c κs. omega arith) (λ c. omega arith) (λ c. omega arith) (λ c κs. tt)
+    (λ c. omega arith) (λ c. omega arith) (λ c. omega arith) (λ c. omega arith) loop-again (λ c. omega arith) returns)

@@ -1,0 +1,11 @@
+-- `passes::pixel::dim` meets its contract. Assumes nothing.
+use Rattle.passes.specs.Pixel.{dim}
+use Rattle.passes.proofs.pixel.dim.Statement.{statement}
+use Rattle.passes.proofs.pixel.dim.Tie as tie
+
+returns : tie.Need-returns
+unfolding dim
+returns c = cc
+
+pub dim-spec : {M : Type 1} → statement M
+dim-spec = tie.close (tie.spec (λ c κs. tt) (λ c κs. tt) (λ c κs. tt) returns)

@@ -1,0 +1,14 @@
+-- `passes::pixel::pack_nearest` meets its contract: each channel is at most 1023, so nothing wraps. Assumes nothing.
+use native.Mathlib.Omega.{arith}
+use Rattle.passes.specs.Pixel.{packNearest, pack}
+use Rattle.passes.proofs.pixel.pack_nearest.Statement.{statement}
+use Rattle.passes.proofs.pixel.pack_nearest.Tie as tie
+
+returns : tie.Need-returns
+unfolding packNearest pack
+returns c = omega arith
+
+pub pack-nearest-spec : {M : Type 1} → statement M
+pack-nearest-spec =
+    tie.close
+    (tie.spec (λ c κs. tt) (λ c. omega arith) (λ c κs. tt) (λ c. omega arith) (λ c. omega arith) (λ c κs. tt) (λ c. omega arith) returns)

@@ -1,0 +1,11 @@
+-- `passes::pixel::unit` meets its contract. Assumes nothing.
+use Rattle.passes.specs.Pixel.{unit}
+use Rattle.passes.proofs.pixel.unit.Statement.{statement}
+use Rattle.passes.proofs.pixel.unit.Tie as tie
+
+returns : tie.Need-returns
+unfolding unit
+returns c = cc
+
+pub unit-spec : {M : Type 1} → statement M
+unit-spec = tie.close (tie.spec (λ c κs. tt) returns)

@@ -1,0 +1,9 @@
+pub mod Rewrite
+pub mod Rows
+pub mod Fold
+pub mod Pixel
+pub mod Position
+pub mod Scanlines
+pub mod Lut
+pub mod ColorCorrection
+pub mod AutoGradient

@@ -1,0 +1,124 @@
+// Gradient: a warm and cool gradient by rows and a light centre by columns, weaker in a bright scene.
+ghost use mathlib.Core.Path.{_≡_};
+ghost use Prim.Native.Nat.{_≤_, _<_};
+ghost use lib.ListN.{length};
+ghost use Rattle.num.specs.Const.{c0·0};
+ghost use Rattle.passes.specs.Fold.{fold};
+ghost use Rattle.passes.specs.Rewrite.{every};
+ghost use Rattle.passes.specs.Rows.{Frame};
+ghost use Rattle.passes.specs.AutoGradient as AutoGradient;
+use crate::pixel;
+use crate::pixel::Rgb;
+use crate::rows;
+
+fn add_luma(sum: f32, p: u32) -> f32
+    ensures { λ r. ⌜ r ≡ AutoGradient.addLuma sum p ⌝ }
+{
+    sum + pixel::luma709(pixel::unpack(p))
+}
+
+// The sum of all lumas, from the first word on.
+fn total(frame: &[u32]) -> f32
+    ensures { λ r. ⌜ r ≡ fold AutoGradient.addLuma c0·0 (now (frame .entry)) ⌝ }
+{
+    let mut sum = 0.0;
+    let mut i = 0;
+    while i < frame.len() {
+        sum = add_luma(sum, frame[i]);
+        i += 1;
+    }
+    sum
+}
+
+// The strength, by the mean luma: a dark scene gets more.
+fn adaptive(strength: f32, count: u32, sum: f32) -> f32
+    requires { ⌜ count ≤ 1048576 ⌝ }
+    ensures { λ r. ⌜ r ≡ AutoGradient.adaptive strength count sum ⌝ }
+{
+    let scene = num::steps::clamp(sum / count as f32 / 255.0, 0.0, 1.0);
+    strength * (1.0 - scene * 0.45)
+}
+
+// The warmth of a row.
+fn warm(h: usize, y: usize, vertical: f32, a: f32) -> f32
+    requires { ⌜ (y ≤ 1024) × (h ≤ 1024) ⌝ }
+    ensures { λ r. ⌜ r ≡ AutoGradient.warm h y vertical a ⌝ }
+{
+    -rows::position(y, h) * vertical * a
+}
+
+// The brightness factor of a column, in a row of warmth t.
+fn brightness(w: usize, x: usize, t: f32, horizontal: f32, a: f32) -> f32
+    requires { ⌜ (x ≤ 1024) × (w ≤ 1024) ⌝ }
+    ensures { λ r. ⌜ r ≡ AutoGradient.brightness w x t horizontal a ⌝ }
+{
+    (1.0 + t * 0.30) * (1.0 - num::steps::abs(rows::position(x, w)) * horizontal * a)
+}
+
+fn shade(t: f32, factor: f32, p: u32) -> u32
+    ensures { λ r. ⌜ r ≡ AutoGradient.shade t factor p ⌝ }
+{
+    let c = pixel::unpack(p);
+    pixel::pack_limited(Rgb {
+        r: c.r * factor + t * 18.0,
+        g: c.g * factor + t * 5.0,
+        b: c.b * factor - t * 14.0,
+    })
+}
+
+fn row(
+    row: &mut [u32],
+    y: usize,
+    width: usize,
+    height: usize,
+    vertical: f32,
+    horizontal: f32,
+    a: f32,
+)
+    requires { ⌜ (y < height) × (height ≤ 1024) × (width ≤ 1024) × (length (now row) ≡ width) ⌝ }
+    ensures { λ _. ⌜ now (row .exit) ≡ every (λ x. AutoGradient.at width height vertical horizontal a x y) (now (row .entry)) ⌝ }
+{
+    let t = warm(height, y, vertical, a);
+    let mut x = 0;
+    while x < row.len() {
+        row[x] = shade(t, brightness(width, x, t, horizontal, a), row[x]);
+        x += 1;
+    }
+}
+
+fn rows(frame: &mut [u32], width: usize, height: usize, vertical: f32, horizontal: f32, a: f32)
+    requires { ⌜ Frame width height (now frame) ⌝ }
+    ensures { λ _. ⌜ now (frame .exit) ≡ AutoGradient.shaded width height vertical horizontal a (now (frame .entry)) ⌝ }
+{
+    let mut y = 0;
+    let mut at = 0;
+    while y < height {
+        let end = at + width;
+        row(
+            &mut frame[at..end],
+            y,
+            width,
+            height,
+            vertical,
+            horizontal,
+            a,
+        );
+        at = end;
+        y += 1;
+    }
+}
+
+pub fn apply(
+    frame: &mut [u32],
+    width: usize,
+    height: usize,
+    strength: f32,
+    vertical: f32,
+    horizontal: f32,
+)
+    requires { ⌜ Frame width height (now frame) ⌝ }
+    ensures { λ _. ⌜ now (frame .exit) ≡ AutoGradient.autoGradient width height strength vertical horizontal (now (frame .entry)) ⌝ }
+{
+    let a = adaptive(strength, frame.len() as u32, total(frame));
+    rows(frame, width, height, vertical, horizontal, a);
+}

@@ -1,0 +1,7 @@
+// The ten passes over a lent frame, each in the module named as the original's file.
+pub mod auto_gradient;
+pub mod color_correction;
+pub mod lut;
+pub mod pixel;
+pub mod rows;
+pub mod scanlines;
