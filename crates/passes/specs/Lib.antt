@@ -7,3 +7,4 @@ pub mod Scanlines
 pub mod Lut
 pub mod ColorCorrection
 pub mod AutoGradient
+pub mod Curvature

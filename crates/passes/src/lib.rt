@@ -5,3 +5,4 @@ pub mod lut;
 pub mod pixel;
 pub mod rows;
 pub mod scanlines;
+pub mod curvature;
