@@ -8,3 +8,4 @@ pub mod Lut
 pub mod ColorCorrection
 pub mod AutoGradient
 pub mod Curvature
+pub mod Blur

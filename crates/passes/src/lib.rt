@@ -6,3 +6,4 @@ pub mod pixel;
 pub mod rows;
 pub mod scanlines;
 pub mod curvature;
+pub mod blur;

@@ -37,5 +37,5 @@ returns c = rows-all (c .before .loop .inv) (c .loop-test .left)
 pub rows-spec : {M : Type 1} → statement M
 rows-spec =
     tie.close
-    (tie.spec Inv-loop μ-loop (λ c. no-rows _ (c .before .before .pre .0)) add-end mul-row (λ c. omega arith) (λ c. omega arith) part-row-end row-requires
+    (tie.spec Inv-loop μ-loop (λ c. no-rows _ (c .before .before .pre .0 .area)) add-end mul-row (λ c. omega arith) (λ c. omega arith) part-row-end row-requires
     (λ c. omega arith) (λ c. omega arith) loop-again (λ c. omega arith) returns)

@@ -33,5 +33,5 @@ returns c = rows-all (c .before .loop .inv) (c .loop-test .left)
 pub apply-spec : {M : Type 1} → statement M
 apply-spec =
     tie.close
-    (tie.spec Inv-loop μ-loop (λ c. no-rows _ (c .before .pre)) add-end mul-row (λ c. omega arith) (λ c. omega arith) part-row-end (λ c κs. tt)
+    (tie.spec Inv-loop μ-loop (λ c. no-rows _ (c .before .pre .area)) add-end mul-row (λ c. omega arith) (λ c. omega arith) part-row-end (λ c κs. tt)
     (λ c. omega arith) (λ c. omega arith) loop-again (λ c. omega arith) returns)

@@ -1,0 +1,167 @@
+-- The blur's offsets: which places take a sample, and the sums one offset further. Assumes nothing.
+use mathlib.Core.Path.{_≡_, refl, sym, ap, _∙_, subst}
+use mathlib.Core.Logic.{_⊎_, inl, inr, ⊎-elim}
+use mathlib.Core.Bool.{Bool, true, false, _&&_}
+use mathlib.Core.List.{List, _++_}
+use Prim.Native.Nat.{ℕ, zero, suc, _+_, _-_, _*_, _≤_, _<_, zero-le, suc-le-suc}
+use native.Mathlib.Numerals.{add-one}
+use native.Mathlib.Omega.{arith}
+use lib.Dec.{T, leb, ltb}
+use lib.ListN.{length, getD, take, drop}
+use lib.Seq.{length-take-le, getD-take, getD-drop}
+use lib.Ieee.{Float, nan}
+use borrow.Author.Tests.{le-leb, lt-leb, lt-ltb, le-ltb, ltb-true}
+use Rattle.num.specs.Const.{c0·0}
+use Rattle.num.specs.F32.{_⊕_, _⊗_}
+use Rattle.passes.specs.Rewrite.{every, fill, every-twice, length-rewrite, rewrite-ext, rewrite-same, getD-fill, mid}
+use Rattle.passes.specs.Blur.{at, cell, weight, distance, inside, taken, step, total, weights, weighted, ratio, blurBy}
+
+lt-or-le : (a b : ℕ) → (a < b) ⊎ (b ≤ a)
+lt-or-le a zero = inr zero-le
+lt-or-le zero (suc b) = inl (suc-le-suc zero-le)
+lt-or-le (suc a) (suc b) = ⊎-elim (λ p. inl (suc-le-suc p)) (λ q. inr (suc-le-suc q)) (lt-or-le a b)
+
+and-false : (b : Bool) → b && false ≡ false
+and-false true = refl
+and-false false = refl
+
+and-right : (a b : Bool) → a && b ≡ true → b ≡ true
+and-right true b e = e
+and-right false b e = absurd (let z : T false = subst T (sym e) tt in z)
+
+module _ (n radius x k : ℕ) where
+  pub inside-yes : radius ≤ x + k → x + k - radius < n → inside n radius x k ≡ true
+  inside-yes h l = simp (le-leb radius (x + k) h, lt-ltb (x + k - radius) n l)
+
+  pub inside-left : x + k < radius → inside n radius x k ≡ false
+  inside-left h = simp (lt-leb radius (x + k) h)
+
+  pub inside-right : n ≤ x + k - radius → inside n radius x k ≡ false
+  inside-right h = simp (le-ltb (x + k - radius) n h, and-false)
+
+  -- a sample that is taken lies inside
+  inside-below : inside n radius x k ≡ true → x + k - radius < n
+  inside-below e = ltb-true (x + k - radius) n (and-right (leb radius (x + k)) (ltb (x + k - radius) n) e)
+
+taken-same : (b : Bool) {s s′ v v′ : Float} → s ≡ s′ → (b ≡ true → v ≡ v′) → taken b s v ≡ taken b s′ v′
+taken-same true p q = cc (q refl)
+taken-same false p q = p
+
+-- only the samples inside matter
+total-same : (term term′ : ℕ → Float → Float) (n radius x k : ℕ) → ((i : ℕ) (w : Float) → i < n → term i w ≡ term′ i w)
+    → total term n radius x k ≡ total term′ n radius x k
+unfolding total
+total-same term term′ n radius x zero h = refl
+total-same term term′ n radius x (suc k) h =
+    taken-same (inside n radius x k) (total-same term term′ n radius x k h) (λ e. h (x + k - radius) _ (inside-below n radius x k e))
+
+pub blur-same : (sums f g : ℕ → Float) (n radius x : ℕ) → ((i : ℕ) → i < n → f i ≡ g i) → blurBy sums f n radius x ≡ blurBy sums g n radius x
+blur-same sums f g n radius x h =
+    ap (λ (s : Float). ratio s (sums x)) (total-same _ _ n radius x (2 * radius + 1) (λ i w l. ap (λ (v : Float). v ⊗ w) (h i l)))
+
+pub total-more : (term : ℕ → Float → Float) (n radius x k : ℕ) → total term n radius x (k + 1) ≡ step term n radius x k (total term n radius x k)
+unfolding total
+total-more term n radius x k = rw add-one
+
+-- the invariant of a loop over the offsets: the place x of a line has its sum over the first k offsets around `place x`
+pub record Summed (term : ℕ → ℕ → Float → Float) (n radius : ℕ) (place : ℕ → ℕ) (k : ℕ) (before acc : List Float) : Type 0 where
+  pub upto : k ≤ 2 * radius + 1
+  pub kept : length acc ≡ length before
+  pub sum : acc ≡ fill (λ x. total (term x) n radius (place x) k) before
+
+module _ {term : ℕ → ℕ → Float → Float} {n radius : ℕ} {place : ℕ → ℕ} where
+  -- nothing is summed in a line that was cleared
+  pub summed-none : (entry acc : List Float) → acc ≡ fill (λ x. c0·0) entry → Summed term n radius place 0 acc acc
+  unfolding total
+  summed-none entry acc e = record { upto = zero-le; kept = refl; sum = e ∙ sym (every-twice (λ x v. c0·0) (λ x v. c0·0) entry acc e) }
+
+  module _ {k : ℕ} {before acc : List Float} (t : Summed term n radius place k before acc) where
+    pub summed-more : (after : List Float) → k < 2 * radius + 1 → after ≡ every (λ x. step (term x) n radius (place x) k) acc
+        → Summed term n radius place (k + 1) before after
+    unfolding total
+    summed-more after l f =
+        let e = f ∙ every-twice (λ x v. total (term x) n radius (place x) k) (λ x. step (term x) n radius (place x) k) before acc (t .sum)
+        ∙ ap (λ (m : ℕ). fill (λ x. total (term x) n radius (place x) m) before) (sym (add-one k)) in
+        record { upto = omega arith; kept = ap length e ∙ length-rewrite _ _ _; sum = e }
+
+    pub summed-all : (entry : List Float) → 2 * radius + 1 ≤ k → before ≡ fill (λ x. c0·0) entry
+        → acc ≡ fill (λ x. total (term x) n radius (place x) (2 * radius + 1)) entry
+    summed-all entry l e =
+        let full : k ≡ 2 * radius + 1 = omega (arith, t .upto) in
+        t .sum ∙ ap (λ (m : ℕ). fill (λ x. total (term x) n radius (place x) m) before) full
+        ∙ every-twice (λ x v. c0·0) (λ x v. total (term x) n radius (place x) (2 * radius + 1)) entry before e
+
+-- ---- offset k along a line
+
+module _ (acc src : List Float) (radius k : ℕ) (e : length acc ≡ length src) where
+  abbrev along : ℕ → Float → Float
+  along x = step (λ i w. at src i ⊗ w) (length src) radius x k
+
+  -- outside at every place
+  pub offset-none : length src ≤ distance radius k → acc ≡ every along acc
+  offset-none h =
+      sym (rewrite-same (length acc) along acc (λ x v l.
+      ⊎-elim
+      (λ p. simp (inside-left (length src) radius x k p))
+      (λ p. simp (inside-right (length src) radius x k (omega arith)))
+      (lt-or-le (x + k) radius)))
+
+  -- m places, from `to` on, take the samples from `from` on
+  pub offset-some : (new : List Float) (to from m m′ : ℕ) (w : Float)
+      → to ≡ radius - k → from ≡ k - radius → to + from + m ≡ length src → m′ ≡ m → w ≡ weight radius (distance radius k)
+      → new ≡ every (λ i v. v ⊕ at (take m′ (drop from src)) i ⊗ w) (take m (drop to acc))
+      → take to acc ++ (new ++ drop m (drop to acc)) ≡ every along acc
+  offset-some new to from m m′ w eto efrom em em′ ew h =
+      let sample : (i : ℕ) → i < m → at (take m′ (drop from src)) i ≡ at src (to + i + k - radius)
+      = λ i l. getD-take m′ (drop from src) i nan (omega arith) ∙ getD-drop from src i nan ∙ ap (at src) (omega arith) in
+      mid along (λ i v. v ⊕ at (take m′ (drop from src)) i ⊗ w) acc new to m from (omega arith)
+      (λ i v l. simp (inside-left (length src) radius i k (omega arith)))
+      (λ i v l. simp (sample i l, ew, inside-yes (length src) radius (to + i) k (omega arith) (omega arith)))
+      (λ i v l. simp (inside-right (length src) radius (to + m + i) k (omega arith)))
+      h
+
+-- ---- offset k of row y along the columns of a plane
+
+module _ (acc plane : List Float) (h radius y k : ℕ) where
+  abbrev below : ℕ → Float → Float
+  below x = step (λ i w. cell plane (length acc) x i ⊗ w) h radius y k
+
+  pub row-skipped : inside h radius y k ≡ false → acc ≡ every below acc
+  row-skipped e = sym (rewrite-same (length acc) below acc (λ x v l. simp e))
+
+  pub row-added : (row : List Float) (w : Float) → radius ≤ y + k → y + k - radius < h
+      → row ≡ take (length acc) (drop ((y + k - radius) * length acc) plane) → w ≡ weight radius (distance radius k)
+      → every (λ i v. v ⊕ at row i ⊗ w) acc ≡ every below acc
+  row-added row w p q er ew =
+      let n = length acc in
+      let r = (y + k - radius) * n in
+      rewrite-ext n (λ i v. v ⊕ at row i ⊗ w) below acc (λ x v l.
+      simp (er, ew, inside-yes h radius y k p q)
+      (ap (λ (s : Float). v ⊕ s ⊗ weight radius (distance radius k)) (getD-take n (drop r plane) x nan l ∙ getD-drop r plane x nan)))
+
+-- ---- lines
+
+-- the front of a local line
+pub front : (line : List Float) (n w : ℕ) → length line ≡ n → w ≤ n → length (take w line) ≡ w
+front line n w e h = length-take-le w line (omega arith)
+
+-- what a line that was filled with sums of weights says
+pub weight-at : (ws entry : List Float) (n radius x : ℕ) → length entry ≡ n → ws ≡ fill (weights (length entry) radius) entry → x < n
+    → at ws x ≡ weights n radius x
+weight-at ws entry n radius x e f l =
+    ap (λ (z : List Float). at z x) f ∙ getD-fill (weights (length entry) radius) entry x nan (omega arith) ∙ ap (λ (m : ℕ). weights m radius x) e
+
+-- a line that was filled by f, blurred: at one place, as a line, and read from that line
+module _ (sums f : ℕ → Float) (n radius : ℕ) (line₀ line : List Float) (el : length line₀ ≡ n) (e : line ≡ fill f line₀) where
+  blur-at : (x : ℕ) → blurBy sums (at line) (length line) radius x ≡ blurBy sums f n radius x
+  blur-at x =
+      ap (λ (m : ℕ). blurBy sums (at line) m radius x) (ap length e ∙ length-rewrite (length line₀) (λ i v. f i) line₀ ∙ el)
+      ∙ blur-same sums (at line) f n radius x (λ i p. ap (λ (z : List Float). at z i) e ∙ getD-fill f line₀ i nan (omega arith))
+
+  pub blur-fill : (out₀ : List Float) → fill (blurBy sums (at line) (length line) radius) out₀ ≡ fill (blurBy sums f n radius) out₀
+  blur-fill out₀ = rewrite-ext (length out₀) (λ x v. blurBy sums (at line) (length line) radius x) (λ x v. blurBy sums f n radius x) out₀ (λ x v l. blur-at x)
+
+  pub blur-of : (out₀ out : List Float) → length out₀ ≡ n → out ≡ fill (blurBy sums (at line) (length line) radius) out₀ → (x : ℕ) → x < n
+      → at out x ≡ blurBy sums f n radius x
+  blur-of out₀ out eo o x l =
+      ap (λ (z : List Float). at z x) o ∙ getD-fill (blurBy sums (at line) (length line) radius) out₀ x nan (omega arith) ∙ blur-at x

@@ -1,0 +1,48 @@
+-- After k offsets each place has the definition's sum over the first k. Assumes nothing.
+use mathlib.Core.Path.{_≡_, refl, sym, _∙_, ap}
+use mathlib.Core.List.{List}
+use Prim.Native.Nat.{ℕ, _+_, _-_, _*_, _≤_}
+use native.Mathlib.Omega.{arith}
+use lib.ListN.{length}
+use lib.Ieee.{Float}
+use borrow.Author.Needs.{needs}
+use Rattle.num.specs.F32.{_⊗_}
+use Rattle.passes.specs.Rewrite.{fill}
+use Rattle.passes.specs.Blur.{at}
+use Rattle.passes.proofs.Offsets.{Summed, summed-none, summed-more, summed-all}
+use Rattle.passes.proofs.blur.accumulate.Statement.{statement}
+use Rattle.passes.proofs.blur.accumulate.Tie as tie
+
+abbrev Inv-loop : tie.InvT-loop
+Inv-loop acc₀ src radius k₀ acc k = Summed (λ x i w. at src i ⊗ w) (length src) radius (λ x. x) k acc₀ acc
+
+abbrev μ-loop : tie.MeasureT-loop
+μ-loop acc₀ src radius k₀ acc k = 2 * radius + 1 - k
+
+loop-holds : tie.Need-loop-holds Inv-loop μ-loop
+loop-holds c = summed-none (c .before .before .before .before .before .before .args .acc .now) _ (c .before .before .clear .ensures)
+
+loop-again : tie.Need-loop-again Inv-loop μ-loop
+loop-again c =
+    let o = c .before .before in
+    summed-more (o .before .before .before .loop .inv) _ (o .before .before .loop-test .taken) (o .add-offset .ensures)
+
+returns : tie.Need-returns Inv-loop μ-loop
+returns c = summed-all (c .before .loop .inv) (c .before .before .before .before .before .before .before .before .args .acc .now) (c .loop-test .left) (c .before .before .before .before .clear .ensures)
+
+pub accumulate-spec : {M : Type 1} → statement M
+accumulate-spec =
+    tie.close
+    (tie.spec
+    Inv-loop
+    μ-loop
+    (λ c κs. search needs)
+    loop-holds
+    (λ c. omega arith)
+    (λ c. omega arith)
+    (λ c κs. omega arith)
+    (λ c. omega arith)
+    (λ c. omega arith)
+    loop-again
+    (λ c. omega arith)
+    returns)

@@ -1,0 +1,15 @@
+-- Assumes nothing.
+use mathlib.Core.Path.{refl}
+use native.Mathlib.Omega.{arith}
+use lib.Ieee.{sub}
+use Rattle.num.specs.Bounds.{in-float}
+use Rattle.passes.specs.Blur.{weight}
+use Rattle.passes.proofs.blur.weight.Statement.{statement}
+use Rattle.passes.proofs.blur.weight.Tie as tie
+
+returns : tie.Need-returns
+unfolding sub weight
+returns c = refl
+
+pub weight-spec : {M : Type 1} → statement M
+weight-spec = tie.close (tie.spec (λ c. in-float _ (omega arith)) (λ c. in-float _ (omega arith)) returns)

@@ -1,0 +1,199 @@
+// The centre-weighted blur of NTSC and bloom. A line of accumulators takes the offsets one after the other, so that each place
+// sums its own samples in ascending order.
+ghost use mathlib.Core.Path.{_≡_};
+ghost use Prim.Native.Nat.{_+_, _-_, _*_, _≤_, _<_};
+ghost use lib.ListN.{length, take, drop};
+ghost use Rattle.num.specs.Const.{c0·0};
+ghost use Rattle.num.specs.F32.{_⊕_, _⊗_};
+ghost use Rattle.passes.specs.Rewrite.{every, fill};
+ghost use Rattle.passes.specs.Blur as Blur;
+ghost use Rattle.passes.specs.Blur.{at, cell};
+
+// 1 - distance / (radius + 1)
+fn weight(radius: usize, distance: usize) -> f32
+    requires { ⌜ (radius ≤ 64) × (distance ≤ 64) ⌝ }
+    ensures { λ r. ⌜ r ≡ Blur.weight radius distance ⌝ }
+{
+    1.0 - distance as f32 / (radius as f32 + 1.0)
+}
+
+// a - b, or 0 where b is above a
+fn monus(a: usize, b: usize) -> usize
+    ensures { λ r. ⌜ r ≡ a - b ⌝ }
+{
+    if b <= a { a - b } else { 0 }
+}
+
+// Adds src[i] * w at each i.
+fn add_scaled(acc: &mut [f32], src: &[f32], w: f32)
+    requires { ⌜ length (now acc) ≡ length (now src) ⌝ }
+    ensures { λ _. ⌜ now (acc .exit) ≡ every (λ i v. v ⊕ at (now (src .entry)) i ⊗ w) (now (acc .entry)) ⌝ }
+{
+    let mut i = 0usize;
+    while i < acc.len() {
+        acc[i] = acc[i] + src[i] * w;
+        i += 1;
+    }
+}
+
+// Adds the samples at offset k of every place, those outside skipped.
+fn add_offset(acc: &mut [f32], src: &[f32], radius: usize, k: usize)
+    requires { ⌜ (length (now acc) ≡ length (now src)) × (radius ≤ 64) × (k ≤ 2 * radius) ⌝ }
+    ensures { λ _. ⌜ now (acc .exit) ≡ every (λ x. Blur.step (λ i w. at (now (src .entry)) i ⊗ w) (length (now (src .entry))) radius x k) (now (acc .entry)) ⌝ }
+{
+    let n = src.len();
+    let to = monus(radius, k);
+    let from = monus(k, radius);
+    let d = to + from;
+    if d < n {
+        let w = weight(radius, d);
+        let count = n - d;
+        let to_end = to + count;
+        let from_end = from + count;
+        add_scaled(&mut acc[to..to_end], &src[from..from_end], w);
+    }
+}
+
+// 0.0 everywhere
+fn clear(acc: &mut [f32])
+    ensures { λ _. ⌜ now (acc .exit) ≡ fill (λ i. c0·0) (now (acc .entry)) ⌝ }
+{
+    let mut i = 0usize;
+    while i < acc.len() {
+        acc[i] = 0.0;
+        i += 1;
+    }
+}
+
+// The sums of the weighted samples of each place of a line.
+fn accumulate(acc: &mut [f32], src: &[f32], radius: usize)
+    requires { ⌜ (length (now acc) ≡ length (now src)) × (radius ≤ 64) ⌝ }
+    ensures { λ _. ⌜ now (acc .exit) ≡ fill (Blur.weighted (at (now (src .entry))) (length (now (src .entry))) radius) (now (acc .entry)) ⌝ }
+{
+    clear(acc);
+    let mut k = 0usize;
+    while k < 2 * radius + 1 {
+        add_offset(acc, src, radius, k);
+        k += 1;
+    }
+}
+
+// The weight of offset k, added where it is inside.
+fn add_weight(sum: f32, n: usize, radius: usize, x: usize, k: usize) -> f32
+    requires { ⌜ (radius ≤ 64) × (k ≤ 2 * radius) × (x < 1024) ⌝ }
+    ensures { λ r. ⌜ r ≡ Blur.step (λ i w. w) n radius x k sum ⌝ }
+{
+    if radius <= x + k {
+        if x + k - radius < n {
+            return sum + weight(radius, monus(radius, k) + monus(k, radius));
+        }
+    }
+    sum
+}
+
+// The sum of the weights at one place of a line of n samples.
+pub fn weight_sum(n: usize, radius: usize, x: usize) -> f32
+    requires { ⌜ (radius ≤ 64) × (x < n) × (n ≤ 1024) ⌝ }
+    ensures { λ r. ⌜ r ≡ Blur.weights n radius x ⌝ }
+{
+    let mut sum = 0.0f32;
+    let mut k = 0usize;
+    while k < 2 * radius + 1 {
+        sum = add_weight(sum, n, radius, x, k);
+        k += 1;
+    }
+    sum
+}
+
+// The sums of the weights of each place of a line.
+pub fn weight_sums(out: &mut [f32], radius: usize)
+    requires { ⌜ (radius ≤ 64) × (length (now out) ≤ 1024) ⌝ }
+    ensures { λ _. ⌜ now (out .exit) ≡ fill (Blur.weights (length (now (out .entry))) radius) (now (out .entry)) ⌝ }
+{
+    let n = out.len();
+    let mut x = 0usize;
+    while x < out.len() {
+        out[x] = weight_sum(n, radius, x);
+        x += 1;
+    }
+}
+
+// sum / w where w is above 0, else 0
+pub fn quotient(sum: f32, w: f32) -> f32
+    ensures { λ r. ⌜ r ≡ Blur.ratio sum w ⌝ }
+{
+    if w > 0.0 { sum / w } else { 0.0 }
+}
+
+// Each sum divided by its weight.
+fn divide(sums: &mut [f32], w: &[f32])
+    requires { ⌜ length (now sums) ≡ length (now w) ⌝ }
+    ensures { λ _. ⌜ now (sums .exit) ≡ every (λ i v. Blur.ratio v (at (now (w .entry)) i)) (now (sums .entry)) ⌝ }
+{
+    let mut i = 0usize;
+    while i < sums.len() {
+        sums[i] = quotient(sums[i], w[i]);
+        i += 1;
+    }
+}
+
+// Blurs a line. `w` gives each place's sum of weights.
+pub fn blur_line(out: &mut [f32], src: &[f32], w: &[f32], radius: usize)
+    requires { ⌜ (radius ≤ 64) × (length (now out) ≡ length (now src)) × (length (now w) ≡ length (now src)) ⌝ }
+    ensures { λ _. ⌜ now (out .exit) ≡ fill (Blur.blurBy (at (now (w .entry))) (at (now (src .entry))) (length (now (src .entry))) radius) (now (out .entry)) ⌝ }
+{
+    accumulate(out, src, radius);
+    divide(out, w);
+}
+
+// The row i of a plane.
+fn row_of(plane: &[f32], width: usize, height: usize, i: usize) -> &[f32]
+    requires { ⌜ (i < height) × (length (now plane) ≡ height * width) ⌝ }
+    ensures { λ r. ⌜ now r ≡ take width (drop (i * width) (now (plane .entry))) ⌝ }
+{
+    let a = i * width;
+    let e = a + width;
+    &plane[a..e]
+}
+
+// Adds the row at offset k of row y, unless it is outside.
+fn add_row(acc: &mut [f32], plane: &[f32], height: usize, radius: usize, y: usize, k: usize)
+    requires { ⌜ (radius ≤ 64) × (k ≤ 2 * radius) × (y < height) × (height ≤ 1024) × (length (now plane) ≡ height * length (now acc)) ⌝ }
+    ensures { λ _. ⌜ now (acc .exit) ≡ every (λ x. Blur.step (λ i w. cell (now (plane .entry)) (length (now (acc .entry))) x i ⊗ w) height radius y k) (now (acc .entry)) ⌝ }
+{
+    if radius <= y + k {
+        let i = y + k - radius;
+        if i < height {
+            let w = weight(radius, monus(radius, k) + monus(k, radius));
+            let n = acc.len();
+            add_scaled(acc, row_of(plane, n, height, i), w);
+        }
+    }
+}
+
+// The sums of the weighted samples of each column around the row y.
+pub fn accumulate_rows(acc: &mut [f32], plane: &[f32], height: usize, radius: usize, y: usize)
+    requires { ⌜ (radius ≤ 64) × (y < height) × (height ≤ 1024) × (length (now plane) ≡ height * length (now acc)) ⌝ }
+    ensures { λ _. ⌜ now (acc .exit) ≡ fill (λ x. Blur.weighted (λ i. cell (now (plane .entry)) (length (now (acc .entry))) x i) height radius y) (now (acc .entry)) ⌝ }
+{
+    clear(acc);
+    let mut k = 0usize;
+    while k < 2 * radius + 1 {
+        add_row(acc, plane, height, radius, y, k);
+        k += 1;
+    }
+}
+
+// Room for a line of samples.
+pub fn line() -> [f32; 1024]
+    ensures { λ r. ⌜ length r ≡ 1024 ⌝ }
+{
+    [0.0f32; 1024]
+}
+
+// Room for a line of three channels.
+pub fn line3() -> [f32; 3072]
+    ensures { λ r. ⌜ length r ≡ 3072 ⌝ }
+{
+    [0.0f32; 3072]
+}
