@@ -1,2 +1,3 @@
 -- Laws that several proofs share.
 mod Offsets
+mod Chroma

@@ -14,7 +14,7 @@ use borrow.Author.Tests.{le-leb, lt-leb, lt-ltb, le-ltb, ltb-true}
 use Rattle.num.specs.Const.{c0·0}
 use Rattle.num.specs.F32.{_⊕_, _⊗_}
 use Rattle.passes.specs.Rewrite.{every, fill, every-twice, length-rewrite, rewrite-ext, rewrite-same, getD-fill, mid}
-use Rattle.passes.specs.Blur.{at, cell, weight, distance, inside, taken, step, total, weights, weighted, ratio, blurBy}
+use Rattle.passes.specs.Blur.{at, cell, weight, distance, inside, taken, step, total, weights, weighted, ratio, blurBy, blurAt}
 
 lt-or-le : (a b : ℕ) → (a < b) ⊎ (b ≤ a)
 lt-or-le a zero = inr zero-le
@@ -58,6 +58,10 @@ total-same term term′ n radius x (suc k) h =
 pub blur-same : (sums f g : ℕ → Float) (n radius x : ℕ) → ((i : ℕ) → i < n → f i ≡ g i) → blurBy sums f n radius x ≡ blurBy sums g n radius x
 blur-same sums f g n radius x h =
     ap (λ (s : Float). ratio s (sums x)) (total-same _ _ n radius x (2 * radius + 1) (λ i w l. ap (λ (v : Float). v ⊗ w) (h i l)))
+
+-- with the sums of weights that the definition has
+pub blur-by : (sums f : ℕ → Float) (n radius x : ℕ) → sums x ≡ weights n radius x → blurBy sums f n radius x ≡ blurAt f n radius x
+blur-by sums f n radius x e = ap (ratio (weighted f n radius x)) e
 
 pub total-more : (term : ℕ → Float → Float) (n radius x k : ℕ) → total term n radius x (k + 1) ≡ step term n radius x k (total term n radius x k)
 unfolding total

@@ -9,3 +9,4 @@ pub mod ColorCorrection
 pub mod AutoGradient
 pub mod Curvature
 pub mod Blur
+pub mod Ntsc

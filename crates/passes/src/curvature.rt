@@ -72,13 +72,7 @@ fn rows(frame: &mut [u32], copy: &[u32], width: usize, height: usize, amount: f3
 }
 
 // The scratch past the frame's words stays.
-pub fn apply(
-    frame: &mut [u32],
-    scratch: &mut [u32],
-    width: usize,
-    height: usize,
-    amount: f32,
-)
+pub fn apply(frame: &mut [u32], scratch: &mut [u32], width: usize, height: usize, amount: f32)
     requires { ⌜ Frame width height (now frame) ⌝ ∗ ⌜ length (now frame) ≤ length (now scratch) ⌝ }
     ensures { λ _. ⌜ (now (frame .exit) ≡ Curvature.curvature width height amount (now (frame .entry))) × (drop (length (now (frame .entry))) (now (scratch .exit)) ≡ drop (length (now (frame .entry))) (now (scratch .entry))) ⌝ }
 {

@@ -1,9 +1,10 @@
 // The ten passes over a lent frame, each in the module named as the original's file.
 pub mod auto_gradient;
+pub mod blur;
 pub mod color_correction;
+pub mod curvature;
 pub mod lut;
+pub mod ntsc;
 pub mod pixel;
 pub mod rows;
 pub mod scanlines;
-pub mod curvature;
-pub mod blur;

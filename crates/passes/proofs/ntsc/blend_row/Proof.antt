@@ -1,0 +1,25 @@
+-- Assumes nothing.
+use Prim.Native.Nat.{_-_}
+use native.Mathlib.Omega.{arith}
+use lib.ListN.{length}
+use Rattle.passes.specs.Rewrite.{Rewritten, none, more, all}
+use Rattle.passes.specs.Blur.{at}
+use Rattle.passes.specs.Ntsc.{pixel}
+use Rattle.passes.proofs.ntsc.blend_row.Statement.{statement}
+use Rattle.passes.proofs.ntsc.blend_row.Tie as tie
+
+abbrev Inv-loop : tie.InvT-loop
+Inv-loop row₀ u v strength x₀ row x = Rewritten x (λ k. pixel strength (at u k) (at v k)) row₀ row
+
+abbrev μ-loop : tie.MeasureT-loop
+μ-loop row₀ u v strength x₀ row x = length row₀ - x
+
+loop-again : tie.Need-loop-again Inv-loop μ-loop
+loop-again c = more (c .before .before .before .before .before .loop .inv) 0 (omega arith) (c .pixel .ensures)
+
+pub blend-row-spec : {M : Type 1} → statement M
+blend-row-spec =
+    tie.close
+    (tie.spec Inv-loop μ-loop (λ c. none _ _) (λ c. omega arith) (λ c. omega arith) (λ c. omega arith) (λ c. omega arith)
+    (λ c. omega arith) (λ c. omega arith) (λ c κs. tt) (λ c. omega arith) (λ c. omega arith) (λ c. omega arith) (λ c. omega arith)
+    loop-again (λ c. omega arith) (λ c. all (c .before .loop .inv) (c .loop-test .left)))

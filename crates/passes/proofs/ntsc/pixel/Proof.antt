@@ -1,0 +1,11 @@
+-- `passes::ntsc::pixel` meets its contract. Assumes nothing.
+use Rattle.passes.specs.Ntsc.{pixel}
+use Rattle.passes.proofs.ntsc.pixel.Statement.{statement}
+use Rattle.passes.proofs.ntsc.pixel.Tie as tie
+
+returns : tie.Need-returns
+unfolding pixel
+returns c = cc
+
+pub pixel-spec : {M : Type 1} → statement M
+pixel-spec = tie.close (tie.spec (λ c κs. tt) (λ c κs. tt) (λ c κs. tt) (λ c κs. tt) (λ c κs. tt) returns)
