@@ -1,3 +1,4 @@
 -- Laws that several proofs share.
 mod Offsets
 mod Chroma
+mod Planes

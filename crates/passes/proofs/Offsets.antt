@@ -14,7 +14,7 @@ use borrow.Author.Tests.{le-leb, lt-leb, lt-ltb, le-ltb, ltb-true}
 use Rattle.num.specs.Const.{c0·0}
 use Rattle.num.specs.F32.{_⊕_, _⊗_}
 use Rattle.passes.specs.Rewrite.{every, fill, every-twice, length-rewrite, rewrite-ext, rewrite-same, getD-fill, mid}
-use Rattle.passes.specs.Blur.{at, cell, weight, distance, inside, taken, step, total, weights, weighted, ratio, blurBy, blurAt}
+use Rattle.passes.specs.Blur.{at, cell, weight, distance, inside, taken, step, total, weights, weighted, ratio, blurBy, blurAt, WeightLine}
 
 lt-or-le : (a b : ℕ) → (a < b) ⊎ (b ≤ a)
 lt-or-le a zero = inr zero-le
@@ -149,11 +149,9 @@ module _ (acc plane : List Float) (h radius y k : ℕ) where
 pub front : (line : List Float) (n w : ℕ) → length line ≡ n → w ≤ n → length (take w line) ≡ w
 front line n w e h = length-take-le w line (omega arith)
 
--- what a line that was filled with sums of weights says
-pub weight-at : (ws entry : List Float) (n radius x : ℕ) → length entry ≡ n → ws ≡ fill (weights (length entry) radius) entry → x < n
-    → at ws x ≡ weights n radius x
-weight-at ws entry n radius x e f l =
-    ap (λ (z : List Float). at z x) f ∙ getD-fill (weights (length entry) radius) entry x nan (omega arith) ∙ ap (λ (m : ℕ). weights m radius x) e
+-- its sums of weights, where they are lent
+pub weight-at : (line : List Float) (n radius x : ℕ) → WeightLine n radius line → x < n → at (take n line) x ≡ weights n radius x
+weight-at line n radius x t l = getD-take n line x nan l ∙ t .sum x l
 
 -- a line that was filled by f, blurred: at one place, as a line, and read from that line
 module _ (sums f : ℕ → Float) (n radius : ℕ) (line₀ line : List Float) (el : length line₀ ≡ n) (e : line ≡ fill f line₀) where

@@ -2,9 +2,10 @@
 -- The offsets -radius .. radius are numbered k = 0 .. 2 * radius: offset k of the sample x is the sample x + k - radius. Assumes nothing.
 use mathlib.Core.Bool.{Bool, true, false, _&&_, cond}
 use mathlib.Core.List.{List}
-use Prim.Native.Nat.{ℕ, zero, suc, _+_, _-_, _*_}
+use mathlib.Core.Path.{_≡_}
+use Prim.Native.Nat.{ℕ, zero, suc, _+_, _-_, _*_, _<_}
 use lib.Dec.{leb, ltb}
-use lib.ListN.{getD}
+use lib.ListN.{length, getD}
 use lib.Ieee.{Float, nan, lt}
 use Rattle.num.specs.Const.{c0·0, c1·0}
 use Rattle.num.specs.F32.{_⊕_, _⊖_, _⊗_, _⊘_, whole}
@@ -65,3 +66,8 @@ at line i = getD line i nan
 
 abbrev pub cell : List Float → ℕ → ℕ → ℕ → Float
 cell plane w x y = at plane (y * w + x)
+
+-- a line of 1024 places that begins with the sums of weights of n samples
+pub record WeightLine (n radius : ℕ) (line : List Float) : Type 0 where
+  pub long : length line ≡ 1024
+  pub sum : (x : ℕ) → x < n → at line x ≡ weights n radius x

@@ -10,3 +10,4 @@ pub mod AutoGradient
 pub mod Curvature
 pub mod Blur
 pub mod Ntsc
+pub mod Bloom

@@ -105,19 +105,6 @@ pub fn weight_sum(n: usize, radius: usize, x: usize) -> f32
     sum
 }
 
-// The sums of the weights of each place of a line.
-pub fn weight_sums(out: &mut [f32], radius: usize)
-    requires { ⌜ (radius ≤ 64) × (length (now out) ≤ 1024) ⌝ }
-    ensures { λ _. ⌜ now (out .exit) ≡ fill (Blur.weights (length (now (out .entry))) radius) (now (out .entry)) ⌝ }
-{
-    let n = out.len();
-    let mut x = 0usize;
-    while x < out.len() {
-        out[x] = weight_sum(n, radius, x);
-        x += 1;
-    }
-}
-
 // sum / w where w is above 0, else 0
 pub fn quotient(sum: f32, w: f32) -> f32
     ensures { λ r. ⌜ r ≡ Blur.ratio sum w ⌝ }
@@ -196,4 +183,18 @@ pub fn line3() -> [f32; 3072]
     ensures { λ r. ⌜ length r ≡ 3072 ⌝ }
 {
     [0.0f32; 3072]
+}
+
+// The sums of the weights of each place of a line of n samples.
+pub fn weight_line(n: usize, radius: usize) -> [f32; 1024]
+    requires { ⌜ (radius ≤ 64) × (n ≤ 1024) ⌝ }
+    ensures { λ r. ⌜ Blur.WeightLine n radius r ⌝ }
+{
+    let mut out = line();
+    let mut x = 0usize;
+    while x < n {
+        out[x] = weight_sum(n, radius, x);
+        x += 1;
+    }
+    out
 }

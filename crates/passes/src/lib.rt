@@ -1,5 +1,6 @@
 // The ten passes over a lent frame, each in the module named as the original's file.
 pub mod auto_gradient;
+pub mod bloom;
 pub mod blur;
 pub mod color_correction;
 pub mod curvature;

@@ -113,8 +113,7 @@ pub fn apply(frame: &mut [u32], width: usize, height: usize, strength: f32, blee
     let mut line = blur::line();
     let mut u = blur::line();
     let mut v = blur::line();
-    let mut w = blur::line();
-    blur::weight_sums(&mut w[..width], bleed);
+    let w = blur::weight_line(width, bleed);
     rows(
         frame,
         &mut line[..width],

@@ -1,0 +1,11 @@
+-- `passes::bloom::composite` meets its contract. Assumes nothing.
+use Rattle.passes.specs.Bloom.{composite}
+use Rattle.passes.proofs.bloom.composite.Statement.{statement}
+use Rattle.passes.proofs.bloom.composite.Tie as tie
+
+returns : tie.Need-returns
+unfolding composite
+returns c = cc
+
+pub composite-spec : {M : Type 1} → statement M
+composite-spec = tie.close (tie.spec (λ c κs. tt) (λ c κs. tt) returns)
