@@ -2,3 +2,5 @@
 mod Offsets
 mod Chroma
 mod Planes
+mod Mirror
+mod Quarter
