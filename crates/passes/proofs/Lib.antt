@@ -1,6 +1,7 @@
--- Laws that several proofs share.
+-- Laws that the proofs of several functions cite.
 mod Offsets
 mod Chroma
 mod Planes
 mod Mirror
 mod Quarter
+mod Places

@@ -14,3 +14,6 @@ pub mod Lut
 pub mod ColorCorrection
 pub mod Ntsc
 pub mod Bloom
+pub mod Flow
+pub mod Persistence
+pub mod PersistenceLaws

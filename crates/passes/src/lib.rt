@@ -7,6 +7,7 @@ pub mod crt;
 pub mod curvature;
 pub mod lut;
 pub mod ntsc;
+pub mod persistence;
 pub mod pixel;
 pub mod rows;
 pub mod scanlines;

@@ -1,0 +1,60 @@
+-- `passes::persistence::blend` meets its contract: the weights stand at the front of a local line. Assumes nothing.
+use Prim.Native.Nat.{ℕ, _*_, _≤_}
+use mathlib.Core.Path.{_≡_, sym, ap, subst, _∙_}
+use mathlib.Core.List.{List, _++_}
+use native.Mathlib.Omega.{arith}
+use lib.ListN.{length, getD, take, drop, length-append}
+use lib.Seq.{length-take-le, take-at}
+use lib.Ieee.{Float, nan}
+use borrow.Author.Needs.{needs}
+use Rattle.num.specs.Const.{c1·0}
+use Rattle.num.specs.F32.{_⊘_}
+use Rattle.passes.specs.Persistence.{total, weight, blended, blend}
+use Rattle.passes.specs.PersistenceLaws.{blended-same}
+use Rattle.passes.specs.Rewrite.{fill, getD-fill, length-rewrite}
+use Rattle.passes.proofs.persistence.blend.Statement.{statement}
+use Rattle.passes.proofs.persistence.blend.Tie as tie
+
+-- a blend by weights that were filled in
+by-weights : {picture : List ℕ} {ws : List Float} {sum : Float} (line : List Float) (amount : Float) (k : ℕ) (past frame : List ℕ) → length line ≡ k
+    → picture ≡ blended (c1·0 ⊘ sum) (λ j. getD ws j nan) (length ws) past frame → ws ≡ fill (weight amount sum) line → sum ≡ total amount k
+    → picture ≡ blend amount k past frame
+unfolding blend
+by-weights {picture} {ws} {sum} line amount k past frame l h e s =
+    let many : length ws ≡ k = ap length e ∙ length-rewrite (length line) _ line ∙ l in
+    h ∙ ap (λ (m : ℕ). blended (c1·0 ⊘ sum) (λ j. getD ws j nan) m past frame) many
+    ∙ blended-same (c1·0 ⊘ sum) (λ j. getD ws j nan) (weight amount sum) k past frame (λ j h. rw e (getD-fill (weight amount sum) line j nan (omega arith)))
+    ∙ ap (λ (t : Float). blended (c1·0 ⊘ t) (weight amount t) k past frame) s
+
+-- the part of the line that is lent
+part : (c : tie.After-line) → let k = c .before .before .before .before .args .depth in length (take k (c .line .result)) ≡ k
+part c = length-take-le _ (c .line .result) (omega (arith, c .line .ensures, c .before .before .before .before .pre .0))
+
+-- as many weights as the depth, and the line begins with them
+many : (c : tie.After-weights) → length (c .weights .last .0) ≡ c .before .before .before .before .before .before .args .depth
+many c = c .weights .kept .0 ∙ part (c .before .before)
+
+begins : (c : tie.After-weights) → let k = c .before .before .before .before .before .before .args .depth in
+    take k (c .weights .last .0 ++ drop k (c .before .before .line .result)) ≡ c .weights .last .0
+begins c = take-at (c .weights .last .0) _ _ (many c)
+
+blended-requires : tie.Need-blended-requires
+blended-requires c κs =
+    let d = c .before .before .before in
+    let start = d .before .before .before .before .before .before in
+    subst (λ (m : ℕ). m * length (start .args .frame .now) ≤ length (start .args .history .now)) (sym (ap length (begins d) ∙ many d)) (start .pre .1)
+
+returns : tie.Need-returns
+returns c =
+    let d = c .before .before .before .before .before .before in
+    let after-line = d .before .before in
+    let k = after-line .before .before .before .before .args .depth in
+    by-weights (take k (after-line .line .result)) _ k _ _ (part after-line) (c .before .before .blended .ensures)
+    (begins d ∙ d .weights .ensures) (after-line .before .total .ensures)
+
+pub blend-spec : {M : Type 1} → statement M
+blend-spec =
+    tie.close
+    (tie.spec (λ c κs. tt) (λ c κs. tt) (λ c. search needs) (λ c. sym (part (c .before))) (λ c κs. tt)
+    (λ c. simp length-append (omega (arith, many (c .before .before)))) (λ c. sym (ap length (begins (c .before .before .before)) ∙ many (c .before .before .before)))
+    blended-requires (λ c. search needs) returns)
