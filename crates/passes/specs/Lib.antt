@@ -17,3 +17,5 @@ pub mod Bloom
 pub mod Flow
 pub mod Persistence
 pub mod PersistenceLaws
+pub mod Lengths
+pub mod Cases

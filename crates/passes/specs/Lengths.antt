@@ -1,0 +1,77 @@
+-- A pass keeps the length of its frame, and persistence that of the history too. Assumes nothing.
+use mathlib.Core.Path.{_≡_, refl, ap}
+use mathlib.Core.Bool.{Bool, true, false, cond}
+use mathlib.Core.List.{List}
+use Prim.Native.Nat.{ℕ, _*_, _≤_}
+use lib.Dec.{eqb}
+use lib.ListN.{length}
+use lib.Ieee.{Float}
+use Rattle.passes.specs.Rewrite.{length-rewrite}
+use Rattle.passes.specs.Scanlines.{scanlines}
+use Rattle.passes.specs.Vignette.{vignette}
+use Rattle.passes.specs.Crt.{crt}
+use Rattle.passes.specs.Curvature.{curvature}
+use Rattle.passes.specs.AutoGradient.{autoGradient, shaded}
+use Rattle.passes.specs.Lut.{lut}
+use Rattle.passes.specs.ColorCorrection.{colorCorrection}
+use Rattle.passes.specs.Ntsc.{ntsc}
+use Rattle.passes.specs.Bloom.{bloom}
+use Rattle.passes.specs.Flow.{Flow, flow}
+use Rattle.passes.specs.Persistence.{persistence, blend, shifted, refilled}
+use Rattle.passes.specs.PersistenceLaws.{blend-length, shifted-length, refilled-length}
+
+module _ (w h : ℕ) (s : Float) (frame : List ℕ) where
+  pub scanlines-length : length (scanlines w s frame) ≡ length frame
+  unfolding scanlines
+  scanlines-length = length-rewrite _ _ _
+
+  pub vignette-length : length (vignette w h s frame) ≡ length frame
+  unfolding vignette
+  vignette-length = length-rewrite _ _ _
+
+  pub crt-length : length (crt w h s frame) ≡ length frame
+  unfolding crt
+  crt-length = length-rewrite _ _ _
+
+  pub curvature-length : length (curvature w h s frame) ≡ length frame
+  unfolding curvature
+  curvature-length = length-rewrite _ _ _
+
+  pub auto-gradient-length : (vertical horizontal : Float) → length (autoGradient w h s vertical horizontal frame) ≡ length frame
+  unfolding autoGradient shaded
+  auto-gradient-length vertical horizontal = length-rewrite _ _ _
+
+  pub lut-length : (preset : ℕ) → length (lut preset s frame) ≡ length frame
+  unfolding lut
+  lut-length preset = length-rewrite _ _ _
+
+  pub color-correction-length : (contrast saturation : Float) → length (colorCorrection s contrast saturation frame) ≡ length frame
+  unfolding colorCorrection
+  color-correction-length contrast saturation = length-rewrite _ _ _
+
+  pub ntsc-length : (bleed : ℕ) → length (ntsc w s bleed frame) ≡ length frame
+  unfolding ntsc
+  ntsc-length bleed = length-rewrite _ _ _
+
+  pub bloom-length : (threshold radius : ℕ) → length (bloom w h threshold s radius frame) ≡ length frame
+  unfolding bloom
+  bloom-length threshold radius = length-rewrite _ _ _
+
+module _ (amount : Float) (k : ℕ) (x : Flow) where
+  pub persistence-length : length (persistence amount k x .frame) ≡ length (x .frame)
+  unfolding persistence
+  persistence-length = either (eqb (x .held) (length (x .frame)))
+    where
+      either : (b : Bool) → length (cond b (flow (blend amount k (x .past) (x .frame)) (length (x .frame)) (shifted k (x .frame) (x .past)))
+          (flow (x .frame) (length (x .frame)) (refilled k (x .frame) (x .past))) .frame) ≡ length (x .frame)
+      either true = blend-length amount k (x .past) (x .frame)
+      either false = refl
+
+  pub history-length : k * length (x .frame) ≤ length (x .past) → length (persistence amount k x .past) ≡ length (x .past)
+  unfolding persistence
+  history-length h = either (eqb (x .held) (length (x .frame)))
+    where
+      either : (b : Bool) → length (cond b (flow (blend amount k (x .past) (x .frame)) (length (x .frame)) (shifted k (x .frame) (x .past)))
+          (flow (x .frame) (length (x .frame)) (refilled k (x .frame) (x .past))) .past) ≡ length (x .past)
+      either true = shifted-length k (x .frame) (x .past) h
+      either false = refilled-length k (x .frame) (x .past) h
