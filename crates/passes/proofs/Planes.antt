@@ -1,15 +1,14 @@
 -- Bloom by rows and planes. Assumes nothing.
-use mathlib.Core.Path.{_≡_, refl, sym, ap, _∙_}
+use mathlib.Core.Path.{_≡_, ap, _∙_}
 use mathlib.Core.List.{List}
 use Prim.Native.Nat.{ℕ, _+_, _-_, _*_, _/_, _%_, _≤_, _<_}
 use native.Mathlib.Omega.{arith}
-use native.Mathlib.Nat.{mul-assoc, mul-comm}
 use lib.ListN.{length, getD, take, drop, length-drop}
 use lib.Seq.{length-take-le, getD-take, getD-drop}
 use lib.Ieee.{Float, nan}
 use Rattle.passes.specs.Pixel.{rgb}
 use Rattle.passes.specs.Rows.{sampled, getD-sampled, column, row, row-ends}
-use Rattle.passes.specs.Blur.{at, cell, weights, blurBy, down}
+use Rattle.passes.specs.Blur.{at, weights, blurBy, down}
 use Rattle.passes.specs.Bloom.{composite, brightOf, sample, horizontalBy, stored}
 use Rattle.passes.proofs.Offsets.{blur-same}
 

@@ -11,7 +11,6 @@ use Rattle.passes.specs.Pixel.{luma709, packLimited, unpack, rgb}
 use Rattle.passes.specs.Position.{position}
 use Rattle.passes.specs.Rewrite.{every}
 use Rattle.passes.specs.Rows.{placed}
-use Rattle.passes.specs.declared.pixel.Rgb.{Rgb}
 
 -- the sum so far and a word's luma
 unfoldable pub addLuma : Float → ℕ → Float

@@ -9,12 +9,9 @@ use Rattle.passes.proofs.auto_gradient.adaptive.Tie as tie
 int-to-float-clamp : tie.Need-int-to-float-clamp
 int-to-float-clamp c = in-float _ (omega arith)
 
-clamp-requires : tie.Need-clamp-requires
-clamp-requires c κs = search needs
-
 returns : tie.Need-returns
 unfolding adaptive
 returns c = cc
 
 pub adaptive-spec : {M : Type 1} → statement M
-adaptive-spec = tie.close (tie.spec int-to-float-clamp clamp-requires returns)
+adaptive-spec = tie.close (tie.spec int-to-float-clamp (λ c κs. search needs) returns)

@@ -13,9 +13,6 @@ Inv-loop row₀ y w h vertical horizontal a t x₀ row x = Rewritten x (λ k. at
 abbrev μ-loop : tie.MeasureT-loop
 μ-loop row₀ y w h vertical horizontal a t x₀ row x = length row₀ - x
 
-loop-holds : tie.Need-loop-holds Inv-loop μ-loop
-loop-holds c = none _ _
-
 loop-again : tie.Need-loop-again Inv-loop μ-loop
 loop-again c =
     let in-loop = c .before .before .before in
@@ -27,5 +24,5 @@ returns c = all (c .before .loop .inv) (c .loop-test .left)
 pub row-spec : {M : Type 1} → statement M
 row-spec =
     tie.close
-    (tie.spec Inv-loop μ-loop (λ c κs. omega arith) loop-holds (λ c κs. omega arith) (λ c. omega arith) (λ c. omega arith) (λ c κs. tt)
-    (λ c. omega arith) (λ c. omega arith) (λ c. omega arith) (λ c. omega arith) loop-again (λ c. omega arith) returns)
+    (tie.spec Inv-loop μ-loop (λ c κs. omega arith) (λ c. none _ _) (λ c κs. omega arith) (λ c. omega arith) (λ c. omega arith) (λ c κs. tt) (λ c. omega arith)
+    (λ c. omega arith) (λ c. omega arith) (λ c. omega arith) loop-again (λ c. omega arith) returns)

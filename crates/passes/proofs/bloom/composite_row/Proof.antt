@@ -1,5 +1,5 @@
 -- `passes::bloom::composite_row` meets its contract. Assumes nothing.
-use Prim.Native.Nat.{ℕ, _+_, _*_, _-_}
+use Prim.Native.Nat.{_+_, _*_, _-_}
 use mathlib.Core.Path.{_∙_}
 use native.Mathlib.Omega.{arith}
 use lib.ListN.{length}
@@ -29,10 +29,7 @@ loop-again c =
 pub composite-row-spec : {M : Type 1} → statement M
 composite-row-spec =
     tie.close
-    (tie.spec Inv-loop μ-loop (λ c. none _ _)
-    (λ c. omega arith) (λ c. omega arith) (λ c κs. tt)
-    (λ c. omega arith) (λ c. omega arith) (λ c. omega arith) (λ c κs. tt)
-    (λ c. omega arith) (λ c. omega arith) (λ c. omega arith) (λ c. omega arith) (λ c κs. tt)
-    (λ c. omega arith) (λ c. omega arith) (λ c κs. tt)
-    (λ c. omega arith) (λ c. omega arith) (λ c. omega arith) (λ c. omega arith)
-    loop-again (λ c. omega arith) (λ c. all (c .before .loop .inv) (c .loop-test .left)))
+    (tie.spec Inv-loop μ-loop (λ c. none _ _) (λ c. omega arith) (λ c. omega arith) (λ c κs. tt) (λ c. omega arith) (λ c. omega arith) (λ c. omega arith)
+    (λ c κs. tt) (λ c. omega arith) (λ c. omega arith) (λ c. omega arith) (λ c. omega arith) (λ c κs. tt) (λ c. omega arith) (λ c. omega arith) (λ c κs. tt)
+    (λ c. omega arith) (λ c. omega arith) (λ c. omega arith) (λ c. omega arith) loop-again (λ c. omega arith)
+    (λ c. all (c .before .loop .inv) (c .loop-test .left)))

@@ -3,7 +3,7 @@ use Prim.Native.Nat.{ℕ, _+_, _-_, _*_, _≤_, _<_}
 use mathlib.Core.Path.{_≡_, sym, ap, _∙_}
 use mathlib.Core.List.{List}
 use native.Mathlib.Omega.{arith}
-use native.Mathlib.Nat.{zero-mul, one-mul, zero-add}
+use native.Mathlib.Nat.{zero-mul, one-mul}
 use lib.ListN.{length, take, drop}
 use lib.Ieee.{Float, nan}
 use Rattle.passes.specs.Pixel.{rgb}
@@ -88,6 +88,5 @@ composite-rows-spec =
     tie.close
     (tie.spec Inv-loop μ-loop loop-holds (λ c. omega (arith, frame-in c)) accumulate-rows-requires (λ c κs. omega arith)
     (λ c. omega (arith, frame-in (c .before .before .before .before .before))) (λ c. omega arith) (λ c. omega arith)
-    (λ c. omega (arith, frame-in (c .before .before .before .before .before)))
-    composite-row-requires (λ c. omega arith) (λ c. omega arith) loop-again
+    (λ c. omega (arith, frame-in (c .before .before .before .before .before))) composite-row-requires (λ c. omega arith) (λ c. omega arith) loop-again
     (λ c. c .before .loop .inv .1 .so-far .kept) (λ c. omega arith) returns)

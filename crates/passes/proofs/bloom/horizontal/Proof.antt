@@ -66,9 +66,7 @@ returns c = rows-all (c .before .loop .inv .2) (c .loop-test .left)
 pub horizontal-spec : {M : Type 1} → statement M
 horizontal-spec =
     tie.close
-    (tie.spec Inv-loop μ-loop loop-holds
-    (λ c. omega (arith, planes-in c)) (λ c. omega (arith, planes-in c)) (λ c. omega (arith, frame-in c))
-    (λ c. omega (arith, planes-in c)) (λ c. omega arith) (λ c. omega arith) (λ c. omega (arith, planes-in c))
-    (λ c. omega (arith, frame-in (c .before))) (λ c. omega arith) (λ c. omega arith) (λ c. omega (arith, frame-in (c .before)))
-    horizontal-row-requires (λ c. omega arith) (λ c. omega arith) loop-again
+    (tie.spec Inv-loop μ-loop loop-holds (λ c. omega (arith, planes-in c)) (λ c. omega (arith, planes-in c)) (λ c. omega (arith, frame-in c))
+    (λ c. omega (arith, planes-in c)) (λ c. omega arith) (λ c. omega arith) (λ c. omega (arith, planes-in c)) (λ c. omega (arith, frame-in (c .before)))
+    (λ c. omega arith) (λ c. omega arith) (λ c. omega (arith, frame-in (c .before))) horizontal-row-requires (λ c. omega arith) (λ c. omega arith) loop-again
     (λ c. c .before .loop .inv .2 .so-far .kept) (λ c. omega arith) returns)

@@ -1,6 +1,6 @@
 -- `passes::bloom::horizontal_row` meets its contract: channel by channel, as rows of a frame three high. Assumes nothing.
-use Prim.Native.Nat.{ℕ, _-_}
-use mathlib.Core.Path.{_≡_, refl, _∙_, ap}
+use Prim.Native.Nat.{_-_}
+use mathlib.Core.Path.{_≡_, _∙_}
 use native.Mathlib.Omega.{arith}
 use lib.ListN.{length, getD}
 use Rattle.passes.specs.Rows.{Rowed, no-rows, row-in, row-length, row-done, rows-all}
@@ -40,10 +40,7 @@ returns c = rows-all (c .before .loop .inv .1) (c .loop-test .left)
 pub horizontal-row-spec : {M : Type 1} → statement M
 horizontal-row-spec =
     tie.close
-    (tie.spec Inv-loop μ-loop loop-holds
-    (λ c. omega (arith, row-in (c .before .loop .inv .1) (c .loop-test .taken)))
-    (λ c. omega (arith, row-in (c .before .loop .inv .1) (c .loop-test .taken)))
-    (λ c. omega arith) (λ c. omega arith)
-    (λ c. omega (arith, row-in (c .before .loop .inv .1) (c .loop-test .taken)))
-    blurred-line-requires (λ c. omega arith) (λ c. omega arith) loop-again
+    (tie.spec Inv-loop μ-loop loop-holds (λ c. omega (arith, row-in (c .before .loop .inv .1) (c .loop-test .taken)))
+    (λ c. omega (arith, row-in (c .before .loop .inv .1) (c .loop-test .taken))) (λ c. omega arith) (λ c. omega arith)
+    (λ c. omega (arith, row-in (c .before .loop .inv .1) (c .loop-test .taken))) blurred-line-requires (λ c. omega arith) (λ c. omega arith) loop-again
     (λ c. c .before .loop .inv .1 .so-far .kept) (λ c. omega arith) returns)

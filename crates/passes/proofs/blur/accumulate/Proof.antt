@@ -1,13 +1,9 @@
--- After k offsets each place has the definition's sum over the first k. Assumes nothing.
-use mathlib.Core.Path.{_≡_, refl, sym, _∙_, ap}
-use mathlib.Core.List.{List}
-use Prim.Native.Nat.{ℕ, _+_, _-_, _*_, _≤_}
+-- `passes::blur::accumulate` meets its contract: after k offsets each place has the definition's sum over the first k. Assumes nothing.
+use Prim.Native.Nat.{_+_, _-_, _*_}
 use native.Mathlib.Omega.{arith}
 use lib.ListN.{length}
-use lib.Ieee.{Float}
 use borrow.Author.Needs.{needs}
 use Rattle.num.specs.F32.{_⊗_}
-use Rattle.passes.specs.Rewrite.{fill}
 use Rattle.passes.specs.Blur.{at}
 use Rattle.passes.proofs.Offsets.{Summed, summed-none, summed-more, summed-all}
 use Rattle.passes.proofs.blur.accumulate.Statement.{statement}
@@ -33,16 +29,5 @@ returns c = summed-all (c .before .loop .inv) (c .before .before .before .before
 pub accumulate-spec : {M : Type 1} → statement M
 accumulate-spec =
     tie.close
-    (tie.spec
-    Inv-loop
-    μ-loop
-    (λ c κs. search needs)
-    loop-holds
-    (λ c. omega arith)
-    (λ c. omega arith)
-    (λ c κs. omega arith)
-    (λ c. omega arith)
-    (λ c. omega arith)
-    loop-again
-    (λ c. omega arith)
-    returns)
+    (tie.spec Inv-loop μ-loop (λ c κs. search needs) loop-holds (λ c. omega arith) (λ c. omega arith) (λ c κs. omega arith) (λ c. omega arith) (λ c. omega arith)
+    loop-again (λ c. omega arith) returns)

@@ -1,10 +1,8 @@
--- After k offsets each column has the definition's sum over the first k. Assumes nothing.
-use mathlib.Core.Path.{_≡_, refl, sym, _∙_, ap}
-use mathlib.Core.List.{List}
-use Prim.Native.Nat.{ℕ, _+_, _-_, _*_, _≤_}
+-- `passes::blur::accumulate_rows` meets its contract: after k offsets each column has the definition's sum over the first k. Assumes nothing.
+use mathlib.Core.Path.{sym, _∙_, ap}
+use Prim.Native.Nat.{ℕ, _+_, _-_, _*_}
 use native.Mathlib.Omega.{arith}
 use lib.ListN.{length}
-use lib.Ieee.{Float}
 use borrow.Author.Needs.{needs}
 use Rattle.num.specs.F32.{_⊗_}
 use Rattle.passes.specs.Rewrite.{every, fill}
@@ -48,16 +46,5 @@ returns c =
 pub accumulate-rows-spec : {M : Type 1} → statement M
 accumulate-rows-spec =
     tie.close
-    (tie.spec
-    Inv-loop
-    μ-loop
-    (λ c κs. search needs)
-    loop-holds
-    (λ c. omega arith)
-    (λ c. omega arith)
-    add-row-requires
-    (λ c. omega arith)
-    (λ c. omega arith)
-    loop-again
-    (λ c. omega arith)
-    returns)
+    (tie.spec Inv-loop μ-loop (λ c κs. search needs) loop-holds (λ c. omega arith) (λ c. omega arith) add-row-requires (λ c. omega arith) (λ c. omega arith)
+    loop-again (λ c. omega arith) returns)

@@ -1,5 +1,4 @@
--- The loop fills `acc` from the front with the scaled sums.
--- Assumes nothing.
+-- `passes::blur::add_scaled` meets its contract: scaled samples are added from the front. Assumes nothing.
 use mathlib.Core.Path.{refl}
 use Prim.Native.Nat.{_-_}
 use native.Mathlib.Omega.{arith}
@@ -25,18 +24,5 @@ loop-again c =
 pub add-scaled-spec : {M : Type 1} → statement M
 add-scaled-spec =
     tie.close
-    (tie.spec
-    Inv-loop
-    μ-loop
-    (λ c. none _ _)
-    (λ c. omega arith)
-    (λ c. omega arith)
-    (λ c. omega arith)
-    (λ c. omega arith)
-    (λ c. omega arith)
-    (λ c. omega arith)
-    (λ c. omega arith)
-    (λ c. omega arith)
-    loop-again
-    (λ c. c .before .loop .inv .kept)
-    (λ c. all (c .before .loop .inv) (omega arith)))
+    (tie.spec Inv-loop μ-loop (λ c. none _ _) (λ c. omega arith) (λ c. omega arith) (λ c. omega arith) (λ c. omega arith) (λ c. omega arith) (λ c. omega arith)
+    (λ c. omega arith) (λ c. omega arith) loop-again (λ c. c .before .loop .inv .kept) (λ c. all (c .before .loop .inv) (omega arith)))

@@ -1,5 +1,4 @@
--- The loop fills `acc` with 0.0.
--- Assumes nothing.
+-- `passes::blur::clear` meets its contract: 0.0 from the front. Assumes nothing.
 use mathlib.Core.Path.{refl}
 use Prim.Native.Nat.{_-_}
 use native.Mathlib.Omega.{arith}
@@ -18,14 +17,5 @@ abbrev μ-loop : tie.MeasureT-loop
 pub clear-spec : {M : Type 1} → statement M
 clear-spec =
     tie.close
-    (tie.spec
-    Inv-loop
-    μ-loop
-    (λ c. none _ _)
-    (λ c. omega arith)
-    (λ c. omega arith)
-    (λ c. omega arith)
-    (λ c. omega arith)
-    (λ c. more (c .before .loop .inv) c0·0 (omega arith) refl)
-    (λ c. c .before .loop .inv .kept)
-    (λ c. all (c .before .loop .inv) (omega arith)))
+    (tie.spec Inv-loop μ-loop (λ c. none _ _) (λ c. omega arith) (λ c. omega arith) (λ c. omega arith) (λ c. omega arith)
+    (λ c. more (c .before .loop .inv) c0·0 (omega arith) refl) (λ c. c .before .loop .inv .kept) (λ c. all (c .before .loop .inv) (omega arith)))

@@ -1,4 +1,4 @@
--- Assumes nothing.
+-- `passes::blur::weight` meets its contract. Assumes nothing.
 use mathlib.Core.Path.{refl}
 use native.Mathlib.Omega.{arith}
 use lib.Ieee.{sub}

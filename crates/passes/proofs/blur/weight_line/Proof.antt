@@ -1,5 +1,5 @@
 -- `passes::blur::weight_line` meets its contract. Assumes nothing.
-use Prim.Native.Nat.{ℕ, _-_, _≤_, _<_}
+use Prim.Native.Nat.{ℕ, _-_, _≤_}
 use mathlib.Core.Path.{_≡_, ap, _∙_}
 use native.Mathlib.Omega.{arith}
 use lib.ListN.{length}
@@ -26,7 +26,7 @@ summed {n} {radius} {x} {before} e l h t = record {
 pub weight-line-spec : {M : Type 1} → statement M
 weight-line-spec =
     tie.close
-    (tie.spec Inv-loop μ-loop (λ c κs. tt) (λ c. (omega arith, none _ _)) (λ c κs. omega arith)
-    (λ c. omega (arith, c .before .before .before .line .ensures)) (λ c. omega (arith, c .before .before .before .line .ensures)) (λ c. omega arith) (λ c. omega arith)
+    (tie.spec Inv-loop μ-loop (λ c κs. tt) (λ c. (omega arith, none _ _)) (λ c κs. omega arith) (λ c. omega (arith, c .before .before .before .line .ensures))
+    (λ c. omega (arith, c .before .before .before .line .ensures)) (λ c. omega arith) (λ c. omega arith)
     (λ c. (omega arith, more (c .before .before .loop .inv .1) nan (omega (arith, c .before .before .before .line .ensures)) (c .weight-sum .ensures)))
     (λ c. summed (c .before .before .line .ensures) (c .before .before .before .pre .1) (omega arith) (c .before .loop .inv .1)))

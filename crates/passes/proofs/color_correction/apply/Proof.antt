@@ -13,9 +13,6 @@ Inv-loop fb₀ b k s i₀ fb i = Rewritten i (λ _. pixel b k s) fb₀ fb
 abbrev μ-loop : tie.MeasureT-loop
 μ-loop fb₀ b k s i₀ fb i = length fb₀ - i
 
-loop-holds : tie.Need-loop-holds Inv-loop μ-loop
-loop-holds c = none _ _
-
 loop-again : tie.Need-loop-again Inv-loop μ-loop
 loop-again c = more (c .before .before .before .loop .inv) 0 (c .before .before .loop-test .taken) (c .pixel .ensures)
 
@@ -27,5 +24,5 @@ returns c = all (c .before .loop .inv) (c .loop-test .left)
 pub apply-spec : {M : Type 1} → statement M
 apply-spec =
     tie.close
-    (tie.spec Inv-loop μ-loop loop-holds (λ c. omega arith) (λ c. omega arith) (λ c κs. tt)
-    (λ c. omega arith) (λ c. omega arith) (λ c. omega arith) (λ c. omega arith) loop-again (λ c. omega arith) returns)
+    (tie.spec Inv-loop μ-loop (λ c. none _ _) (λ c. omega arith) (λ c. omega arith) (λ c κs. tt) (λ c. omega arith) (λ c. omega arith) (λ c. omega arith)
+    (λ c. omega arith) loop-again (λ c. omega arith) returns)

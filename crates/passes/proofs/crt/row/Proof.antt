@@ -24,6 +24,6 @@ returns c = all (c .before .loop .inv) (c .loop-test .left)
 pub row-spec : {M : Type 1} → statement M
 row-spec =
     tie.close
-    (tie.spec Inv-loop μ-loop (λ c κs. tt) (λ c κs. (omega arith, omega arith)) (λ c. none _ _)
-    (λ c κs. (omega arith, omega arith)) (λ c κs. tt) (λ c. omega arith) (λ c. omega arith) (λ c. omega arith) (λ c κs. tt)
-    (λ c. omega arith) (λ c. omega arith) (λ c. omega arith) (λ c. omega arith) loop-again (λ c. omega arith) returns)
+    (tie.spec Inv-loop μ-loop (λ c κs. tt) (λ c κs. (omega arith, omega arith)) (λ c. none _ _) (λ c κs. (omega arith, omega arith)) (λ c κs. tt)
+    (λ c. omega arith) (λ c. omega arith) (λ c. omega arith) (λ c κs. tt) (λ c. omega arith) (λ c. omega arith) (λ c. omega arith) (λ c. omega arith) loop-again
+    (λ c. omega arith) returns)

@@ -38,6 +38,4 @@ unfolding transform
 returns-7 c = rw (from-6 (c .before .before .before .before .args .preset) (omega arith))
 
 pub transform-spec : {M : Type 1} → statement M
-transform-spec =
-    tie.close
-    (tie.spec (λ c κs. tt) (λ c κs. tt) (λ c κs. tt) (λ c κs. tt) returns returns-2 returns-3 returns-4 returns-5 returns-6 returns-7)
+transform-spec = tie.close (tie.spec (λ c κs. tt) (λ c κs. tt) (λ c κs. tt) (λ c κs. tt) returns returns-2 returns-3 returns-4 returns-5 returns-6 returns-7)

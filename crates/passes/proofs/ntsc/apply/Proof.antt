@@ -49,9 +49,8 @@ returns c =
 pub apply-spec : {M : Type 1} → statement M
 apply-spec =
     tie.close
-    (tie.spec (λ c κs. tt) (λ c κs. tt) (λ c κs. tt) (λ c κs. omega arith)
-    (λ c. search needs) (λ c. let k = c .before .before in sym (row-long k _ (k .before .before .before .line .ensures)))
-    (λ c. search needs) (λ c. let k = c .before .before .before in sym (row-long k _ (k .before .before .line2 .ensures)))
-    (λ c. search needs) (λ c. let k = c .before .before .before .before in sym (row-long k _ (k .before .line3 .ensures)))
-    (λ c. search needs) (λ c. let k = c .before .before .before .before .before in sym (row-long k _ (k .weight-line .ensures .long)))
-    rows-requires (λ c. search needs) returns)
+    (tie.spec (λ c κs. tt) (λ c κs. tt) (λ c κs. tt) (λ c κs. omega arith) (λ c. search needs)
+    (λ c. let k = c .before .before in sym (row-long k _ (k .before .before .before .line .ensures))) (λ c. search needs)
+    (λ c. let k = c .before .before .before in sym (row-long k _ (k .before .before .line2 .ensures))) (λ c. search needs)
+    (λ c. let k = c .before .before .before .before in sym (row-long k _ (k .before .line3 .ensures))) (λ c. search needs)
+    (λ c. let k = c .before .before .before .before .before in sym (row-long k _ (k .weight-line .ensures .long))) rows-requires (λ c. search needs) returns)

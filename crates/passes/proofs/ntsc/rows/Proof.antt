@@ -1,5 +1,5 @@
 -- `passes::ntsc::rows` meets its contract: row by row. Assumes nothing.
-use Prim.Native.Nat.{ℕ, _+_, _-_}
+use Prim.Native.Nat.{_+_, _-_}
 use mathlib.Core.Path.{_≡_, sym, _∙_}
 use native.Mathlib.Omega.{arith}
 use lib.ListN.{length, take, drop}
@@ -52,10 +52,7 @@ returns c = rows-all (c .before .loop .inv .3) (c .loop-test .left)
 pub rows-spec : {M : Type 1} → statement M
 rows-spec =
     tie.close
-    (tie.spec Inv-loop μ-loop loop-holds
-    (λ c. omega (arith, row-in (c .before .loop .inv .3) (c .loop-test .taken)))
-    (λ c. omega (arith, row-in (c .before .loop .inv .3) (c .loop-test .taken)))
-    (λ c. omega arith) (λ c. omega arith)
-    (λ c. omega (arith, row-in (c .before .loop .inv .3) (c .loop-test .taken)))
-    row-requires (λ c. omega arith) (λ c. omega arith) loop-again
+    (tie.spec Inv-loop μ-loop loop-holds (λ c. omega (arith, row-in (c .before .loop .inv .3) (c .loop-test .taken)))
+    (λ c. omega (arith, row-in (c .before .loop .inv .3) (c .loop-test .taken))) (λ c. omega arith) (λ c. omega arith)
+    (λ c. omega (arith, row-in (c .before .loop .inv .3) (c .loop-test .taken))) row-requires (λ c. omega arith) (λ c. omega arith) loop-again
     (λ c. c .before .loop .inv .3 .so-far .kept) (λ c. omega arith) (λ c. omega arith) (λ c. omega arith) returns)

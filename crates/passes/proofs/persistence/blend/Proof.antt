@@ -56,5 +56,5 @@ pub blend-spec : {M : Type 1} → statement M
 blend-spec =
     tie.close
     (tie.spec (λ c κs. tt) (λ c κs. tt) (λ c. search needs) (λ c. sym (part (c .before))) (λ c κs. tt)
-    (λ c. simp length-append (omega (arith, many (c .before .before)))) (λ c. sym (ap length (begins (c .before .before .before)) ∙ many (c .before .before .before)))
-    blended-requires (λ c. search needs) returns)
+    (λ c. simp length-append (omega (arith, many (c .before .before))))
+    (λ c. sym (ap length (begins (c .before .before .before)) ∙ many (c .before .before .before))) blended-requires (λ c. search needs) returns)

@@ -44,5 +44,5 @@ pub mix-spec : {M : Type 1} → statement M
 mix-spec =
     tie.close
     (tie.spec Inv-loop μ-loop (λ c κs. tt) (λ c κs. tt) loop-holds (λ c. omega arith) (λ c. omega arith) (λ c. omega (arith, reads (c .before)))
-    (λ c. omega (arith, reads (c .before .before))) (λ c κs. tt) (λ c. omega (arith, reads (c .before .before .before)))
-    (λ c. omega arith) (λ c. omega arith) loop-again returns)
+    (λ c. omega (arith, reads (c .before .before))) (λ c κs. tt) (λ c. omega (arith, reads (c .before .before .before))) (λ c. omega arith) (λ c. omega arith)
+    loop-again returns)

@@ -55,5 +55,5 @@ returns c = all (c .before .loop .inv .0) (c .loop-test .left)
 pub shift-spec : {M : Type 1} → statement M
 shift-spec =
     tie.close
-    (tie.spec Inv-loop μ-loop loop-holds add-end mul-exchange (λ c. omega arith) (λ c. omega arith) part-exchange-end exchange-requires
-    (λ c. omega arith) (λ c. omega arith) loop-again (λ c. omega arith) (λ c. omega arith) returns)
+    (tie.spec Inv-loop μ-loop loop-holds add-end mul-exchange (λ c. omega arith) (λ c. omega arith) part-exchange-end exchange-requires (λ c. omega arith)
+    (λ c. omega arith) loop-again (λ c. omega arith) (λ c. omega arith) returns)

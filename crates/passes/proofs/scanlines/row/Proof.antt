@@ -1,5 +1,5 @@
 -- `passes::scanlines::row` meets its contract: an even row stays, and each word of an odd one is dimmed. Assumes nothing.
-use Prim.Native.Nat.{ℕ, zero, suc, _-_, _%_}
+use Prim.Native.Nat.{ℕ, zero, suc, _-_}
 use mathlib.Core.Path.{_≡_, refl, sym, _∙_}
 use native.Mathlib.Omega.{arith}
 use lib.ListN.{length}
@@ -30,9 +30,6 @@ abbrev μ-loop : tie.MeasureT-loop
 returns : tie.Need-returns Inv-loop μ-loop
 returns c = sym (rewrite-same _ _ _ (λ k p l. even _ _ p (c .if1 .taken)))
 
-loop-holds : tie.Need-loop-holds Inv-loop μ-loop
-loop-holds c = none _ _
-
 loop-again : tie.Need-loop-again Inv-loop μ-loop
 loop-again c =
     let at-loop = c .before .before .before in
@@ -44,5 +41,5 @@ returns-2 c = all (c .before .loop .inv) (c .loop-test .left)
 pub row-spec : {M : Type 1} → statement M
 row-spec =
     tie.close
-    (tie.spec Inv-loop μ-loop returns loop-holds (λ c. omega arith) (λ c. omega arith) (λ c κs. tt)
-    (λ c. omega arith) (λ c. omega arith) (λ c. omega arith) (λ c. omega arith) loop-again (λ c. omega arith) returns-2)
+    (tie.spec Inv-loop μ-loop returns (λ c. none _ _) (λ c. omega arith) (λ c. omega arith) (λ c κs. tt) (λ c. omega arith) (λ c. omega arith) (λ c. omega arith)
+    (λ c. omega arith) loop-again (λ c. omega arith) returns-2)

@@ -91,7 +91,6 @@ returns c =
 pub apply-spec : {M : Type 1} → statement M
 apply-spec =
     tie.close
-    (tie.spec Inv-loop μ-loop (λ c. omega arith) (λ c. omega arith) mul-words slice-relend-prefix-lines slice-aggregate-lines
-    lines-requires loop-holds (λ c κs. omega arith) mul-from add-to add-end mul-row (λ c. omega arith) (λ c. omega arith) part-row-end
-    mul-row-2 (λ c. omega arith) (λ c. omega arith) part-row-end-2 row-requires (λ c. omega arith) (λ c. omega arith) loop-again
-    (λ c. omega arith) same-length-2 returns)
+    (tie.spec Inv-loop μ-loop (λ c. omega arith) (λ c. omega arith) mul-words slice-relend-prefix-lines slice-aggregate-lines lines-requires loop-holds
+    (λ c κs. omega arith) mul-from add-to add-end mul-row (λ c. omega arith) (λ c. omega arith) part-row-end mul-row-2 (λ c. omega arith) (λ c. omega arith)
+    part-row-end-2 row-requires (λ c. omega arith) (λ c. omega arith) loop-again (λ c. omega arith) same-length-2 returns)
