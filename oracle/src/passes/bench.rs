@@ -59,7 +59,7 @@ fn race(pass: &Pass, setting: &Setting, width: usize, height: usize) -> [f64; 2]
     let given = picture.draw(width, height);
     let original = black_box((pass.original)(setting));
     let limited = black_box(settings::limited(pass.fields, setting));
-    let mut room = Room::new(pass);
+    let mut room = Room::new(pass.needs);
 
     let mut frames = [given.clone(), given.clone()];
     let mut call = |which: usize, words: &mut [u32]| {
@@ -69,7 +69,7 @@ fn race(pass: &Pass, setting: &Setting, width: usize, height: usize) -> [f64; 2]
             original.apply(words, width, height);
             start.elapsed()
         } else {
-            let lent = room.lend(pass, words.len(), 0);
+            let lent = room.lend(words.len(), 0);
             let frame = Frame {
                 words,
                 width,

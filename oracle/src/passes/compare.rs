@@ -14,8 +14,7 @@ use crate::tally::{FrameTally, Total};
 pub fn run(mode: Mode, total: &mut Total) {
     println!("Passes, each alone, with the original's");
     for pass in PASSES {
-        // A pass with memory is compared in runs of frames, the others frame by frame.
-        let tally = if pass.history > 0 {
+        let tally = if pass.needs.history > 0 {
             let compare = |run: &Run, room: &mut Room, tally: &mut FrameTally, at| {
                 runs::compare(pass, run, room, tally, at)
             };
@@ -39,7 +38,7 @@ fn share<C: Sync>(
 ) -> FrameTally {
     let next = AtomicUsize::new(0);
     let work = || {
-        let mut room = Room::new(pass);
+        let mut room = Room::new(pass.needs);
         let mut tally = FrameTally::new(pass.name);
         loop {
             let at = next.fetch_add(1, Ordering::Relaxed);
@@ -79,7 +78,7 @@ fn frame(pass: &Pass, case: &Case, room: &mut Room, tally: &mut FrameTally, at: 
         width,
         height,
     };
-    let lent = room.lend(pass, given.len(), picture.seed);
+    let lent = room.lend(given.len(), picture.seed);
     (pass.ours)(&settings::limited(pass.fields, setting), frame, lent);
 
     let what = || {
@@ -87,7 +86,7 @@ fn frame(pass: &Pass, case: &Case, room: &mut Room, tally: &mut FrameTally, at: 
         format!("{width}x{height}, {setting}, frame {picture}")
     };
     tally.check(at, &given, &ours, &original, what);
-    if let Some(place) = room.written_past(pass, given.len()) {
+    if let Some(place) = room.written_past(given.len()) {
         tally.differ(at, || format!("{}: {place} of the scratch written", what()));
     }
 }

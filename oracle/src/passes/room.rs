@@ -1,18 +1,32 @@
 //! The buffers that are lent to a pass beside the frame.
 
-use super::table::Pass;
-
 /// The most words that a frame has.
-pub const LARGEST: usize = 1024 * 1024;
+const LARGEST: usize = 1024 * 1024;
 
-/// What stands in a buffer past its lent part, and in all of it at first.
+/// What stands in a buffer past the words that a pass needs, and in all of it at first.
 const MARK: u32 = 0xa5a5_5a5a;
 
-/// Words that are watched past what a pass needs: up to so many are lent with it.
+/// How many words past those are watched.
 const PAST: usize = 16;
+
+/// How many words a pass needs for each word of its frame.
+#[derive(Clone, Copy)]
+pub struct Needs {
+    pub floats: usize,
+    pub words: usize,
+    /// With this a pass is compared in runs of frames, without it frame by frame.
+    pub history: usize,
+}
+
+pub const FRAME_ONLY: Needs = Needs {
+    floats: 0,
+    words: 0,
+    history: 0,
+};
 
 /// Buffers for one thread. The words that a pass may use hold what an earlier call left there.
 pub struct Room {
+    needs: Needs,
     floats: Vec<f32>,
     words: Vec<u32>,
     history: Vec<u32>,
@@ -29,38 +43,41 @@ pub struct Lent<'a> {
 }
 
 impl Room {
-    /// Room for every size.
-    pub fn new(pass: &Pass) -> Self {
+    /// Room for frames of every size.
+    pub fn new(needs: Needs) -> Self {
         Room {
-            floats: vec![f32::from_bits(MARK); pass.floats * LARGEST + PAST],
-            words: vec![MARK; pass.words * LARGEST + PAST],
-            history: vec![MARK; pass.history * LARGEST + PAST],
+            needs,
+            floats: vec![f32::from_bits(MARK); needs.floats * LARGEST + PAST],
+            words: vec![MARK; needs.words * LARGEST + PAST],
+            history: vec![MARK; needs.history * LARGEST],
             held: 0,
         }
     }
 
-    /// Lends as much as the pass needs for a frame of `count` words, and up to 15 words more, by
-    /// `seed`: some calls get just enough.
-    pub fn lend(&mut self, pass: &Pass, count: usize, seed: u64) -> Lent<'_> {
+    /// Lends what is needed for a frame of `count` words: just enough scratch or, by `seed`, up to
+    /// 15 words more.
+    pub fn lend(&mut self, count: usize, seed: u64) -> Lent<'_> {
+        let (floats, words) = (self.needs.floats * count, self.needs.words * count);
+        self.floats[floats..][..PAST].fill(f32::from_bits(MARK));
+        self.words[words..][..PAST].fill(MARK);
         let more = (seed % PAST as u64) as usize;
-        self.floats[pass.floats * count..][..PAST].fill(f32::from_bits(MARK));
-        self.words[pass.words * count..][..PAST].fill(MARK);
         Lent {
-            floats: &mut self.floats[..pass.floats * count + more],
-            words: &mut self.words[..pass.words * count + more],
+            floats: &mut self.floats[..floats + more],
+            words: &mut self.words[..words + more],
             history: &mut self.history,
             held: &mut self.held,
         }
     }
 
-    /// Which word past the needed ones was written by the last call, if any.
-    pub fn written_past(&self, pass: &Pass, count: usize) -> Option<String> {
-        let floats = &self.floats[pass.floats * count..][..PAST];
-        let words = &self.words[pass.words * count..][..PAST];
-        let float = floats.iter().position(|float| float.to_bits() != MARK);
-        let word = words.iter().position(|&word| word != MARK);
-        let float = float.map(|at| format!("f32 word {}", pass.floats * count + at));
-        let word = word.map(|at| format!("u32 word {}", pass.words * count + at));
+    /// The scratch word past the needed ones that the last call wrote, if any.
+    pub fn written_past(&self, count: usize) -> Option<String> {
+        let (floats, words) = (self.needs.floats * count, self.needs.words * count);
+        let mut float = self.floats[floats..][..PAST].iter();
+        let mut word = self.words[words..][..PAST].iter();
+        let float = float.position(|float| float.to_bits() != MARK);
+        let word = word.position(|&word| word != MARK);
+        let float = float.map(|at| format!("f32 word {}", floats + at));
+        let word = word.map(|at| format!("u32 word {}", words + at));
         float.or(word)
     }
 }

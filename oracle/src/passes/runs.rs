@@ -125,7 +125,7 @@ pub fn compare(pass: &Pass, run: &Run, room: &mut Room, tally: &mut FrameTally, 
             let lent = Lent {
                 history: &mut history[..lent],
                 held: &mut held,
-                ..room.lend(pass, count, picture.seed)
+                ..room.lend(count, picture.seed)
             };
             (pass.ours)(&limited, frame, lent);
 
@@ -153,7 +153,7 @@ pub fn compare(pass: &Pass, run: &Run, room: &mut Room, tally: &mut FrameTally, 
             if held as usize != count {
                 tally.differ(at, || format!("{}: {held} is held, not {count}", what()));
             }
-            if let Some(place) = room.written_past(pass, count) {
+            if let Some(place) = room.written_past(count) {
                 tally.differ(at, || format!("{}: {place} of the scratch written", what()));
             }
         }

@@ -6,7 +6,7 @@ use super::original::color_correction::ColorCorrection;
 use super::original::effect::PostProcessEffect;
 use super::original::lut::{Lut, LutPreset};
 use super::original::scanlines::Scanlines;
-use super::room::Lent;
+use super::room::{Lent, Needs, FRAME_ONLY};
 use super::settings::{clamped, Field, Setting};
 use crate::probe;
 
@@ -14,11 +14,7 @@ pub struct Pass {
     /// That of the original's file.
     pub name: &'static str,
     pub fields: &'static [Field],
-    /// Words lent for each word of the frame, at most: f32 and u32 scratch, and history. A pass
-    /// with history is compared in runs of frames, the others frame by frame.
-    pub floats: usize,
-    pub words: usize,
-    pub history: usize,
+    pub needs: Needs,
     /// The original's effect, built by its `new` and switched on.
     pub original: fn(&Setting) -> Box<dyn PostProcessEffect>,
     /// A call of the pass here, with the setting as it is once limited.
@@ -47,15 +43,13 @@ pub static PASSES: &[Pass] = &[
             clamped("vertical", 1.0),
             clamped("horizontal", 1.0),
         ],
-        floats: 0,
-        words: 0,
-        history: 0,
+        needs: FRAME_ONLY,
         original: |s| Box::new(AutoGradient::new(s.float(0), s.float(1), s.float(2))),
-        ours: |s, p, _| {
+        ours: |s, f, _| {
             probe::auto_gradient(
-                p.words,
-                p.width,
-                p.height,
+                f.words,
+                f.width,
+                f.height,
                 s.float(0),
                 s.float(1),
                 s.float(2),
@@ -85,9 +79,7 @@ pub static PASSES: &[Pass] = &[
                 card: [0.0, 4.0],
             },
         ],
-        floats: 0,
-        words: 0,
-        history: 0,
+        needs: FRAME_ONLY,
         original: |s| {
             let gamma = 1.0;
             Box::new(ColorCorrection::new(
@@ -97,7 +89,7 @@ pub static PASSES: &[Pass] = &[
                 gamma,
             ))
         },
-        ours: |s, p, _| probe::color_correction(p.words, s.float(0), s.float(1), s.float(2)),
+        ours: |s, f, _| probe::color_correction(f.words, s.float(0), s.float(1), s.float(2)),
         cost: |_| 60,
         measured: &[&[0.05, 1.1, 1.2]],
         limit: 1.0,
@@ -113,11 +105,9 @@ pub static PASSES: &[Pass] = &[
             },
             clamped("strength", 1.0),
         ],
-        floats: 0,
-        words: 0,
-        history: 0,
+        needs: FRAME_ONLY,
         original: |s| Box::new(Lut::new(PRESETS[s.whole(0)], s.float(1))),
-        ours: |s, p, _| probe::lut(p.words, s.byte(0), s.float(1)),
+        ours: |s, f, _| probe::lut(f.words, s.byte(0), s.float(1)),
         cost: |_| 20,
         measured: &[
             &[0.0, 0.75],
@@ -133,11 +123,9 @@ pub static PASSES: &[Pass] = &[
     Pass {
         name: "scanlines",
         fields: &[clamped("strength", 1.0)],
-        floats: 0,
-        words: 0,
-        history: 0,
+        needs: FRAME_ONLY,
         original: |s| Box::new(Scanlines::new(s.float(0))),
-        ours: |s, p, _| probe::scanlines(p.words, p.width, p.height, s.float(0)),
+        ours: |s, f, _| probe::scanlines(f.words, f.width, f.height, s.float(0)),
         cost: |_| 10,
         measured: &[&[0.35]],
         limit: 1.0,
