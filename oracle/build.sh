@@ -47,7 +47,9 @@ build() {
         cat target/oracle/staticlib.log >&2
         return 1
     fi
-    modules >target/oracle/original.rs || return 1
+    if [ -n "$original" ]; then
+        modules >target/oracle/original.rs || return 1
+    fi
     rustc -O --edition 2021 --check-cfg 'cfg(with_original)' ${original:+--cfg with_original} \
         -L native=target/staticlib -o target/oracle/compare oracle/src/main.rs
 }

@@ -47,7 +47,7 @@ impl Effort {
             Mode::Full => Effort {
                 rounds: 40 * KINDS.len(),
                 frames: 10 * KINDS.len(),
-                budget: 200_000_000_000,
+                budget: 150_000_000_000,
             },
         }
     }

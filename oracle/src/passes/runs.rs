@@ -32,7 +32,7 @@ pub fn of(pass: &Pass, mode: Mode) -> Vec<Run> {
     let random = &mut Random::named(pass.name);
     let (rounds, budget) = match mode {
         Mode::Quick => (8, 3_000_000_000),
-        Mode::Full => (80, 250_000_000_000),
+        Mode::Full => (80, 200_000_000_000),
     };
     let mut runs = Vec::new();
     for _ in 0..rounds {
