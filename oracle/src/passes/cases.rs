@@ -18,7 +18,7 @@ pub struct Case {
 const SMALL: usize = 32;
 
 /// Sides at which a loop may change its way, and those of a console.
-pub const SIDES: [usize; 26] = [
+const SIDES: [usize; 26] = [
     1, 2, 3, 31, 32, 33, 63, 64, 65, 127, 128, 129, 240, 255, 256, 257, 511, 512, 513, 720, 767,
     768, 769, 1022, 1023, 1024,
 ];
@@ -57,8 +57,14 @@ pub fn of(pass: &Pass, mode: Mode) -> Vec<Case> {
     let effort = Effort::of(mode);
     let random = &mut Random::named(pass.name);
     let mut cases = Vec::new();
+    small_sizes(pass, &effort, random, &mut cases);
+    boundary_settings(pass, &effort, random, &mut cases);
+    large_sizes(pass, &effort, random, &mut cases);
+    cases
+}
 
-    // Every small size.
+/// Every small size, each time with another setting.
+fn small_sizes(pass: &Pass, effort: &Effort, random: &mut Random, cases: &mut Vec<Case>) {
     for round in 0..effort.rounds {
         for height in 1..=SMALL {
             for width in 1..=SMALL {
@@ -74,13 +80,16 @@ pub fn of(pass: &Pass, mode: Mode) -> Vec<Case> {
             }
         }
     }
+}
 
-    // Every boundary setting.
+/// Every boundary setting. One frame for each has room for the widest blur.
+fn boundary_settings(pass: &Pass, effort: &Effort, random: &mut Random, cases: &mut Vec<Case>) {
     for setting in settings::boundaries(pass.fields) {
         for round in 0..effort.frames {
+            let longest = if round == 0 { 4 * SMALL } else { SMALL };
             cases.push(Case {
-                width: random.within(1, SMALL),
-                height: random.within(1, SMALL),
+                width: random.within(1, longest),
+                height: random.within(1, longest),
                 setting,
                 picture: Picture {
                     kind: KINDS[round % KINDS.len()],
@@ -89,9 +98,11 @@ pub fn of(pass: &Pass, mode: Mode) -> Vec<Case> {
             });
         }
     }
+}
 
-    // The largest frames with ordinary settings, then large ones for as long as the budget lasts,
-    // with boundary sides and boundary settings among them.
+/// The largest frames with ordinary settings, then large ones for as long as the budget lasts, with
+/// boundary sides and boundary settings among them.
+fn large_sizes(pass: &Pass, effort: &Effort, random: &mut Random, cases: &mut Vec<Case>) {
     for (width, height) in LARGEST {
         for values in pass.measured {
             cases.push(Case {
@@ -108,7 +119,7 @@ pub fn of(pass: &Pass, mode: Mode) -> Vec<Case> {
         let setting = settings::random(pass.fields, random);
         spent += width * height * (pass.cost)(&setting);
         if spent > effort.budget {
-            break;
+            return;
         }
         cases.push(Case {
             width,
@@ -117,9 +128,9 @@ pub fn of(pass: &Pass, mode: Mode) -> Vec<Case> {
             picture: Picture::random(random),
         });
     }
-    cases
 }
 
+/// A side of a large frame.
 pub fn side(random: &mut Random) -> usize {
     if random.one_in(2) {
         random.choose(&SIDES)

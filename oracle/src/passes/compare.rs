@@ -5,7 +5,7 @@ use std::thread;
 
 use super::cases::{self, Case};
 use super::room::Room;
-use super::runs::{self, Run};
+use super::runs;
 use super::settings;
 use super::table::{Frame, Pass, PASSES};
 use crate::steps::{Mode, THREADS};
@@ -15,15 +15,15 @@ pub fn run(mode: Mode, total: &mut Total) {
     println!("Passes, each alone, with the original's");
     for pass in PASSES {
         let tally = if pass.needs.history > 0 {
-            let compare = |run: &Run, room: &mut Room, tally: &mut FrameTally, at| {
+            let runs = runs::of(pass, mode);
+            share(pass, &runs, |run, room, tally, at| {
                 runs::compare(pass, run, room, tally, at)
-            };
-            share(pass, &runs::of(pass, mode), compare)
+            })
         } else {
-            let compare = |case: &Case, room: &mut Room, tally: &mut FrameTally, at| {
+            let cases = cases::of(pass, mode);
+            share(pass, &cases, |case, room, tally, at| {
                 frame(pass, case, room, tally, at)
-            };
-            share(pass, &cases::of(pass, mode), compare)
+            })
         };
         total.add_frames(&tally);
     }
