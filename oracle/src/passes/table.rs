@@ -90,7 +90,7 @@ pub static PASSES: &[Pass] = &[
             ))
         },
         ours: |s, f, _| probe::color_correction(f.words, s.float(0), s.float(1), s.float(2)),
-        cost: |_| 60,
+        cost: |_| 45,
         measured: &[&[0.05, 1.1, 1.2]],
         limit: 1.0,
     },
