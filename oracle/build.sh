@@ -1,6 +1,45 @@
 # Sourced by compare and bench, from the repository's root: how the comparison program is built.
 
-# Proves the library `probe`, writes it for Rust to link, and compiles the program with it.
+# Sets `original` to the folder of the original program, or to nothing where it is not there. A relative HEDGEMALLOW_ORIGINAL is
+# meant from the folder $1, where the caller stands.
+find_original() {
+    original=${HEDGEMALLOW_ORIGINAL:-}
+    case $original in
+    '') original=$PWD/../shared/docs/src ;;
+    /*) ;;
+    *) original=$1/$original ;;
+    esac
+    [ -f "$original/src/postprocess/pipeline.rs" ] && return
+
+    if [ "${CI:-}" = true ]; then
+        cat >&2 <<END
+Error: the original program is missing, and with CI=true the comparison with it must run.
+There is no file $original/src/postprocess/pipeline.rs.
+Set HEDGEMALLOW_ORIGINAL to a checkout of rust-nes-emu, the folder that holds src/postprocess.
+END
+        exit 1
+    fi
+    cat <<END
+Skipped: the part against the original program, since there is no $original/src/postprocess/pipeline.rs.
+To run it, set HEDGEMALLOW_ORIGINAL to a checkout of rust-nes-emu, the folder that holds src/postprocess.
+The number steps are taken without it.
+END
+    original=
+}
+
+# A module for each file of the original's passes, compiled where it lies.
+modules() {
+    echo "// Written by oracle/build.sh."
+    for file in "$original"/src/postprocess/*.rs; do
+        name=${file##*/}
+        name=${name%.rs}
+        # The original has no mod.rs: this file stands for it.
+        [ "$name" = mod ] && continue
+        printf '#[path = r##"%s"##]\npub mod %s;\n' "$file" "$name"
+    done
+}
+
+# Proves the library `probe`, writes it for Rust to link, and compiles the program with it and with the original, if there is one.
 build() {
     mkdir -p target/oracle || return 1
     if ! rt staticlib probe >target/oracle/staticlib.log 2>&1; then
@@ -8,5 +47,9 @@ build() {
         cat target/oracle/staticlib.log >&2
         return 1
     fi
-    rustc -O --edition 2021 -L native=target/staticlib -o target/oracle/compare oracle/src/main.rs
+    if [ -n "$original" ]; then
+        modules >target/oracle/original.rs || return 1
+    fi
+    rustc -O --edition 2021 --check-cfg 'cfg(with_original)' ${original:+--cfg with_original} \
+        -L native=target/staticlib -o target/oracle/compare oracle/src/main.rs
 }

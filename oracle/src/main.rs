@@ -1,8 +1,12 @@
-//! The comparison of the number steps with Rust's own. Two scripts build and start it from the
-//! repository's root: `oracle/compare` and `oracle/bench`.
+//! The comparison of the number steps with Rust's own, and of the passes with the original's. Two
+//! scripts build and start it from the repository's root: `oracle/compare` and `oracle/bench`. They
+//! set `with_original` where they find the original: without it there are no passes to compare.
+#![cfg_attr(not(with_original), allow(dead_code))]
 
 mod bench;
 mod constants;
+#[cfg(with_original)]
+mod passes;
 mod patterns;
 mod probe;
 mod steps;
@@ -18,7 +22,7 @@ fn main() -> ExitCode {
     let words: Vec<String> = std::env::args().skip(1).collect();
     let words: Vec<&str> = words.iter().map(String::as_str).collect();
     match words[..] {
-        ["bench"] => bench::run(),
+        ["bench"] => measure(),
         ["quick"] => compare(Mode::Quick, None),
         ["full"] => compare(Mode::Full, None),
         ["quick", original] => compare(Mode::Quick, Some(Path::new(original))),
@@ -40,10 +44,25 @@ fn compare(mode: Mode, original: Option<&Path>) -> ExitCode {
         }
     }
     steps::run(mode, &mut total);
+    #[cfg(with_original)]
+    passes::compare::run(mode, &mut total);
     println!("{total}");
     if total.different == 0 {
         ExitCode::SUCCESS
     } else {
         ExitCode::FAILURE
+    }
+}
+
+fn measure() -> ExitCode {
+    let steps = bench::run();
+    #[cfg(with_original)]
+    let passes = passes::bench::run();
+    #[cfg(not(with_original))]
+    let passes = ExitCode::SUCCESS;
+    if steps == ExitCode::SUCCESS {
+        passes
+    } else {
+        steps
     }
 }

@@ -1,6 +1,6 @@
-//! The steps under comparison, from the static library `probe`, as safe functions. The only file
-//! with `unsafe`: nothing checks these declarations against the library's source,
-//! crates/probe/src/lib.rt, so a change there must be made here too.
+//! The steps and passes under comparison, from the static library `probe`, as safe functions. The
+//! only file with `unsafe`: nothing checks these declarations against the library's source in
+//! crates/probe/src, so a change there must be made here too. What a pass requires is asserted.
 
 /// The declarations, in a module of their own so that the safe functions may bear short names.
 mod exports {
@@ -15,6 +15,30 @@ mod exports {
         pub fn probe_max(a: f32, b: f32) -> f32;
         pub fn probe_abs(x: f32) -> f32;
         pub fn probe_limit(x: f32, lo: f32, hi: f32) -> f32;
+        pub fn probe_auto_gradient(
+            frame: *mut u32,
+            frame_len: usize,
+            width: usize,
+            height: usize,
+            strength: f32,
+            vertical: f32,
+            horizontal: f32,
+        );
+        pub fn probe_color_correction(
+            frame: *mut u32,
+            frame_len: usize,
+            brightness: f32,
+            contrast: f32,
+            saturation: f32,
+        );
+        pub fn probe_lut(frame: *mut u32, frame_len: usize, preset: u8, strength: f32);
+        pub fn probe_scanlines(
+            frame: *mut u32,
+            frame_len: usize,
+            width: usize,
+            height: usize,
+            strength: f32,
+        );
     }
 }
 
@@ -55,7 +79,7 @@ pub fn root(xs: &[f32], out: &mut [f32]) {
     over(exports::probe_root, xs, out);
 }
 
-// The others take numbers only and are defined for all of them, so there is nothing to assert.
+// These take numbers only and are defined for all of them, so there is nothing to assert.
 
 pub fn clamp(x: f32, lo: f32, hi: f32) -> f32 {
     // SAFETY: numbers in, a number out.
@@ -80,4 +104,50 @@ pub fn abs(x: f32) -> f32 {
 pub fn limit(x: f32, lo: f32, hi: f32) -> f32 {
     // SAFETY: as above.
     unsafe { exports::probe_limit(x, lo, hi) }
+}
+
+// The passes. What is safe of a call is the same for all: each buffer is a slice of its own, goes
+// with its own length and is not kept.
+
+/// What a pass requires of its frame, by rows of `width` words. Not more is lent than that.
+fn assert_frame(frame: &[u32], width: usize, height: usize) {
+    assert!(width <= 1024 && height <= 1024);
+    assert!(frame.len() == height * width);
+    assert_lendable(frame.as_ptr(), frame.len());
+}
+
+pub fn auto_gradient(
+    frame: &mut [u32],
+    width: usize,
+    height: usize,
+    strength: f32,
+    vertical: f32,
+    horizontal: f32,
+) {
+    assert_frame(frame, width, height);
+    let (start, len) = (frame.as_mut_ptr(), frame.len());
+    // SAFETY: as said of the passes.
+    unsafe {
+        exports::probe_auto_gradient(start, len, width, height, strength, vertical, horizontal)
+    }
+}
+
+pub fn color_correction(frame: &mut [u32], brightness: f32, contrast: f32, saturation: f32) {
+    assert_lendable(frame.as_ptr(), frame.len());
+    let (start, len) = (frame.as_mut_ptr(), frame.len());
+    // SAFETY: as said of the passes.
+    unsafe { exports::probe_color_correction(start, len, brightness, contrast, saturation) }
+}
+
+pub fn lut(frame: &mut [u32], preset: u8, strength: f32) {
+    assert_lendable(frame.as_ptr(), frame.len());
+    // SAFETY: as said of the passes.
+    unsafe { exports::probe_lut(frame.as_mut_ptr(), frame.len(), preset, strength) }
+}
+
+pub fn scanlines(frame: &mut [u32], width: usize, height: usize, strength: f32) {
+    assert_frame(frame, width, height);
+    let (start, len) = (frame.as_mut_ptr(), frame.len());
+    // SAFETY: as said of the passes.
+    unsafe { exports::probe_scanlines(start, len, width, height, strength) }
 }

@@ -17,8 +17,8 @@ pub enum Mode {
     Full,
 }
 
-/// How many threads share the patterns.
-const THREADS: usize = 2;
+/// How many threads share the work.
+pub const THREADS: usize = 2;
 
 /// How many lines of progress full mode writes.
 const LINES: u64 = 32;

@@ -1,9 +1,9 @@
-//! The count that each comparison keeps: how many values, how many that differ, and how many fell
-//! under each listed difference.
+//! The count that each comparison keeps: how many values or frames, how many that differ, and how
+//! many fell under each listed difference.
 
 use std::fmt;
 
-/// How many differing inputs of a step are printed.
+/// How many differing inputs of a step or pass are printed.
 const SHOWN: usize = 5;
 
 /// A result of a step.
@@ -162,10 +162,106 @@ impl<const K: usize> fmt::Display for Tally<K> {
     }
 }
 
-/// The count over all steps.
+/// The count for one pass.
+pub struct FrameTally {
+    name: &'static str,
+    frames: u64,
+    words: u64,
+    different: u64,
+    /// The first few differences, each with the place of its case.
+    shown: Vec<(usize, String)>,
+}
+
+impl FrameTally {
+    pub fn new(name: &'static str) -> Self {
+        FrameTally {
+            name,
+            frames: 0,
+            words: 0,
+            different: 0,
+            shown: Vec::new(),
+        }
+    }
+
+    /// Holds the picture `here` of the frame `given` to the original's. `at` is the place of the
+    /// case, `what` tells how to make it again.
+    pub fn check(
+        &mut self,
+        at: usize,
+        given: &[u32],
+        here: &[u32],
+        original: &[u32],
+        what: impl FnOnce() -> String,
+    ) {
+        assert!(given.len() == here.len() && given.len() == original.len());
+        self.frames += 1;
+        self.words += given.len() as u64;
+        if here == original {
+            return;
+        }
+        let words = || here.iter().zip(original);
+        let place = words().position(|(here, original)| here != original);
+        let place = place.unwrap_or_default();
+        self.differ(at, || {
+            format!(
+                "{}, word {place}: given {:#010x}, here {:#010x}, original {:#010x}",
+                what(),
+                given[place],
+                here[place],
+                original[place]
+            )
+        });
+        // The one that is shown is counted already.
+        let different = words().filter(|(here, original)| here != original).count();
+        self.different += different as u64 - 1;
+    }
+
+    /// Counts a difference.
+    #[cold]
+    pub fn differ(&mut self, at: usize, text: impl FnOnce() -> String) {
+        self.different += 1;
+        if self.shown.len() < SHOWN {
+            self.shown.push((at, text()));
+        }
+    }
+
+    /// Adds the count of another thread for the same pass.
+    pub fn join(&mut self, other: FrameTally) {
+        self.frames += other.frames;
+        self.words += other.words;
+        self.different += other.different;
+        self.shown.extend(other.shown);
+        self.shown.sort_by_key(|&(at, _)| at);
+        self.shown.truncate(SHOWN);
+    }
+}
+
+impl fmt::Display for FrameTally {
+    fn fmt(&self, f: &mut fmt::Formatter) -> fmt::Result {
+        let FrameTally {
+            name,
+            frames,
+            words,
+            different,
+            shown,
+        } = self;
+        writeln!(
+            f,
+            "{name}: {frames} frames, {words} words compared, {different} different"
+        )?;
+        for (_, text) in shown {
+            writeln!(f, "    different at {text}")?;
+        }
+        Ok(())
+    }
+}
+
+/// The count over all steps and passes.
 #[derive(Default)]
 pub struct Total {
     compared: u64,
+    frames: u64,
+    words: u64,
     pub different: u64,
 }
 
@@ -176,14 +272,28 @@ impl Total {
         self.compared += tally.compared;
         self.different += tally.different;
     }
+
+    /// Prints a pass's count and adds it.
+    pub fn add_frames(&mut self, tally: &FrameTally) {
+        print!("{tally}");
+        self.frames += tally.frames;
+        self.words += tally.words;
+        self.different += tally.different;
+    }
 }
 
 impl fmt::Display for Total {
     fn fmt(&self, f: &mut fmt::Formatter) -> fmt::Result {
-        write!(
-            f,
-            "{} values compared, {} different",
-            self.compared, self.different
-        )
+        let Total {
+            compared,
+            frames,
+            words,
+            different,
+        } = self;
+        write!(f, "{compared} values")?;
+        if *frames > 0 {
+            write!(f, " and {frames} frames of {words} words")?;
+        }
+        write!(f, " compared, {different} different")
     }
 }

@@ -1,5 +1,7 @@
-// Exports of the number steps for the comparison with Rust in oracle/: the steps of one operand over slices, those of several
+// Exports for the comparison with Rust in oracle/. Here the number steps: those of one operand over slices, those of several
 // on numbers. Each is the step of crate num and nothing more. Nothing here is assumed.
+mod pass;
+
 ghost use mathlib.Core.Path.{_≡_};
 ghost use Prim.Native.Nat.{min};
 ghost use Rattle.num.specs.Steps.{clampOf, minOf, maxOf, limitOf, absOf, cutOf, roundOf};

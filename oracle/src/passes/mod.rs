@@ -1,0 +1,16 @@
+//! The passes beside the original's, whose files are compiled where they lie.
+
+pub mod bench;
+mod cases;
+pub mod compare;
+mod frames;
+// Written by oracle/build.sh: a module for each of the original's files.
+#[allow(dead_code)]
+#[path = "../../../target/oracle/original.rs"]
+#[rustfmt::skip]
+mod original;
+mod random;
+mod room;
+mod runs;
+mod settings;
+mod table;

@@ -1,0 +1,229 @@
+//! Runs of many frames through a pass with memory, persistence: with resets, switches and changing
+//! sizes. The history is compared through the pictures, and with a plain model of it.
+
+use std::collections::VecDeque;
+
+use super::cases;
+use super::frames::Picture;
+use super::original::effect::PostProcessEffect;
+use super::original::persistence::Persistence;
+use super::random::Random;
+use super::room::{Lent, Room};
+use super::settings::{self, Setting};
+use super::table::{Frame, Pass};
+use crate::steps::Mode;
+use crate::tally::FrameTally;
+
+/// Some frames through one effect.
+pub struct Run {
+    setting: Setting,
+    seed: u64,
+    frames: usize,
+    /// The longest side of its frames.
+    longest: usize,
+}
+
+/// Words of the history buffer past the most that the run needs.
+const PAST: usize = 16;
+
+/// Runs of small frames for each combination of boundary settings, then of any size for as long as
+/// the budget lasts.
+pub fn of(pass: &Pass, mode: Mode) -> Vec<Run> {
+    let random = &mut Random::named(pass.name);
+    let (rounds, budget) = match mode {
+        Mode::Quick => (8, 3_000_000_000),
+        Mode::Full => (80, 200_000_000_000),
+    };
+    let mut runs = Vec::new();
+    for _ in 0..rounds {
+        for setting in settings::boundaries(pass.fields) {
+            runs.push(Run {
+                setting,
+                seed: random.next(),
+                frames: 64,
+                longest: 32,
+            });
+        }
+    }
+    let mut spent = 0;
+    loop {
+        let setting = settings::random(pass.fields, random);
+        let frames = random.within(8, 64);
+        let longest = random.choose(&[32, 128, 512, 1024]);
+        spent += frames * (longest * longest / 4) * (pass.cost)(&setting);
+        if spent > budget {
+            return runs;
+        }
+        runs.push(Run {
+            setting,
+            seed: random.next(),
+            frames,
+            longest,
+        });
+    }
+}
+
+/// One effect on both sides, from frame to frame.
+struct Memory {
+    original: Persistence,
+    /// What is lent to the pass here, and comes back from it.
+    history: Vec<u32>,
+    held: u32,
+    model: Model,
+}
+
+impl Memory {
+    fn new(run: &Run, depth: usize, random: &mut Random) -> Self {
+        let most = depth * run.longest * run.longest;
+        let history: Vec<u32> = (0..most + PAST).map(|_| random.word()).collect();
+        Memory {
+            original: Persistence::new(run.setting.float(0), run.setting.whole(1)),
+            held: 0,
+            model: Model {
+                buffer: history.clone(),
+                last: VecDeque::new(),
+            },
+            history,
+        }
+    }
+
+    fn reset(&mut self) {
+        self.original.reset();
+        self.forget();
+    }
+
+    fn switch(&mut self, on: bool) {
+        if self.original.enabled() && !on {
+            self.forget();
+        }
+        self.original.set_enabled(on);
+    }
+
+    /// Nothing is held, and no word changes.
+    fn forget(&mut self) {
+        self.held = 0;
+        self.model.last.clear();
+    }
+
+    /// The first word of the history that is not the model's, with what it has to be.
+    fn differs(&self) -> Option<(usize, u32, u32)> {
+        let (here, asked) = (&self.history, &self.model.buffer);
+        if here == asked {
+            return None;
+        }
+        let place = here.iter().zip(asked).position(|(a, b)| a != b)?;
+        Some((place, here[place], asked[place]))
+    }
+}
+
+/// What the history has to be.
+struct Model {
+    buffer: Vec<u32>,
+    /// The last frames that came in, newest first.
+    last: VecDeque<Vec<u32>>,
+}
+
+impl Model {
+    fn take(&mut self, given: &[u32], depth: usize) {
+        let count = given.len();
+        // A frame of another count than the last fills all places.
+        if self.last.front().map(Vec::len) != Some(count) {
+            self.last = VecDeque::from(vec![given.to_vec(); depth]);
+        } else {
+            self.last.pop_back();
+            self.last.push_front(given.to_vec());
+        }
+        for (place, frame) in self.buffer.chunks_exact_mut(count).zip(&self.last) {
+            place.copy_from_slice(frame);
+        }
+    }
+}
+
+/// Feeds one run to both sides.
+pub fn compare(pass: &Pass, run: &Run, room: &mut Room, tally: &mut FrameTally, at: usize) {
+    let random = &mut Random::new(run.seed);
+    let limited = settings::limited(pass.fields, &run.setting);
+    let depth = limited.whole(1);
+    let mut memory = Memory::new(run, depth, random);
+    let (mut width, mut height) = size(run, random);
+
+    let mut events = String::new();
+    for number in 0..run.frames {
+        match random.below(16) {
+            0 => {
+                memory.reset();
+                events.push_str(" reset");
+            }
+            1 => {
+                memory.switch(false);
+                events.push_str(" off");
+            }
+            // To where it mostly stands: then nothing happens.
+            2..6 => {
+                memory.switch(true);
+                events.push_str(" on");
+            }
+            6 => (width, height) = size(run, random),
+            // Another shape of the same count: the history stays.
+            7 => (width, height) = (height, width),
+            _ => {}
+        }
+        events.push_str(&format!(" {width}x{height}"));
+
+        let picture = Picture::random(random);
+        let given = picture.draw(width, height);
+        let count = given.len();
+        let mut original = given.clone();
+        memory.original.apply(&mut original, width, height);
+
+        let mut ours = given.clone();
+        let on = memory.original.enabled();
+        if on {
+            memory.model.take(&given, depth);
+            // By turns as much history as is needed, some words more, and all there is.
+            let most = memory.history.len();
+            let part = [depth * count, most.min(depth * count + PAST), most][number % 3];
+            let frame = Frame {
+                words: &mut ours,
+                width,
+                height,
+            };
+            let lent = Lent {
+                history: &mut memory.history[..part],
+                held: &mut memory.held,
+                ..room.lend(count, picture.seed)
+            };
+            (pass.ours)(&limited, frame, lent);
+        }
+
+        let what = || {
+            let setting = settings::shown(pass.fields, &run.setting);
+            let Run { seed, longest, .. } = run;
+            format!(
+                "run with seed {seed:#018x}, sides to {longest}, {setting}, frame {number}, {picture}, after{events}"
+            )
+        };
+        tally.check(at, &given, &ours, &original, what);
+        if on && memory.held as usize != count {
+            let held = memory.held;
+            tally.differ(at, || format!("{}: {held} is held, not {count}", what()));
+        }
+        if let Some(place) = room.written_past(count).filter(|_| on) {
+            tally.differ(at, || format!("{}: {place} of the scratch written", what()));
+        }
+        if let Some((place, here, asked)) = memory.differs() {
+            tally.differ(at, || {
+                let what = what();
+                format!("{what}: history word {place} is {here:#010x}, by the model {asked:#010x}")
+            });
+            // From here on every picture may differ.
+            return;
+        }
+    }
+}
+
+/// Any size within the run's longest side.
+fn size(run: &Run, random: &mut Random) -> (usize, usize) {
+    let side = |random: &mut Random| cases::side(random).min(random.within(1, run.longest));
+    (side(random), side(random))
+}

@@ -1,0 +1,144 @@
+//! The passes under comparison, a row for each: its settings, how the original's effect is built
+//! from them, and how the pass here is called with them.
+
+use super::original::auto_gradient::AutoGradient;
+use super::original::color_correction::ColorCorrection;
+use super::original::effect::PostProcessEffect;
+use super::original::lut::{Lut, LutPreset};
+use super::original::scanlines::Scanlines;
+use super::room::{Lent, Needs, FRAME_ONLY};
+use super::settings::{clamped, Field, Setting};
+use crate::probe;
+
+pub struct Pass {
+    /// That of the original's file.
+    pub name: &'static str,
+    pub fields: &'static [Field],
+    pub needs: Needs,
+    /// The original's effect, built by its `new` and switched on.
+    pub original: fn(&Setting) -> Box<dyn PostProcessEffect>,
+    /// A call of the pass here, with the setting as it is once limited.
+    pub ours: fn(&Setting, Frame, Lent),
+    /// Nanoseconds that both sides together take for a word, very roughly: how many frames a budget
+    /// of time allows.
+    pub cost: fn(&Setting) -> usize,
+    /// The settings that are measured.
+    pub measured: &'static [&'static [f32]],
+    /// The most time it may take, in times of the original's.
+    pub limit: f64,
+}
+
+/// A frame on its way through a pass.
+pub struct Frame<'a> {
+    pub words: &'a mut [u32],
+    pub width: usize,
+    pub height: usize,
+}
+
+pub static PASSES: &[Pass] = &[
+    Pass {
+        name: "auto_gradient",
+        fields: &[
+            clamped("strength", 1.0),
+            clamped("vertical", 1.0),
+            clamped("horizontal", 1.0),
+        ],
+        needs: FRAME_ONLY,
+        original: |s| Box::new(AutoGradient::new(s.float(0), s.float(1), s.float(2))),
+        ours: |s, f, _| {
+            probe::auto_gradient(
+                f.words,
+                f.width,
+                f.height,
+                s.float(0),
+                s.float(1),
+                s.float(2),
+            )
+        },
+        cost: |_| 20,
+        measured: &[&[0.8, 0.6, 0.35]],
+        limit: 1.0,
+    },
+    Pass {
+        name: "color_correction",
+        // The original clamps contrast and saturation below only, and brightness not at all.
+        fields: &[
+            Field::Float {
+                name: "brightness",
+                limits: [f32::NEG_INFINITY, f32::INFINITY],
+                card: [-1.0, 1.0],
+            },
+            Field::Float {
+                name: "contrast",
+                limits: [0.0, f32::INFINITY],
+                card: [0.0, 4.0],
+            },
+            Field::Float {
+                name: "saturation",
+                limits: [0.0, f32::INFINITY],
+                card: [0.0, 4.0],
+            },
+        ],
+        needs: FRAME_ONLY,
+        original: |s| {
+            let gamma = 1.0;
+            Box::new(ColorCorrection::new(
+                s.float(0),
+                s.float(1),
+                s.float(2),
+                gamma,
+            ))
+        },
+        ours: |s, f, _| probe::color_correction(f.words, s.float(0), s.float(1), s.float(2)),
+        cost: |_| 45,
+        measured: &[&[0.05, 1.1, 1.2]],
+        limit: 1.0,
+    },
+    Pass {
+        name: "lut",
+        fields: &[
+            Field::Whole {
+                name: "preset",
+                least: 0,
+                most: 6,
+                boundaries: &[0, 1, 2, 3, 4, 5, 6],
+            },
+            clamped("strength", 1.0),
+        ],
+        needs: FRAME_ONLY,
+        original: |s| Box::new(Lut::new(PRESETS[s.whole(0)], s.float(1))),
+        ours: |s, f, _| probe::lut(f.words, s.byte(0), s.float(1)),
+        cost: |_| 20,
+        measured: &[
+            &[0.0, 0.75],
+            &[1.0, 0.75],
+            &[2.0, 0.75],
+            &[3.0, 0.75],
+            &[4.0, 0.75],
+            &[5.0, 0.75],
+            &[6.0, 0.75],
+        ],
+        limit: 1.0,
+    },
+    Pass {
+        name: "scanlines",
+        fields: &[clamped("strength", 1.0)],
+        needs: FRAME_ONLY,
+        original: |s| Box::new(Scanlines::new(s.float(0))),
+        ours: |s, f, _| probe::scanlines(f.words, f.width, f.height, s.float(0)),
+        cost: |_| 10,
+        measured: &[&[0.35]],
+        limit: 1.0,
+    },
+];
+
+/// In the order of the enum: a card holds the place.
+const PRESETS: [LutPreset; 7] = [
+    LutPreset::Identity,
+    LutPreset::WarmCrt,
+    LutPreset::CoolCrt,
+    LutPreset::Composite,
+    LutPreset::GameBoy,
+    LutPreset::Amber,
+    LutPreset::HighContrast,
+];
