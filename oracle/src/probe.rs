@@ -24,6 +24,17 @@ mod exports {
             vertical: f32,
             horizontal: f32,
         );
+        pub fn probe_bloom(
+            frame: *mut u32,
+            frame_len: usize,
+            scratch: *mut f32,
+            scratch_len: usize,
+            width: usize,
+            height: usize,
+            threshold: u8,
+            strength: f32,
+            radius: usize,
+        );
         pub fn probe_color_correction(
             frame: *mut u32,
             frame_len: usize,
@@ -31,10 +42,54 @@ mod exports {
             contrast: f32,
             saturation: f32,
         );
+        pub fn probe_crt(
+            frame: *mut u32,
+            frame_len: usize,
+            width: usize,
+            height: usize,
+            strength: f32,
+        );
+        pub fn probe_curvature(
+            frame: *mut u32,
+            frame_len: usize,
+            scratch: *mut u32,
+            scratch_len: usize,
+            width: usize,
+            height: usize,
+            amount: f32,
+        );
         pub fn probe_lut(frame: *mut u32, frame_len: usize, preset: u8, strength: f32);
+        pub fn probe_ntsc(
+            frame: *mut u32,
+            frame_len: usize,
+            width: usize,
+            height: usize,
+            strength: f32,
+            bleed: usize,
+        );
+        pub fn probe_persistence(
+            frame: *mut u32,
+            frame_len: usize,
+            history: *mut u32,
+            history_len: usize,
+            scratch: *mut u32,
+            scratch_len: usize,
+            amount: f32,
+            depth: u8,
+            held: u32,
+        ) -> u32;
         pub fn probe_scanlines(
             frame: *mut u32,
             frame_len: usize,
+            width: usize,
+            height: usize,
+            strength: f32,
+        );
+        pub fn probe_vignette(
+            frame: *mut u32,
+            frame_len: usize,
+            scratch: *mut f32,
+            scratch_len: usize,
             width: usize,
             height: usize,
             strength: f32,
@@ -132,11 +187,65 @@ pub fn auto_gradient(
     }
 }
 
+pub fn bloom(
+    frame: &mut [u32],
+    scratch: &mut [f32],
+    width: usize,
+    height: usize,
+    threshold: u8,
+    strength: f32,
+    radius: usize,
+) {
+    assert_frame(frame, width, height);
+    assert_lendable(scratch.as_ptr(), scratch.len());
+    assert!(scratch.len() >= 3 * frame.len());
+    assert!(radius <= 64);
+    // SAFETY: as said of the passes.
+    unsafe {
+        exports::probe_bloom(
+            frame.as_mut_ptr(),
+            frame.len(),
+            scratch.as_mut_ptr(),
+            scratch.len(),
+            width,
+            height,
+            threshold,
+            strength,
+            radius,
+        )
+    }
+}
+
 pub fn color_correction(frame: &mut [u32], brightness: f32, contrast: f32, saturation: f32) {
     assert_lendable(frame.as_ptr(), frame.len());
     let (start, len) = (frame.as_mut_ptr(), frame.len());
     // SAFETY: as said of the passes.
     unsafe { exports::probe_color_correction(start, len, brightness, contrast, saturation) }
+}
+
+pub fn crt(frame: &mut [u32], width: usize, height: usize, strength: f32) {
+    assert_frame(frame, width, height);
+    let (start, len) = (frame.as_mut_ptr(), frame.len());
+    // SAFETY: as said of the passes.
+    unsafe { exports::probe_crt(start, len, width, height, strength) }
+}
+
+pub fn curvature(frame: &mut [u32], scratch: &mut [u32], width: usize, height: usize, amount: f32) {
+    assert_frame(frame, width, height);
+    assert_lendable(scratch.as_ptr(), scratch.len());
+    assert!(scratch.len() >= frame.len());
+    // SAFETY: as said of the passes.
+    unsafe {
+        exports::probe_curvature(
+            frame.as_mut_ptr(),
+            frame.len(),
+            scratch.as_mut_ptr(),
+            scratch.len(),
+            width,
+            height,
+            amount,
+        )
+    }
 }
 
 pub fn lut(frame: &mut [u32], preset: u8, strength: f32) {
@@ -145,9 +254,75 @@ pub fn lut(frame: &mut [u32], preset: u8, strength: f32) {
     unsafe { exports::probe_lut(frame.as_mut_ptr(), frame.len(), preset, strength) }
 }
 
+pub fn ntsc(frame: &mut [u32], width: usize, height: usize, strength: f32, bleed: usize) {
+    assert_frame(frame, width, height);
+    assert!(bleed <= 64);
+    let (start, len) = (frame.as_mut_ptr(), frame.len());
+    // SAFETY: as said of the passes.
+    unsafe { exports::probe_ntsc(start, len, width, height, strength, bleed) }
+}
+
+/// Gives the count that is held after the call. It takes no width and no height: the frame may be
+/// of any shape.
+pub fn persistence(
+    frame: &mut [u32],
+    history: &mut [u32],
+    scratch: &mut [u32],
+    amount: f32,
+    depth: u8,
+    held: u32,
+) -> u32 {
+    assert_lendable(frame.as_ptr(), frame.len());
+    assert_lendable(history.as_ptr(), history.len());
+    assert_lendable(scratch.as_ptr(), scratch.len());
+    assert!(frame.len() <= 1024 * 1024);
+    assert!((1..=8).contains(&depth));
+    assert!(history.len() >= usize::from(depth) * frame.len());
+    assert!(scratch.len() >= frame.len());
+    // SAFETY: as said of the passes.
+    unsafe {
+        exports::probe_persistence(
+            frame.as_mut_ptr(),
+            frame.len(),
+            history.as_mut_ptr(),
+            history.len(),
+            scratch.as_mut_ptr(),
+            scratch.len(),
+            amount,
+            depth,
+            held,
+        )
+    }
+}
+
 pub fn scanlines(frame: &mut [u32], width: usize, height: usize, strength: f32) {
     assert_frame(frame, width, height);
     let (start, len) = (frame.as_mut_ptr(), frame.len());
     // SAFETY: as said of the passes.
     unsafe { exports::probe_scanlines(start, len, width, height, strength) }
+}
+
+pub fn vignette(
+    frame: &mut [u32],
+    scratch: &mut [f32],
+    width: usize,
+    height: usize,
+    strength: f32,
+) {
+    assert_frame(frame, width, height);
+    assert!(width > 0 && height > 0);
+    assert_lendable(scratch.as_ptr(), scratch.len());
+    assert!(scratch.len() >= frame.len());
+    // SAFETY: as said of the passes.
+    unsafe {
+        exports::probe_vignette(
+            frame.as_mut_ptr(),
+            frame.len(),
+            scratch.as_mut_ptr(),
+            scratch.len(),
+            width,
+            height,
+            strength,
+        )
+    }
 }

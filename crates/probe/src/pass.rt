@@ -1,10 +1,19 @@
 // Exports of the passes, each with the contract of the pass itself.
 ghost use mathlib.Core.Path.{_≡_};
+ghost use Prim.Native.Nat.{_*_, _≤_, _<_};
+ghost use lib.ListN.{length, drop};
+ghost use Rattle.passes.specs.Bloom as Bloom;
+ghost use Rattle.passes.specs.Crt as Crt;
+ghost use Rattle.passes.specs.Curvature as Curvature;
+ghost use Rattle.passes.specs.Flow.{flow};
+ghost use Rattle.passes.specs.Ntsc as Ntsc;
+ghost use Rattle.passes.specs.Persistence as Persistence;
 ghost use Rattle.passes.specs.Rows.{Frame};
 ghost use Rattle.passes.specs.AutoGradient as AutoGradient;
 ghost use Rattle.passes.specs.ColorCorrection as ColorCorrection;
 ghost use Rattle.passes.specs.Lut as Lut;
 ghost use Rattle.passes.specs.Scanlines as Scanlines;
+ghost use Rattle.passes.specs.Vignette as Vignette;
 
 #[no_mangle]
 pub extern "C" fn probe_auto_gradient(
@@ -22,6 +31,22 @@ pub extern "C" fn probe_auto_gradient(
 }
 
 #[no_mangle]
+pub extern "C" fn probe_bloom(
+    frame: &mut [u32],
+    scratch: &mut [f32],
+    width: usize,
+    height: usize,
+    threshold: u8,
+    strength: f32,
+    radius: usize,
+)
+    requires { ⌜ Frame width height (now frame) ⌝ ∗ ⌜ (radius ≤ 64) × (3 * length (now frame) ≤ length (now scratch)) ⌝ }
+    ensures { λ _. ⌜ (now (frame .exit) ≡ Bloom.bloom width height threshold strength radius (now (frame .entry))) × (drop (3 * length (now (frame .entry))) (now (scratch .exit)) ≡ drop (3 * length (now (frame .entry))) (now (scratch .entry))) ⌝ }
+{
+    passes::bloom::apply(frame, scratch, width, height, threshold, strength, radius);
+}
+
+#[no_mangle]
 pub extern "C" fn probe_color_correction(
     frame: &mut [u32],
     brightness: f32,
@@ -34,10 +59,61 @@ pub extern "C" fn probe_color_correction(
 }
 
 #[no_mangle]
+pub extern "C" fn probe_crt(frame: &mut [u32], width: usize, height: usize, strength: f32)
+    requires { ⌜ Frame width height (now frame) ⌝ }
+    ensures { λ _. ⌜ now (frame .exit) ≡ Crt.crt width height strength (now (frame .entry)) ⌝ }
+{
+    passes::crt::apply(frame, width, height, strength);
+}
+
+#[no_mangle]
+pub extern "C" fn probe_curvature(
+    frame: &mut [u32],
+    scratch: &mut [u32],
+    width: usize,
+    height: usize,
+    amount: f32,
+)
+    requires { ⌜ Frame width height (now frame) ⌝ ∗ ⌜ length (now frame) ≤ length (now scratch) ⌝ }
+    ensures { λ _. ⌜ (now (frame .exit) ≡ Curvature.curvature width height amount (now (frame .entry))) × (drop (length (now (frame .entry))) (now (scratch .exit)) ≡ drop (length (now (frame .entry))) (now (scratch .entry))) ⌝ }
+{
+    passes::curvature::apply(frame, scratch, width, height, amount);
+}
+
+#[no_mangle]
 pub extern "C" fn probe_lut(frame: &mut [u32], preset: u8, strength: f32)
     ensures { λ _. ⌜ now (frame .exit) ≡ Lut.lut preset strength (now (frame .entry)) ⌝ }
 {
     passes::lut::apply(frame, preset, strength);
+}
+
+#[no_mangle]
+pub extern "C" fn probe_ntsc(
+    frame: &mut [u32],
+    width: usize,
+    height: usize,
+    strength: f32,
+    bleed: usize,
+)
+    requires { ⌜ Frame width height (now frame) ⌝ ∗ ⌜ bleed ≤ 64 ⌝ }
+    ensures { λ _. ⌜ now (frame .exit) ≡ Ntsc.ntsc width strength bleed (now (frame .entry)) ⌝ }
+{
+    passes::ntsc::apply(frame, width, height, strength, bleed);
+}
+
+#[no_mangle]
+pub extern "C" fn probe_persistence(
+    frame: &mut [u32],
+    history: &mut [u32],
+    scratch: &mut [u32],
+    amount: f32,
+    depth: u8,
+    held: u32,
+) -> u32
+    requires { ⌜ (depth ≤ 8) × (depth * length (now frame) ≤ length (now history)) × (length (now frame) ≤ length (now scratch)) × (length (now frame) ≤ 1048576) ⌝ }
+    ensures { λ r. ⌜ (flow (now (frame .exit)) r (now (history .exit)) ≡ Persistence.persistence amount depth (flow (now (frame .entry)) held (now (history .entry)))) × (drop (length (now (frame .entry))) (now (scratch .exit)) ≡ drop (length (now (frame .entry))) (now (scratch .entry))) ⌝ }
+{
+    passes::persistence::apply(frame, history, scratch, amount, depth, held)
 }
 
 #[no_mangle]
@@ -46,4 +122,19 @@ pub extern "C" fn probe_scanlines(frame: &mut [u32], width: usize, height: usize
     ensures { λ _. ⌜ now (frame .exit) ≡ Scanlines.scanlines width strength (now (frame .entry)) ⌝ }
 {
     passes::scanlines::apply(frame, width, height, strength);
+}
+
+#[no_mangle]
+pub extern "C" fn probe_vignette(
+    frame: &mut [u32],
+    scratch: &mut [f32],
+    width: usize,
+    height: usize,
+    strength: f32,
+)
+    requires { ⌜ Frame width height (now frame) × (0 < width) × (0 < height) × (length (now frame) ≤ length (now scratch)) ⌝ }
+    ensures { λ _. ⌜ (now (frame .exit) ≡ Vignette.vignette width height strength (now (frame .entry)))
+        × (drop (length (now (frame .entry))) (now (scratch .exit)) ≡ drop (length (now (frame .entry))) (now (scratch .entry))) ⌝ }
+{
+    passes::vignette::apply(frame, scratch, width, height, strength);
 }

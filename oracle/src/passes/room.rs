@@ -34,7 +34,6 @@ pub struct Room {
 }
 
 /// The part that is lent for one call.
-#[allow(dead_code)] // until a pass of the table takes more than its frame
 pub struct Lent<'a> {
     pub floats: &'a mut [f32],
     pub words: &'a mut [u32],

@@ -55,7 +55,6 @@ pub const fn clamped(name: &'static str, high: f32) -> Field {
 }
 
 /// The width of a blur: 0 becomes 1.
-#[allow(dead_code)] // until a pass of the table blurs
 pub const fn radius(name: &'static str) -> Field {
     Field::Whole {
         name,

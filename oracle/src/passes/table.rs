@@ -2,12 +2,18 @@
 //! from them, and how the pass here is called with them.
 
 use super::original::auto_gradient::AutoGradient;
+use super::original::bloom::Bloom;
 use super::original::color_correction::ColorCorrection;
+use super::original::crt::Crt;
+use super::original::curvature::Curvature;
 use super::original::effect::PostProcessEffect;
 use super::original::lut::{Lut, LutPreset};
+use super::original::ntsc::Ntsc;
+use super::original::persistence::Persistence;
 use super::original::scanlines::Scanlines;
+use super::original::vignette::Vignette;
 use super::room::{Lent, Needs, FRAME_ONLY};
-use super::settings::{clamped, Field, Setting};
+use super::settings::{clamped, radius, Field, Setting};
 use crate::probe;
 
 pub struct Pass {
@@ -60,6 +66,38 @@ pub static PASSES: &[Pass] = &[
         limit: 1.0,
     },
     Pass {
+        name: "bloom",
+        fields: &[
+            Field::Whole {
+                name: "threshold",
+                least: 0,
+                most: 255,
+                boundaries: &[0, 1, 100, 253, 254, 255],
+            },
+            clamped("strength", 1.0),
+            radius("radius"),
+        ],
+        needs: Needs {
+            floats: 3,
+            ..FRAME_ONLY
+        },
+        original: |s| Box::new(Bloom::new(s.byte(0), s.float(1), s.whole(2))),
+        ours: |s, f, lent| {
+            probe::bloom(
+                f.words,
+                lent.floats,
+                f.width,
+                f.height,
+                s.byte(0),
+                s.float(1),
+                s.whole(2),
+            )
+        },
+        cost: |s| 40 + 7 * (2 * s.whole(2) + 1),
+        measured: &[&[100.0, 0.5, 4.0], &[100.0, 0.5, 64.0]],
+        limit: 0.35,
+    },
+    Pass {
         name: "color_correction",
         // The original clamps contrast and saturation below only, and brightness not at all.
         fields: &[
@@ -95,6 +133,33 @@ pub static PASSES: &[Pass] = &[
         limit: 1.0,
     },
     Pass {
+        name: "crt",
+        fields: &[clamped("strength", 1.0)],
+        needs: FRAME_ONLY,
+        original: |s| {
+            let mut effect = Crt::new(s.float(0));
+            effect.set_enabled(true);
+            Box::new(effect)
+        },
+        ours: |s, f, _| probe::crt(f.words, f.width, f.height, s.float(0)),
+        cost: |_| 30,
+        measured: &[&[0.75]],
+        limit: 1.0,
+    },
+    Pass {
+        name: "curvature",
+        fields: &[clamped("amount", 0.5)],
+        needs: Needs {
+            words: 1,
+            ..FRAME_ONLY
+        },
+        original: |s| Box::new(Curvature::new(s.float(0))),
+        ours: |s, f, lent| probe::curvature(f.words, lent.words, f.width, f.height, s.float(0)),
+        cost: |_| 30,
+        measured: &[&[0.1]],
+        limit: 1.0,
+    },
+    Pass {
         name: "lut",
         fields: &[
             Field::Whole {
@@ -121,12 +186,61 @@ pub static PASSES: &[Pass] = &[
         limit: 1.0,
     },
     Pass {
+        name: "ntsc",
+        fields: &[clamped("strength", 1.0), radius("bleed")],
+        needs: FRAME_ONLY,
+        original: |s| Box::new(Ntsc::new(s.float(0), s.whole(1))),
+        ours: |s, f, _| probe::ntsc(f.words, f.width, f.height, s.float(0), s.whole(1)),
+        cost: |s| 30 + 4 * (2 * s.whole(1) + 1),
+        measured: &[&[0.75, 4.0], &[0.75, 64.0]],
+        limit: 0.35,
+    },
+    Pass {
+        name: "persistence",
+        fields: &[
+            clamped("amount", 0.95),
+            Field::Whole {
+                name: "depth",
+                least: 1,
+                most: 8,
+                boundaries: &[0, 1, 2, 3, 4, 5, 6, 7, 8],
+            },
+        ],
+        needs: Needs {
+            words: 1,
+            history: 8,
+            ..FRAME_ONLY
+        },
+        original: |s| Box::new(Persistence::new(s.float(0), s.whole(1))),
+        ours: |s, f, lent| {
+            let (amount, depth) = (s.float(0), s.byte(1));
+            *lent.held =
+                probe::persistence(f.words, lent.history, lent.words, amount, depth, *lent.held)
+        },
+        cost: |s| 10 + 4 * s.whole(1),
+        measured: &[&[0.35, 3.0], &[0.35, 8.0]],
+        limit: 1.0,
+    },
+    Pass {
         name: "scanlines",
         fields: &[clamped("strength", 1.0)],
         needs: FRAME_ONLY,
         original: |s| Box::new(Scanlines::new(s.float(0))),
         ours: |s, f, _| probe::scanlines(f.words, f.width, f.height, s.float(0)),
         cost: |_| 10,
+        measured: &[&[0.35]],
+        limit: 1.0,
+    },
+    Pass {
+        name: "vignette",
+        fields: &[clamped("strength", 1.0)],
+        needs: Needs {
+            floats: 1,
+            ..FRAME_ONLY
+        },
+        original: |s| Box::new(Vignette::new(s.float(0))),
+        ours: |s, f, lent| probe::vignette(f.words, lent.floats, f.width, f.height, s.float(0)),
+        cost: |_| 30,
         measured: &[&[0.35]],
         limit: 1.0,
     },
