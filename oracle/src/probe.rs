@@ -9,7 +9,7 @@ mod exports {
         pub fn probe_cut(xs: *const f32, xs_len: usize, out: *mut u32, out_len: usize);
         pub fn probe_nearest(xs: *const f32, xs_len: usize, out: *mut u32, out_len: usize);
         pub fn probe_round(xs: *const f32, xs_len: usize, out: *mut f32, out_len: usize);
-        pub fn probe_root(xs: *const f32, xs_len: usize, out: *mut f32, out_len: usize);
+        pub fn probe_root(xs: *mut f32, xs_len: usize);
         pub fn probe_clamp(x: f32, lo: f32, hi: f32) -> f32;
         pub fn probe_min(a: f32, b: f32) -> f32;
         pub fn probe_max(a: f32, b: f32) -> f32;
@@ -130,8 +130,14 @@ pub fn round(xs: &[f32], out: &mut [f32]) {
     over(exports::probe_round, xs, out);
 }
 
+/// The export works in place: `out` is given the operands first.
 pub fn root(xs: &[f32], out: &mut [f32]) {
-    over(exports::probe_root, xs, out);
+    let n = xs.len().min(out.len());
+    let out = &mut out[..n];
+    out.copy_from_slice(&xs[..n]);
+    assert_lendable(out.as_ptr(), out.len());
+    // SAFETY: the pointer comes with the length of its own slice, and the export does not keep it.
+    unsafe { exports::probe_root(out.as_mut_ptr(), out.len()) }
 }
 
 // These take numbers only and are defined for all of them, so there is nothing to assert.

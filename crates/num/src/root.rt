@@ -7,6 +7,7 @@ ghost use mathlib.Core.Bool.{false};
 ghost use Prim.Native.Nat.{_+_, _-_, _*_, _^_, _<_, _≤_};
 ghost use lib.Ieee.{binary32, ofBits};
 ghost use lib.Ieee.Exact.{HasValue};
+ghost use Rattle.num.specs.Rewrite.{every};
 ghost use Rattle.num.specs.Root.{wholeRoot, nearestRoot, rootOf};
 ghost use Rattle.num.specs.Private.{operand};
 
@@ -90,4 +91,16 @@ pub fn root(x: f32) -> f32
     let v = decode(finite(b));
     let r = f32::from_bits(root_bits(v.m, v.e));
     if 0.0 < x && b < 0x7f80_0000 { r } else { 0.0 }
+}
+
+// The root of each value. It is the one caller of `root` in a library, so that `root` becomes part of the loop and both become
+// vector code: a function with a second caller stays a call.
+pub fn roots(xs: &mut [f32])
+    ensures { λ _. ⌜ now (xs .exit) ≡ every (λ i. rootOf) (now (xs .entry)) ⌝ }
+{
+    let mut i = 0;
+    while i < xs.len() {
+        xs[i] = root(xs[i]);
+        i += 1;
+    }
 }

@@ -13,7 +13,7 @@ use lib.Ieee.{Float, nan}
 use borrow.Author.Tests.{le-leb, lt-leb, lt-ltb, le-ltb, ltb-true}
 use Rattle.num.specs.Const.{c0·0}
 use Rattle.num.specs.F32.{_⊕_, _⊗_}
-use Rattle.passes.specs.Rewrite.{every, fill, every-twice, length-rewrite, rewrite-ext, rewrite-same, getD-fill, mid}
+use Rattle.num.specs.Rewrite.{every, fill, every-twice, length-rewrite, rewrite-ext, rewrite-same, getD-fill, mid}
 use Rattle.passes.specs.Blur.{at, cell, weight, distance, inside, taken, step, total, weights, weighted, ratio, blurBy, blurAt, WeightLine}
 
 lt-or-le : (a b : ℕ) → (a < b) ⊎ (b ≤ a)

@@ -8,7 +8,9 @@ use lib.ListN.{length, getD, take, drop, length-drop, List·getD-append}
 use lib.Seq.{length-take-le, length-front, getD-take, getD-drop, drop-drop, drop-append-add}
 use lib.Ieee.{Float, nan}
 use Rattle.passes.specs.Pixel.{dim}
-use Rattle.passes.specs.Rewrite.{length-rewrite}
+use Rattle.num.specs.Rewrite.{length-rewrite}
+use Rattle.num.specs.F32.{_⊕_}
+use Rattle.num.specs.Root.{rootOf}
 use Rattle.passes.specs.Rows.{Frame, sampled, getD-sampled, row-ends}
 use Rattle.passes.specs.Vignette.{factor, square, factorAt}
 use Rattle.passes.proofs.Mirror.{nearer, square-nearer}
@@ -58,8 +60,8 @@ module _ {w h : ℕ} {frame : List ℕ} (scratch : List Float) (pre : Frame w h 
           (omega (arith, new-length, quarter-frame .area, row-ends v (h / 2 + 1) (nearer h y) b))
           ∙ ap (λ (z : List Float). getD z (nearer h y * v + nearer w x) nan) e
           ∙ getD-sampled v (h / 2 + 1) (take (words w h) scratch) (factorAt w h strength) (nearer w x) (nearer h y) nan (quarter-frame .area) a b
-          ∙ ap (λ (z : Float). factor strength z (square h (nearer h y))) (square-nearer w x (pre .0 .wide) (omega arith))
-          ∙ ap (λ (z : Float). factor strength (square w x) z) (square-nearer h y (pre .0 .high) (omega arith));
+          ∙ ap (λ (z : Float). factor strength (rootOf (z ⊕ square h (nearer h y)))) (square-nearer w x (pre .0 .wide) (omega arith))
+          ∙ ap (λ (z : Float). factor strength (rootOf (square w x ⊕ z))) (square-nearer h y (pre .0 .high) (omega arith));
     }
 
     -- no word past the frame's count is written

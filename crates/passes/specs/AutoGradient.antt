@@ -9,7 +9,7 @@ use Rattle.num.specs.F32.{_⊕_, _⊖_, _⊗_, _⊘_, whole}
 use Rattle.passes.specs.Fold.{fold}
 use Rattle.passes.specs.Pixel.{luma709, packLimited, unpack, rgb}
 use Rattle.passes.specs.Position.{position}
-use Rattle.passes.specs.Rewrite.{every}
+use Rattle.num.specs.Rewrite.{every}
 use Rattle.passes.specs.Rows.{placed}
 
 -- the sum so far and a word's luma

@@ -9,7 +9,7 @@ use Rattle.num.specs.Const.{c0·0, c1·0, c255·0}
 use Rattle.num.specs.F32.{_⊕_, _⊖_, _⊗_, _⊘_, whole}
 use Rattle.passes.specs.Pixel.{packLimited, unpack, rgb, scaled, luma709}
 use Rattle.passes.specs.Blur.{blurBy, weights, down, cell}
-use Rattle.passes.specs.Rewrite.{every}
+use Rattle.num.specs.Rewrite.{every}
 use Rattle.passes.specs.Rows.{placed}
 use Rattle.passes.specs.declared.pixel.Rgb.{Rgb}
 

@@ -11,7 +11,7 @@ use Rattle.num.specs.Steps.{clampOf, minOf, maxOf, absOf, cutOf, roundOf}
 use Rattle.passes.specs.Fold.{fold}
 use Rattle.passes.specs.Pixel.{unpack, unit, pack, packNearest, packLimited, packUnit, dim, luma601, luma709}
 use Rattle.passes.specs.Position.{position}
-use Rattle.passes.specs.Rewrite.{rewrite}
+use Rattle.num.specs.Rewrite.{rewrite}
 use Rattle.passes.specs.Flow.{Flow, flow}
 use Rattle.passes.specs.Blur as Blur
 use Rattle.passes.specs.Scanlines as Scanlines

@@ -5,7 +5,7 @@ use lib.Ieee.{Float}
 use Rattle.num.specs.Const.{c0·5}
 use Rattle.num.specs.F32.{_⊕_, _⊖_, _⊗_}
 use Rattle.passes.specs.Pixel.{luma709, packUnit, unit, channels}
-use Rattle.passes.specs.Rewrite.{every}
+use Rattle.num.specs.Rewrite.{every}
 use Rattle.passes.specs.declared.pixel.Rgb.{Rgb}
 
 -- brightness, then contrast about the middle

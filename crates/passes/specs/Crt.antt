@@ -6,7 +6,7 @@ use Rattle.num.specs.Steps.{clampOf, maxOf}
 use Rattle.num.specs.Const.{c0·0, c0·035, c0·12, c0·5, c1·0}
 use Rattle.num.specs.F32.{_⊕_, _⊖_, _⊗_, _⊘_, whole}
 use Rattle.passes.specs.Pixel.{packNearest, unpack, rgb, scaled}
-use Rattle.passes.specs.Rewrite.{every}
+use Rattle.num.specs.Rewrite.{every}
 use Rattle.passes.specs.Rows.{placed}
 use Rattle.passes.specs.declared.pixel.Rgb.{Rgb}
 

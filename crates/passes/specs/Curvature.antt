@@ -8,7 +8,7 @@ use Rattle.num.specs.Const.{c1·0}
 use Rattle.num.specs.F32.{_⊕_, _⊗_}
 use Rattle.num.specs.Index.{indexOf}
 use Rattle.passes.specs.Position.{position}
-use Rattle.passes.specs.Rewrite.{every}
+use Rattle.num.specs.Rewrite.{every}
 use Rattle.passes.specs.Rows.{placed}
 
 -- s is not in -1..1

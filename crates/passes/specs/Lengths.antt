@@ -6,7 +6,7 @@ use Prim.Native.Nat.{ℕ, _*_, _≤_}
 use lib.Dec.{eqb}
 use lib.ListN.{length}
 use lib.Ieee.{Float}
-use Rattle.passes.specs.Rewrite.{length-rewrite}
+use Rattle.num.specs.Rewrite.{length-rewrite}
 use Rattle.passes.specs.Scanlines.{scanlines}
 use Rattle.passes.specs.Vignette.{vignette}
 use Rattle.passes.specs.Crt.{crt}

@@ -1,5 +1,4 @@
--- Laws that every pass uses: Rewrite, Rows, Fold. Definitions that several share: Pixel, Position, Blur. The passes, each named as its Rust file.
-pub mod Rewrite
+-- Laws of loops over a frame: Rows, Fold (num has Rewrite). Definitions that several share: Pixel, Position, Blur. The passes, each named as its Rust file.
 pub mod Rows
 pub mod Fold
 pub mod Pixel

@@ -6,7 +6,7 @@ use Rattle.num.specs.Steps.{roundOf}
 use Rattle.num.specs.Const.{c0·01, c0·015, c0·16, c0·35, c0·42, c0·5, c0·58, c0·72, c0·82, c0·88, c0·92, c0·94, c0·95, c0·96, c0·99, c1·0, c1·01, c1·03, c1·05, c1·06, c1·25, c3·0}
 use Rattle.num.specs.F32.{_⊕_, _⊖_, _⊗_, _⊘_}
 use Rattle.passes.specs.Pixel.{luma601, packUnit, rgb, channels, unit}
-use Rattle.passes.specs.Rewrite.{every}
+use Rattle.num.specs.Rewrite.{every}
 use Rattle.passes.specs.declared.pixel.Rgb.{Rgb}
 
 abbrev pub warmCrt : Rgb → Rgb

@@ -7,7 +7,7 @@ use Rattle.num.specs.Const.{c0·10001, c0·14713, c0·28886, c0·39465, c0·436
 use Rattle.num.specs.F32.{_⊕_, _⊖_, _⊗_}
 use Rattle.passes.specs.Pixel.{packLimited, unpack, rgb, luma601}
 use Rattle.passes.specs.Blur.{blurBy, weights}
-use Rattle.passes.specs.Rewrite.{every}
+use Rattle.num.specs.Rewrite.{every}
 use Rattle.passes.specs.Rows.{placed}
 use Rattle.passes.specs.declared.pixel.Rgb.{Rgb}
 

@@ -9,7 +9,7 @@ use Rattle.num.specs.Const.{c0·55, c1·0}
 use Rattle.num.specs.F32.{_⊕_, _⊗_, _⊘_}
 use Rattle.passes.specs.Flow.{Flow, flow}
 use Rattle.passes.specs.Pixel.{packLimited, rgb, scaled, unpack}
-use Rattle.passes.specs.Rewrite.{every}
+use Rattle.num.specs.Rewrite.{every}
 use Rattle.passes.specs.declared.pixel.Rgb.{Rgb}
 
 -- ## Weights: 1 for the current frame, amount for the newest older one, and for each further one 0.55 of the weight before

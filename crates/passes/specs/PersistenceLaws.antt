@@ -11,7 +11,7 @@ use Rattle.num.specs.Const.{c1·0}
 use Rattle.num.specs.F32.{_⊘_}
 use Rattle.passes.specs.Pixel.{packLimited}
 use Rattle.passes.specs.Persistence.{total, weight, add, mix, pixel, blended, blend, copies, refilled, shifted}
-use Rattle.passes.specs.Rewrite.{length-rewrite, rewrite-ext}
+use Rattle.num.specs.Rewrite.{length-rewrite, rewrite-ext}
 use Rattle.passes.specs.Rows.{row-ends}
 use Rattle.passes.specs.declared.pixel.Rgb.{Rgb}
 

@@ -5,7 +5,7 @@ use lib.Ieee.{Float}
 use Rattle.num.specs.Const.{c1·0}
 use Rattle.num.specs.F32.{_⊖_}
 use Rattle.passes.specs.Pixel.{dim}
-use Rattle.passes.specs.Rewrite.{every}
+use Rattle.num.specs.Rewrite.{every}
 use Rattle.passes.specs.Rows.{placed}
 
 -- by the row modulo two

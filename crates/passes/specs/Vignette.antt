@@ -7,7 +7,7 @@ use Rattle.num.specs.Root.{rootOf}
 use Rattle.num.specs.Const.{c1·0, c2·0}
 use Rattle.num.specs.F32.{_⊕_, _⊖_, _⊗_, _⊘_, whole}
 use Rattle.passes.specs.Pixel.{dim}
-use Rattle.passes.specs.Rewrite.{every}
+use Rattle.num.specs.Rewrite.{every}
 use Rattle.passes.specs.Rows.{placed}
 
 -- how far k is from the middle of n, in halves of n, squared
@@ -17,15 +17,14 @@ square n k =
     let d = (whole k ⊖ c) ⊘ c in
     d ⊗ d
 
--- from the squares of the two distances
-unfoldable pub factor : Float → Float → Float → Float
-factor strength xx yy =
-    let distance = rootOf (xx ⊕ yy) in
-    c1·0 ⊖ minOf (distance ⊗ strength) c1·0
+unfoldable pub factor : Float → Float → Float
+factor strength distance = c1·0 ⊖ minOf (distance ⊗ strength) c1·0
 
 -- the factor at column x and row y
 abbrev pub factorAt : ℕ → ℕ → Float → ℕ → ℕ → Float
-factorAt w h strength x y = factor strength (square w x) (square h y)
+factorAt w h strength x y =
+    let distance = rootOf (square w x ⊕ square h y) in
+    factor strength distance
 
 unfoldable pub vignette : ℕ → ℕ → Float → List ℕ → List ℕ
 vignette w h strength frame = every (placed w (λ x y. dim (factorAt w h strength x y))) frame

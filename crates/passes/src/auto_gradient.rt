@@ -4,7 +4,7 @@ ghost use Prim.Native.Nat.{_≤_, _<_};
 ghost use lib.ListN.{length};
 ghost use Rattle.num.specs.Const.{c0·0};
 ghost use Rattle.passes.specs.Fold.{fold};
-ghost use Rattle.passes.specs.Rewrite.{every};
+ghost use Rattle.num.specs.Rewrite.{every};
 ghost use Rattle.passes.specs.Rows.{Frame};
 ghost use Rattle.passes.specs.AutoGradient as AutoGradient;
 use crate::pixel;

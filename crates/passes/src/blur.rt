@@ -5,7 +5,7 @@ ghost use Prim.Native.Nat.{_+_, _-_, _*_, _≤_, _<_};
 ghost use lib.ListN.{length, take, drop};
 ghost use Rattle.num.specs.Const.{c0·0};
 ghost use Rattle.num.specs.F32.{_⊕_, _⊗_};
-ghost use Rattle.passes.specs.Rewrite.{every, fill};
+ghost use Rattle.num.specs.Rewrite.{every, fill};
 ghost use Rattle.passes.specs.Blur as Blur;
 ghost use Rattle.passes.specs.Blur.{at, cell};
 

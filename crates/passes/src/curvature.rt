@@ -3,7 +3,7 @@ ghost use mathlib.Core.Path.{_≡_};
 ghost use Prim.Native.Nat.{_≤_, _<_};
 ghost use lib.ListN.{length, drop};
 ghost use Rattle.num.specs.Index.{indexOf};
-ghost use Rattle.passes.specs.Rewrite.{every};
+ghost use Rattle.num.specs.Rewrite.{every};
 ghost use Rattle.passes.specs.Rows.{Frame};
 ghost use Rattle.passes.specs.Curvature as Curvature;
 use crate::rows;

@@ -3,7 +3,7 @@ ghost use mathlib.Core.Path.{_≡_};
 ghost use Prim.Native.Nat.{_≤_, _<_};
 ghost use lib.ListN.{length, getD};
 ghost use Rattle.passes.specs.Pixel.{unpack};
-ghost use Rattle.passes.specs.Rewrite.{every, fill};
+ghost use Rattle.num.specs.Rewrite.{every, fill};
 ghost use Rattle.passes.specs.Rows.{Frame, placed};
 ghost use Rattle.passes.specs.Blur.{at, blurBy};
 ghost use Rattle.passes.specs.Ntsc as Ntsc;

@@ -5,7 +5,7 @@ ghost use lib.ListN.{length, getD, drop};
 ghost use lib.Ieee.{nan};
 ghost use Rattle.passes.specs.Flow.{flow};
 ghost use Rattle.passes.specs.Persistence as Persistence;
-ghost use Rattle.passes.specs.Rewrite.{fill};
+ghost use Rattle.num.specs.Rewrite.{fill};
 use crate::pixel;
 use crate::pixel::Rgb;
 use crate::rows;

@@ -1,6 +1,6 @@
 // Scanlines: odd rows are dimmed.
 ghost use mathlib.Core.Path.{_≡_};
-ghost use Rattle.passes.specs.Rewrite.{every};
+ghost use Rattle.num.specs.Rewrite.{every};
 ghost use Rattle.passes.specs.Rows.{Frame};
 ghost use Rattle.passes.specs.Scanlines as Scanlines;
 use crate::pixel;

@@ -5,8 +5,10 @@ ghost use mathlib.Core.Path.{_≡_};
 ghost use Prim.Native.Nat.{_+_, _-_, _/_, _≤_, _<_, min};
 ghost use lib.ListN.{length, getD, drop};
 ghost use lib.Ieee.{nan};
+ghost use Rattle.num.specs.F32.{_⊕_};
+ghost use Rattle.num.specs.Root.{rootOf};
 ghost use Rattle.passes.specs.Pixel as Pixel;
-ghost use Rattle.passes.specs.Rewrite.{every, fill};
+ghost use Rattle.num.specs.Rewrite.{every, fill};
 ghost use Rattle.passes.specs.Rows.{Frame, sampled};
 ghost use Rattle.passes.specs.Vignette as Vignette;
 use crate::pixel;
@@ -21,22 +23,43 @@ fn square(n: usize, k: usize) -> f32
     d * d
 }
 
-fn factor(strength: f32, xx: f32, yy: f32) -> f32
-    ensures { λ r. ⌜ r ≡ Vignette.factor strength xx yy ⌝ }
+fn factor(strength: f32, distance: f32) -> f32
+    ensures { λ r. ⌜ r ≡ Vignette.factor strength distance ⌝ }
 {
-    1.0 - num::steps::min(num::root::root(xx + yy) * strength, 1.0)
+    1.0 - num::steps::min(distance * strength, 1.0)
 }
 
-// The factors of one row up to its middle; yy is the row's square.
-fn line(line: &mut [f32], width: usize, strength: f32, yy: f32)
+// The squares of the distances in one row up to its middle; yy is the row's own.
+fn squares(line: &mut [f32], width: usize, yy: f32)
     requires { ⌜ (width ≤ 1024) × (length (now line) ≤ 1024) ⌝ }
-    ensures { λ _. ⌜ now (line .exit) ≡ fill (λ x. Vignette.factor strength (Vignette.square width x) yy) (now (line .entry)) ⌝ }
+    ensures { λ _. ⌜ now (line .exit) ≡ fill (λ x. Vignette.square width x ⊕ yy) (now (line .entry)) ⌝ }
 {
     let mut x = 0;
     while x < line.len() {
-        line[x] = factor(strength, square(width, x), yy);
+        line[x] = square(width, x) + yy;
         x += 1;
     }
+}
+
+// Distances become factors.
+fn factors(line: &mut [f32], strength: f32)
+    ensures { λ _. ⌜ now (line .exit) ≡ every (λ x. Vignette.factor strength) (now (line .entry)) ⌝ }
+{
+    let mut x = 0;
+    while x < line.len() {
+        line[x] = factor(strength, line[x]);
+        x += 1;
+    }
+}
+
+// The factors of one row up to its middle.
+fn line(line: &mut [f32], width: usize, strength: f32, yy: f32)
+    requires { ⌜ (width ≤ 1024) × (length (now line) ≤ 1024) ⌝ }
+    ensures { λ _. ⌜ now (line .exit) ≡ fill (λ x. Vignette.factor strength (rootOf (Vignette.square width x ⊕ yy))) (now (line .entry)) ⌝ }
+{
+    squares(line, width, yy);
+    num::root::roots(line);
+    factors(line, strength);
 }
 
 // The factors of the quarter: `wide` to a line, `high` lines.

@@ -6,6 +6,7 @@ ghost use mathlib.Core.Path.{_≡_};
 ghost use Prim.Native.Nat.{min};
 ghost use Rattle.num.specs.Steps.{clampOf, minOf, maxOf, limitOf, absOf, cutOf, roundOf};
 ghost use Rattle.num.specs.Root.{rootOf};
+ghost use Rattle.num.specs.Rewrite.{every};
 ghost use Rattle.probe.specs.Over.{over};
 
 // The lesser of two lengths.
@@ -52,16 +53,12 @@ pub extern "C" fn probe_round(xs: &[f32], out: &mut [f32])
     }
 }
 
+// In place, since that is how num has its loop.
 #[no_mangle]
-pub extern "C" fn probe_root(xs: &[f32], out: &mut [f32])
-    ensures { λ _. ⌜ now (out .exit) ≡ over rootOf (now (xs .entry)) (now (out .entry)) ⌝ }
+pub extern "C" fn probe_root(xs: &mut [f32])
+    ensures { λ _. ⌜ now (xs .exit) ≡ every (λ i. rootOf) (now (xs .entry)) ⌝ }
 {
-    let n = shorter(xs.len(), out.len());
-    let mut i = 0;
-    while i < n {
-        out[i] = num::root::root(xs[i]);
-        i += 1;
-    }
+    num::root::roots(xs);
 }
 
 #[no_mangle]

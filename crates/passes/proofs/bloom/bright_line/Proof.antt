@@ -4,7 +4,7 @@ use mathlib.Core.Path.{_∙_, ap}
 use native.Mathlib.Omega.{arith}
 use lib.ListN.{length, getD}
 use lib.Ieee.{nan}
-use Rattle.passes.specs.Rewrite.{Rewritten, none, more, all}
+use Rattle.num.specs.Rewrite.{Rewritten, none, more, all}
 use Rattle.passes.specs.Bloom.{bright, channel, brightOf}
 use Rattle.passes.proofs.bloom.bright_line.Statement.{statement}
 use Rattle.passes.proofs.bloom.bright_line.Tie as tie

@@ -4,7 +4,7 @@ use mathlib.Core.Path.{_∙_}
 use native.Mathlib.Omega.{arith}
 use lib.ListN.{length}
 use Rattle.passes.specs.Pixel.{rgb}
-use Rattle.passes.specs.Rewrite.{Rewritten, none, more, all}
+use Rattle.num.specs.Rewrite.{Rewritten, none, more, all}
 use Rattle.passes.specs.Blur.{at, ratio}
 use Rattle.passes.specs.Bloom.{composite}
 use Rattle.passes.proofs.Planes.{same-composite}

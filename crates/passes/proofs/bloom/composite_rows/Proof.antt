@@ -7,7 +7,7 @@ use native.Mathlib.Nat.{zero-mul, one-mul}
 use lib.ListN.{length, take, drop}
 use lib.Ieee.{Float, nan}
 use Rattle.passes.specs.Pixel.{rgb}
-use Rattle.passes.specs.Rewrite.{fill, getD-fill}
+use Rattle.num.specs.Rewrite.{fill, getD-fill}
 use Rattle.passes.specs.Rows.{Rowed, no-rows, row-in, row-length, row-by, rows-all}
 use Rattle.passes.specs.Blur.{at, cell, weighted, weights, ratio, down}
 use Rattle.passes.specs.Bloom.{composite, vertical, stored}

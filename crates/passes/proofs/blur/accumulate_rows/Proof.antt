@@ -5,7 +5,7 @@ use native.Mathlib.Omega.{arith}
 use lib.ListN.{length}
 use borrow.Author.Needs.{needs}
 use Rattle.num.specs.F32.{_⊗_}
-use Rattle.passes.specs.Rewrite.{every, fill}
+use Rattle.num.specs.Rewrite.{every, fill}
 use Rattle.passes.specs.Blur.{cell, step, weighted}
 use Rattle.passes.proofs.Offsets.{Summed, summed-none, summed-more, summed-all}
 use Rattle.passes.proofs.blur.accumulate_rows.Statement.{statement}

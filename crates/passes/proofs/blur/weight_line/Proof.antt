@@ -5,7 +5,7 @@ use native.Mathlib.Omega.{arith}
 use lib.ListN.{length}
 use lib.Ieee.{Float, nan}
 use mathlib.Core.List.{List}
-use Rattle.passes.specs.Rewrite.{Rewritten, none, more, getD-rewrite}
+use Rattle.num.specs.Rewrite.{Rewritten, none, more, getD-rewrite}
 use Rattle.passes.specs.Blur.{at, weights, WeightLine}
 use Rattle.passes.proofs.blur.weight_line.Statement.{statement}
 use Rattle.passes.proofs.blur.weight_line.Tie as tie

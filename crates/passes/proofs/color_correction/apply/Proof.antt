@@ -2,7 +2,7 @@
 use Prim.Native.Nat.{_-_}
 use native.Mathlib.Omega.{arith}
 use lib.ListN.{length}
-use Rattle.passes.specs.Rewrite.{Rewritten, none, more, all}
+use Rattle.num.specs.Rewrite.{Rewritten, none, more, all}
 use Rattle.passes.specs.ColorCorrection.{colorCorrection, pixel}
 use Rattle.passes.proofs.color_correction.apply.Statement.{statement}
 use Rattle.passes.proofs.color_correction.apply.Tie as tie

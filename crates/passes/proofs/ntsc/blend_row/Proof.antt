@@ -2,7 +2,7 @@
 use Prim.Native.Nat.{_-_}
 use native.Mathlib.Omega.{arith}
 use lib.ListN.{length}
-use Rattle.passes.specs.Rewrite.{Rewritten, none, more, all}
+use Rattle.num.specs.Rewrite.{Rewritten, none, more, all}
 use Rattle.passes.specs.Blur.{at}
 use Rattle.passes.specs.Ntsc.{pixel}
 use Rattle.passes.proofs.ntsc.blend_row.Statement.{statement}

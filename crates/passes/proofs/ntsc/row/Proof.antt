@@ -5,7 +5,7 @@ use lib.ListN.{length, getD}
 use lib.Ieee.{Float}
 use borrow.Author.Needs.{needs}
 use Rattle.passes.specs.Pixel.{unpack}
-use Rattle.passes.specs.Rewrite.{rewrite-ext}
+use Rattle.num.specs.Rewrite.{rewrite-ext}
 use Rattle.passes.specs.Blur.{at}
 use Rattle.passes.specs.Ntsc.{chroma, pixel}
 use Rattle.passes.proofs.Offsets.{blur-of}

@@ -11,7 +11,7 @@ use Rattle.num.specs.Const.{c1·0}
 use Rattle.num.specs.F32.{_⊘_}
 use Rattle.passes.specs.Persistence.{total, weight, blended, blend}
 use Rattle.passes.specs.PersistenceLaws.{blended-same}
-use Rattle.passes.specs.Rewrite.{fill, getD-fill, length-rewrite}
+use Rattle.num.specs.Rewrite.{fill, getD-fill, length-rewrite}
 use Rattle.passes.proofs.persistence.blend.Statement.{statement}
 use Rattle.passes.proofs.persistence.blend.Tie as tie
 

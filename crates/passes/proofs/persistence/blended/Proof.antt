@@ -4,7 +4,7 @@ use native.Mathlib.Omega.{arith}
 use lib.ListN.{length, getD}
 use lib.Ieee.{nan}
 use Rattle.passes.specs.Persistence.{blended, pixel}
-use Rattle.passes.specs.Rewrite.{Rewritten, none, more, all}
+use Rattle.num.specs.Rewrite.{Rewritten, none, more, all}
 use Rattle.passes.proofs.persistence.blended.Statement.{statement}
 use Rattle.passes.proofs.persistence.blended.Tie as tie
 

@@ -8,7 +8,7 @@ use lib.Ieee.{nan}
 use Rattle.num.specs.Const.{c0·55}
 use Rattle.num.specs.F32.{_⊗_, _⊘_}
 use Rattle.passes.specs.Persistence.{decay, weight}
-use Rattle.passes.specs.Rewrite.{Rewritten, none, more, all}
+use Rattle.num.specs.Rewrite.{Rewritten, none, more, all}
 use Rattle.passes.proofs.persistence.weights.Statement.{statement}
 use Rattle.passes.proofs.persistence.weights.Tie as tie
 

@@ -6,7 +6,7 @@ use lib.ListN.{length}
 use lib.Ieee.{Float}
 use Rattle.num.specs.Const.{c1·0}
 use Rattle.num.specs.F32.{_⊖_}
-use Rattle.passes.specs.Rewrite.{Rewritten, none, more, all, rewrite-same}
+use Rattle.num.specs.Rewrite.{Rewritten, none, more, all, rewrite-same}
 use Rattle.passes.specs.Scanlines.{at, inRow}
 use Rattle.passes.specs.Pixel.{dim}
 use Rattle.passes.proofs.scanlines.row.Statement.{statement}

@@ -1,29 +1,24 @@
--- `passes::vignette::line` meets its contract. Assumes nothing.
-use Prim.Native.Nat.{_-_}
-use native.Mathlib.Omega.{arith}
-use lib.ListN.{length}
-use Rattle.num.specs.Const.{c0·0}
-use Rattle.passes.specs.Rewrite.{Rewritten, none, more, all}
+-- `passes::vignette::line` meets its contract: squares, their roots, and the factors of those. Assumes nothing.
+use mathlib.Core.Path.{_≡_, _∙_}
+use mathlib.Core.List.{List}
+use lib.Ieee.{Float}
+use borrow.Author.Needs.{needs}
+use Rattle.num.specs.F32.{_⊕_}
+use Rattle.num.specs.Rewrite.{every-twice}
+use Rattle.num.specs.Root.{rootOf}
 use Rattle.passes.specs.Vignette.{square, factor}
 use Rattle.passes.proofs.vignette.line.Statement.{statement}
 use Rattle.passes.proofs.vignette.line.Tie as tie
 
-abbrev Inv-loop : tie.InvT-loop
-Inv-loop line₀ w s yy x₀ line x = Rewritten x (λ k _. factor s (square w k) yy) line₀ line
-
-abbrev μ-loop : tie.MeasureT-loop
-μ-loop line₀ w s yy x₀ line x = length line₀ - x
-
-loop-again : tie.Need-loop-again Inv-loop μ-loop
-loop-again c =
-    let in-loop = c .before .before in
-    more (in-loop .before .loop .inv) c0·0 (in-loop .loop-test .taken) (cc)
-
-returns : tie.Need-returns Inv-loop μ-loop
-returns c = all (c .before .loop .inv) (c .loop-test .left)
+returns : tie.Need-returns
+returns c =
+    let f = c .before .before in
+    let r = f .before .before .before .before in
+    let s = r .before .before .before .before in
+    let a = s .before .before .before .args in
+    let distances = r .roots .ensures ∙ every-twice (λ x v. square (a .width) x ⊕ a .yy) (λ x. rootOf) (a .line .now) (s .squares .last .0) (s .squares .ensures) in
+    f .factors .ensures
+    ∙ every-twice (λ x v. rootOf (square (a .width) x ⊕ a .yy)) (λ x. factor (a .strength)) (a .line .now) (r .roots .last .0) distances
 
 pub line-spec : {M : Type 1} → statement M
-line-spec =
-    tie.close
-    (tie.spec Inv-loop μ-loop (λ c. none _ _) (λ c κs. (omega arith, omega arith)) (λ c κs. tt) (λ c. omega arith) (λ c. omega arith) (λ c. omega arith)
-    (λ c. omega arith) loop-again (λ c. omega arith) returns)
+line-spec = tie.close (tie.spec (λ c κs. search needs) (λ c κs. tt) (λ c κs. tt) (λ c. search needs) returns)
