@@ -53,10 +53,7 @@ blurBy sums sample n radius x = ratio (weighted sample n radius x) (sums x)
 abbrev pub blurAt : (ℕ → Float) → ℕ → ℕ → ℕ → Float
 blurAt sample n radius x = blurBy (weights n radius) sample n radius x
 
--- samples by column and row, blurred along rows of w and along columns of h
-abbrev pub across : ℕ → ℕ → (ℕ → ℕ → Float) → ℕ → ℕ → Float
-across w radius sample x y = blurAt (λ i. sample i y) w radius x
-
+-- samples by column and row, blurred along columns of h
 abbrev pub down : ℕ → ℕ → (ℕ → ℕ → Float) → ℕ → ℕ → Float
 down h radius sample x y = blurAt (λ i. sample x i) h radius y
 
