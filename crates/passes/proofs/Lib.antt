@@ -1,4 +1,5 @@
 -- Laws that the proofs of several functions cite.
+mod Sums
 mod Offsets
 mod Chroma
 mod Planes

@@ -11,10 +11,9 @@ use lib.ListN.{length, take, drop}
 use lib.Seq.{length-take-le, getD-take, getD-drop}
 use lib.Ieee.{Float, nan}
 use borrow.Author.Tests.{le-leb, lt-leb, lt-ltb, le-ltb, ltb-true}
-use Rattle.num.specs.Const.{c0·0}
 use Rattle.num.specs.F32.{_⊕_, _⊗_}
-use Rattle.num.specs.Rewrite.{every, fill, every-twice, length-rewrite, rewrite-ext, rewrite-same, getD-fill, mid}
-use Rattle.passes.specs.Blur.{at, cell, weight, distance, inside, taken, step, total, weights, weighted, ratio, blurBy, blurAt, WeightLine}
+use Rattle.num.specs.Rewrite.{Rewritten, every, fill, length-rewrite, rewrite-ext, rewrite-same, getD-rewrite, getD-fill, mid}
+use Rattle.passes.specs.Blur.{at, cell, weight, distance, inside, taken, step, total, weights, weighted, ratio, blurBy, blurAt, Begins}
 
 lt-or-le : (a b : ℕ) → (a < b) ⊎ (b ≤ a)
 lt-or-le a zero = inr zero-le
@@ -66,34 +65,6 @@ blur-by sums f n radius x e = ap (ratio (weighted f n radius x)) e
 pub total-more : (term : ℕ → Float → Float) (n radius x k : ℕ) → total term n radius x (k + 1) ≡ step term n radius x k (total term n radius x k)
 unfolding total
 total-more term n radius x k = rw add-one
-
--- the invariant of a loop over the offsets: the place x of a line has its sum over the first k offsets around `place x`
-pub record Summed (term : ℕ → ℕ → Float → Float) (n radius : ℕ) (place : ℕ → ℕ) (k : ℕ) (before acc : List Float) : Type 0 where
-  pub upto : k ≤ 2 * radius + 1
-  pub kept : length acc ≡ length before
-  pub sum : acc ≡ fill (λ x. total (term x) n radius (place x) k) before
-
-module _ {term : ℕ → ℕ → Float → Float} {n radius : ℕ} {place : ℕ → ℕ} where
-  -- nothing is summed in a line that was cleared
-  pub summed-none : (entry acc : List Float) → acc ≡ fill (λ x. c0·0) entry → Summed term n radius place 0 acc acc
-  unfolding total
-  summed-none entry acc e = record { upto = zero-le; kept = refl; sum = e ∙ sym (every-twice (λ x v. c0·0) (λ x v. c0·0) entry acc e) }
-
-  module _ {k : ℕ} {before acc : List Float} (t : Summed term n radius place k before acc) where
-    pub summed-more : (after : List Float) → k < 2 * radius + 1 → after ≡ every (λ x. step (term x) n radius (place x) k) acc
-        → Summed term n radius place (k + 1) before after
-    unfolding total
-    summed-more after l f =
-        let e = f ∙ every-twice (λ x v. total (term x) n radius (place x) k) (λ x. step (term x) n radius (place x) k) before acc (t .sum)
-        ∙ ap (λ (m : ℕ). fill (λ x. total (term x) n radius (place x) m) before) (sym (add-one k)) in
-        record { upto = omega arith; kept = ap length e ∙ length-rewrite _ _ _; sum = e }
-
-    pub summed-all : (entry : List Float) → 2 * radius + 1 ≤ k → before ≡ fill (λ x. c0·0) entry
-        → acc ≡ fill (λ x. total (term x) n radius (place x) (2 * radius + 1)) entry
-    summed-all entry l e =
-        let full : k ≡ 2 * radius + 1 = omega (arith, t .upto) in
-        t .sum ∙ ap (λ (m : ℕ). fill (λ x. total (term x) n radius (place x) m) before) full
-        ∙ every-twice (λ x v. c0·0) (λ x v. total (term x) n radius (place x) (2 * radius + 1)) entry before e
 
 -- ---- offset k along a line
 
@@ -149,9 +120,16 @@ module _ (acc plane : List Float) (h radius y k : ℕ) where
 pub front : (line : List Float) (n w : ℕ) → length line ≡ n → w ≤ n → length (take w line) ≡ w
 front line n w e h = length-take-le w line (omega arith)
 
+-- n places that were filled by f
+pub begun : {n x : ℕ} {f : ℕ → Float} {before line : List Float} → length before ≡ 1024 → n ≤ 1024 → n ≤ x → Rewritten x (λ k v. f k) before line → Begins n f line
+begun {n} {x} {f} {before} e l h t = record {
+  long = t .kept ∙ e;
+  value = λ k m. ap (λ (z : List Float). at z k) (t .done) ∙ getD-rewrite x (λ k v. f k) before k nan (omega arith) (omega arith);
+}
+
 -- its sums of weights, where they are lent
-pub weight-at : (line : List Float) (n radius x : ℕ) → WeightLine n radius line → x < n → at (take n line) x ≡ weights n radius x
-weight-at line n radius x t l = getD-take n line x nan l ∙ t .sum x l
+pub weight-at : (line : List Float) (n radius x : ℕ) → Begins n (weights n radius) line → x < n → at (take n line) x ≡ weights n radius x
+weight-at line n radius x t l = getD-take n line x nan l ∙ t .value x l
 
 -- a line that was filled by f, blurred: at one place, as a line, and read from that line
 module _ (sums f : ℕ → Float) (n radius : ℕ) (line₀ line : List Float) (el : length line₀ ≡ n) (e : line ≡ fill f line₀) where

@@ -3,11 +3,10 @@ use mathlib.Core.Path.{_≡_, ap, _∙_}
 use mathlib.Core.List.{List}
 use Prim.Native.Nat.{ℕ, _+_, _-_, _*_, _/_, _%_, _≤_, _<_}
 use native.Mathlib.Omega.{arith}
-use lib.ListN.{length, getD, take, drop, length-drop}
-use lib.Seq.{length-take-le, getD-take, getD-drop}
+use lib.ListN.{length, getD, take, drop}
 use lib.Ieee.{Float, nan}
 use Rattle.passes.specs.Pixel.{rgb}
-use Rattle.passes.specs.Rows.{sampled, getD-sampled, column, row, row-ends}
+use Rattle.passes.specs.Rows.{lent-length, lent-word, sampled, getD-sampled, column, row, row-ends}
 use Rattle.passes.specs.Blur.{at, weights, blurBy, down}
 use Rattle.passes.specs.Bloom.{composite, brightOf, sample, horizontalBy, stored}
 use Rattle.passes.proofs.Offsets.{blur-same}
@@ -22,9 +21,7 @@ module _ (frame : List ℕ) (w h y from : ℕ) (area : length frame ≡ h * w) (
   beside-in = omega (arith, row-ends w h y l)
 
   pub beside : length (take (from + w - from) (drop from frame)) ≡ w
-  beside =
-      let n : from + w - from ≡ w = omega arith in
-      rw n (length-take-le w (drop from frame) (rw length-drop (omega (arith, beside-in))))
+  beside = lent-length from w frame beside-in
 
   pub row-across : (sums : ℕ → Float) (threshold : Float) (which radius x : ℕ) →
       let r = take (from + w - from) (drop from frame) in
@@ -34,7 +31,7 @@ module _ (frame : List ℕ) (w h y from : ℕ) (area : length frame ≡ h * w) (
       ap (λ (m : ℕ). blurBy sums (λ i. brightOf threshold which (getD r i 0)) m radius x) beside
       ∙ blur-same sums (λ i. brightOf threshold which (getD r i 0)) (λ i. sample threshold frame w which i y) w radius x
       (λ i q. ap (brightOf threshold which)
-      (getD-take (from + w - from) (drop from frame) i 0 (omega arith) ∙ getD-drop from frame i 0 ∙ ap (λ (m : ℕ). getD frame (m + i) 0) e))
+      (lent-word from w frame 0 i q ∙ ap (λ (m : ℕ). getD frame (m + i) 0) e))
 
 -- planes that were filled by f
 module _ (w h radius : ℕ) (f : ℕ → ℕ → ℕ → Float) (before planes : List Float) (area : length before ≡ h * (3 * w))

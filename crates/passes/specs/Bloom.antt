@@ -1,5 +1,5 @@
 -- Bloom: what is bright in the frame, blurred along rows and then along columns, is laid over it. Assumes nothing.
-use Prim.Native.Nat.{ℕ, zero, suc, _+_, _*_}
+use Prim.Native.Nat.{ℕ, _+_, _*_}
 use mathlib.Core.Bool.{cond}
 use mathlib.Core.List.{List}
 use lib.ListN.{getD}
@@ -7,7 +7,7 @@ use lib.Ieee.{Float, le}
 use Rattle.num.specs.Steps.{clampOf}
 use Rattle.num.specs.Const.{c0·0, c1·0, c255·0}
 use Rattle.num.specs.F32.{_⊕_, _⊖_, _⊗_, _⊘_, whole}
-use Rattle.passes.specs.Pixel.{packLimited, unpack, rgb, scaled, luma709}
+use Rattle.passes.specs.Pixel.{packLimited, unpack, rgb, scaled, channel, luma709}
 use Rattle.passes.specs.Blur.{blurBy, weights, down, cell}
 use Rattle.num.specs.Rewrite.{every}
 use Rattle.passes.specs.Rows.{placed}
@@ -22,12 +22,6 @@ unfoldable pub bright : Float → Rgb → Rgb
 bright threshold c =
     let brightness = luma709 c in
     cond (le brightness threshold) (rgb c0·0 c0·0 c0·0) (scaled (intensity threshold brightness) c)
-
--- red, green or blue by number
-unfoldable pub channel : ℕ → Rgb → Float
-channel zero c = c .r
-channel (suc zero) c = c .g
-channel (suc (suc n)) c = c .b
 
 -- one channel of a word's bright part, and of that at column x and row y of a frame
 abbrev pub brightOf : Float → ℕ → ℕ → Float

@@ -64,7 +64,7 @@ at line i = getD line i nan
 abbrev pub cell : List Float → ℕ → ℕ → ℕ → Float
 cell plane w x y = at plane (y * w + x)
 
--- a line of 1024 places that begins with the sums of weights of n samples
-pub record WeightLine (n radius : ℕ) (line : List Float) : Type 0 where
+-- a line of 1024 places that begins with n values of f
+pub record Begins (n : ℕ) (f : ℕ → Float) (line : List Float) : Type 0 where
   pub long : length line ≡ 1024
-  pub sum : (x : ℕ) → x < n → at line x ≡ weights n radius x
+  pub value : (x : ℕ) → x < n → at line x ≡ f x

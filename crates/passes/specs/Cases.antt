@@ -9,7 +9,7 @@ use Rattle.num.specs.Const.{c0·0, c0·5, c1·0}
 use Rattle.num.specs.Root.{rootOf}
 use Rattle.num.specs.Steps.{clampOf, minOf, maxOf, absOf, cutOf, roundOf}
 use Rattle.passes.specs.Fold.{fold}
-use Rattle.passes.specs.Pixel.{unpack, unit, pack, packNearest, packLimited, packUnit, dim, luma601, luma709}
+use Rattle.passes.specs.Pixel.{unpack, unit, channel, pack, packNearest, packLimited, packUnit, dim, luma601, luma709}
 use Rattle.passes.specs.Position.{position}
 use Rattle.num.specs.Rewrite.{rewrite}
 use Rattle.passes.specs.Flow.{Flow, flow}
@@ -104,6 +104,6 @@ blurs =
     ∷ []
 
 pub blurs-hold : Hold blurs
-unfolding ofBits ofInt add sub mul div neg lt le clampOf cutOf rewrite unpack pack packLimited luma601 luma709 Blur.weight Blur.total
-    Ntsc.ntsc Ntsc.pixel Ntsc.chroma Bloom.bloom Bloom.bright Bloom.channel Bloom.composite
+unfolding ofBits ofInt add sub mul div neg lt le clampOf cutOf rewrite unpack pack packLimited channel luma601 luma709 Blur.weight Blur.total
+    Ntsc.ntsc Ntsc.pixel Ntsc.chroma Bloom.bloom Bloom.bright Bloom.composite
 blurs-hold = refl

@@ -1,5 +1,5 @@
 -- A pixel word 0xRRGGBB and its three channels; the ways from channels back to a word. Assumes nothing.
-use Prim.Native.Nat.{ℕ, _+_, _*_, _/_, _%_}
+use Prim.Native.Nat.{ℕ, zero, suc, _+_, _*_, _/_, _%_}
 use lib.Ieee.{Float}
 use Rattle.num.specs.Steps.{clampOf, cutOf, roundOf}
 use Rattle.num.specs.Const.{c0·0, c0·0722, c0·114, c0·2126, c0·299, c0·587, c0·7152, c1·0, c255·0}
@@ -15,6 +15,12 @@ channels f c = rgb (f (c .r)) (f (c .g)) (f (c .b))
 
 abbrev pub scaled : Float → Rgb → Rgb
 scaled factor c = channels (λ x. x ⊗ factor) c
+
+-- red, green or blue by number
+unfoldable pub channel : ℕ → Rgb → Float
+channel zero c = c .r
+channel (suc zero) c = c .g
+channel (suc (suc n)) c = c .b
 
 -- the channels of a word, 0 to 255; the top byte is ignored
 unfoldable pub unpack : ℕ → Rgb

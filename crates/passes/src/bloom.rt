@@ -27,16 +27,6 @@ fn bright(c: Rgb, threshold: f32) -> Rgb
     pixel::scaled(c, intensity)
 }
 
-fn channel(which: usize, c: Rgb) -> f32
-    ensures { λ r. ⌜ r ≡ Bloom.channel which c ⌝ }
-{
-    match which {
-        0 => c.r,
-        1 => c.g,
-        _ => c.b,
-    }
-}
-
 // One channel of a row's bright part.
 fn bright_line(out: &mut [f32], row: &[u32], threshold: f32, which: usize)
     requires { ⌜ length (now out) ≡ length (now row) ⌝ }
@@ -44,7 +34,7 @@ fn bright_line(out: &mut [f32], row: &[u32], threshold: f32, which: usize)
 {
     let mut i = 0usize;
     while i < out.len() {
-        out[i] = channel(which, bright(pixel::unpack(row[i]), threshold));
+        out[i] = pixel::channel(which, bright(pixel::unpack(row[i]), threshold));
         i += 1;
     }
 }

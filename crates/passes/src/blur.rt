@@ -188,7 +188,7 @@ pub fn line3() -> [f32; 3072]
 // The sums of the weights of each place of a line of n samples.
 pub fn weight_line(n: usize, radius: usize) -> [f32; 1024]
     requires { ⌜ (radius ≤ 64) × (n ≤ 1024) ⌝ }
-    ensures { λ r. ⌜ Blur.WeightLine n radius r ⌝ }
+    ensures { λ r. ⌜ Blur.Begins n (Blur.weights n radius) r ⌝ }
 {
     let mut out = line();
     let mut x = 0usize;

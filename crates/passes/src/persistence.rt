@@ -1,11 +1,15 @@
 // Persistence: each frame is mixed with the frames before it. The history is lent, frame j at word j * count, newest first.
 ghost use mathlib.Core.Path.{_≡_};
-ghost use Prim.Native.Nat.{_*_, _≤_, _<_};
+ghost use Prim.Native.Nat.{_+_, _*_, _≤_, _<_};
 ghost use lib.ListN.{length, getD, drop};
 ghost use lib.Ieee.{nan};
+ghost use Rattle.num.specs.F32.{_⊕_, _⊗_};
+ghost use Rattle.num.specs.Rewrite.{every, fill};
+ghost use Rattle.passes.specs.Blur.{at, Begins};
 ghost use Rattle.passes.specs.Flow.{flow};
 ghost use Rattle.passes.specs.Persistence as Persistence;
-ghost use Rattle.num.specs.Rewrite.{fill};
+ghost use Rattle.passes.specs.Pixel.{channel, packLimited, rgb, unpack};
+use crate::blur;
 use crate::pixel;
 use crate::pixel::Rgb;
 use crate::rows;
@@ -38,50 +42,120 @@ fn weights(out: &mut [f32], amount: f32, sum: f32)
     }
 }
 
-// The channels so far, and those of the word p times w.
-fn add(sum: Rgb, w: f32, p: u32) -> Rgb
-    ensures { λ r. ⌜ r ≡ Persistence.add sum w p ⌝ }
+// One channel of each word of a row, times w.
+fn begin_line(acc: &mut [f32], row: &[u32], w: f32, which: usize)
+    requires { ⌜ length (now acc) ≡ length (now row) ⌝ }
+    ensures { λ _. ⌜ now (acc .exit) ≡ fill (λ x. channel which (unpack (getD (now (row .entry)) x 0)) ⊗ w) (now (acc .entry)) ⌝ }
 {
-    let c = pixel::scaled(pixel::unpack(p), w);
-    Rgb {
-        r: sum.r + c.r,
-        g: sum.g + c.g,
-        b: sum.b + c.b,
+    let mut i = 0usize;
+    while i < acc.len() {
+        acc[i] = pixel::channel(which, pixel::unpack(row[i])) * w;
+        i += 1;
     }
 }
 
-// The word p at place i of the frame, with those there of the older frames.
-fn mix(w: f32, ws: &[f32], history: &[u32], n: usize, i: usize, p: u32) -> Rgb
-    requires { ⌜ (i < n) × (length (now ws) * n ≤ length (now history)) ⌝ }
-    ensures { λ r. ⌜ r ≡ Persistence.mix w (λ j. getD (now (ws .entry)) j nan) (now (history .entry)) n i p (length (now (ws .entry))) ⌝ }
+// The same, added.
+fn add_line(acc: &mut [f32], row: &[u32], w: f32, which: usize)
+    requires { ⌜ length (now acc) ≡ length (now row) ⌝ }
+    ensures { λ _. ⌜ now (acc .exit) ≡ every (λ x v. v ⊕ channel which (unpack (getD (now (row .entry)) x 0)) ⊗ w) (now (acc .entry)) ⌝ }
 {
-    let mut sum = pixel::scaled(pixel::unpack(p), w);
-    let mut at = i;
+    let mut i = 0usize;
+    while i < acc.len() {
+        acc[i] = acc[i] + pixel::channel(which, pixel::unpack(row[i])) * w;
+        i += 1;
+    }
+}
+
+// One channel of the mix of a row, which begins at word `at` of a frame of n: the older frames' rows are added one after another.
+fn mix_line(
+    acc: &mut [f32],
+    row: &[u32],
+    at: usize,
+    n: usize,
+    w: f32,
+    ws: &[f32],
+    history: &[u32],
+    which: usize,
+)
+    requires { ⌜ (length (now acc) ≡ length (now row)) × (at + length (now row) ≤ n) × (length (now ws) * n ≤ length (now history)) ⌝ }
+    ensures { λ _. ⌜ now (acc .exit) ≡ fill (λ x. channel which (Persistence.mix w (λ j. getD (now (ws .entry)) j nan) (now (history .entry)) n (at + x) (getD (now (row .entry)) x 0) (length (now (ws .entry))))) (now (acc .entry)) ⌝ }
+{
+    let count = row.len();
+    begin_line(acc, row, w, which);
+    let mut start = at;
     let mut j = 0;
     while j < ws.len() {
-        sum = add(sum, ws[j], history[at]);
-        at += n;
+        let end = start + count;
+        add_line(acc, &history[start..end], ws[j], which);
+        start += n;
         j += 1;
     }
-    sum
 }
 
-fn pixel(w: f32, ws: &[f32], history: &[u32], n: usize, i: usize, p: u32) -> u32
-    requires { ⌜ (i < n) × (length (now ws) * n ≤ length (now history)) ⌝ }
-    ensures { λ r. ⌜ r ≡ Persistence.pixel w (λ j. getD (now (ws .entry)) j nan) (length (now (ws .entry))) (now (history .entry)) n i p ⌝ }
+// The same at the front of a line of its own.
+fn channel_line(
+    row: &[u32],
+    at: usize,
+    n: usize,
+    w: f32,
+    ws: &[f32],
+    history: &[u32],
+    which: usize,
+) -> [f32; 1024]
+    requires { ⌜ (length (now row) ≤ 1024) × (at + length (now row) ≤ n) × (length (now ws) * n ≤ length (now history)) ⌝ }
+    ensures { λ r. ⌜ Begins (length (now (row .entry))) (λ x. channel which (Persistence.mix w (λ j. getD (now (ws .entry)) j nan) (now (history .entry)) n (at + x) (getD (now (row .entry)) x 0) (length (now (ws .entry))))) r ⌝ }
 {
-    pixel::pack_limited(mix(w, ws, history, n, i, p))
+    let mut line = blur::line();
+    mix_line(&mut line[..row.len()], row, at, n, w, ws, history, which);
+    line
 }
 
+// The words of three lines of channels.
+fn finish_row(row: &mut [u32], r: &[f32], g: &[f32], b: &[f32])
+    requires { ⌜ (length (now row) ≤ length (now r)) × (length (now row) ≤ length (now g)) × (length (now row) ≤ length (now b)) ⌝ }
+    ensures { λ _. ⌜ now (row .exit) ≡ fill (λ x. packLimited (rgb (at (now (r .entry)) x) (at (now (g .entry)) x) (at (now (b .entry)) x))) (now (row .entry)) ⌝ }
+{
+    let mut i = 0usize;
+    while i < row.len() {
+        row[i] = pixel::pack_limited(Rgb {
+            r: r[i],
+            g: g[i],
+            b: b[i],
+        });
+        i += 1;
+    }
+}
+
+// A row that begins at word `at` of a frame of n, by way of a line for each channel.
+fn blend_row(row: &mut [u32], at: usize, n: usize, w: f32, ws: &[f32], history: &[u32])
+    requires { ⌜ (length (now row) ≤ 1024) × (at + length (now row) ≤ n) × (length (now ws) * n ≤ length (now history)) ⌝ }
+    ensures { λ _. ⌜ now (row .exit) ≡ every (λ x. Persistence.pixel w (λ j. getD (now (ws .entry)) j nan) (length (now (ws .entry))) (now (history .entry)) n (at + x)) (now (row .entry)) ⌝ }
+{
+    let r = channel_line(row, at, n, w, ws, history, 0);
+    let g = channel_line(row, at, n, w, ws, history, 1);
+    let b = channel_line(row, at, n, w, ws, history, 2);
+    finish_row(row, &r, &g, &b);
+}
+
+// Where the row from `at` on ends: a line has room for 1024 words.
+fn row_end(at: usize, n: usize) -> usize
+    requires { ⌜ at < n ⌝ }
+    ensures { λ r. ⌜ (at < r) × (r ≤ n) × (r ≤ at + 1024) ⌝ }
+{
+    if n - at < 1024 { n } else { at + 1024 }
+}
+
+// The frame by rows that the lines have room for, whatever its width.
 fn blended(frame: &mut [u32], w: f32, ws: &[f32], history: &[u32])
     requires { ⌜ length (now ws) * length (now frame) ≤ length (now history) ⌝ }
     ensures { λ _. ⌜ now (frame .exit) ≡ Persistence.blended w (λ j. getD (now (ws .entry)) j nan) (length (now (ws .entry))) (now (history .entry)) (now (frame .entry)) ⌝ }
 {
     let n = frame.len();
-    let mut i = 0;
-    while i < frame.len() {
-        frame[i] = pixel(w, ws, history, n, i, frame[i]);
-        i += 1;
+    let mut at = 0;
+    while at < n {
+        let end = row_end(at, n);
+        blend_row(&mut frame[at..end], at, n, w, ws, history);
+        at = end;
     }
 }
 

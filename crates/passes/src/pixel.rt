@@ -31,6 +31,17 @@ pub fn unit(p: u32) -> Rgb
     }
 }
 
+// Red, green or blue by number.
+pub fn channel(which: usize, c: Rgb) -> f32
+    ensures { λ r. ⌜ r ≡ Pixel.channel which c ⌝ }
+{
+    match which {
+        0 => c.r,
+        1 => c.g,
+        _ => c.b,
+    }
+}
+
 pub fn scaled(c: Rgb, factor: f32) -> Rgb
     ensures { λ r. ⌜ r ≡ Pixel.scaled factor c ⌝ }
 {

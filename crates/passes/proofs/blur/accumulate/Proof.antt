@@ -1,29 +1,33 @@
 -- `passes::blur::accumulate` meets its contract: after k offsets each place has the definition's sum over the first k. Assumes nothing.
+use mathlib.Core.Path.{refl}
 use Prim.Native.Nat.{_+_, _-_, _*_}
 use native.Mathlib.Omega.{arith}
 use lib.ListN.{length}
 use borrow.Author.Needs.{needs}
 use Rattle.num.specs.F32.{_⊗_}
-use Rattle.passes.specs.Blur.{at}
-use Rattle.passes.proofs.Offsets.{Summed, summed-none, summed-more, summed-all}
+use Rattle.passes.specs.Blur.{at, step, total}
+use Rattle.passes.proofs.Sums.{Summed, summed-none, summed-more, summed-all}
 use Rattle.passes.proofs.blur.accumulate.Statement.{statement}
 use Rattle.passes.proofs.blur.accumulate.Tie as tie
 
 abbrev Inv-loop : tie.InvT-loop
-Inv-loop acc₀ src radius k₀ acc k = Summed (λ x i w. at src i ⊗ w) (length src) radius (λ x. x) k acc₀ acc
+Inv-loop acc₀ src radius k₀ acc k = Summed (total (λ i w. at src i ⊗ w) (length src) radius) (2 * radius + 1) k acc₀ acc
 
 abbrev μ-loop : tie.MeasureT-loop
 μ-loop acc₀ src radius k₀ acc k = 2 * radius + 1 - k
 
 loop-holds : tie.Need-loop-holds Inv-loop μ-loop
+unfolding total
 loop-holds c = summed-none (c .before .before .before .before .before .before .args .acc .now) _ (c .before .before .clear .ensures)
 
 loop-again : tie.Need-loop-again Inv-loop μ-loop
+unfolding total
 loop-again c =
     let o = c .before .before in
-    summed-more (o .before .before .before .loop .inv) _ (o .before .before .loop-test .taken) (o .add-offset .ensures)
+    summed-more (o .before .before .before .loop .inv) _ _ (o .before .before .loop-test .taken) (λ x l. refl) (o .add-offset .ensures)
 
 returns : tie.Need-returns Inv-loop μ-loop
+unfolding total
 returns c = summed-all (c .before .loop .inv) (c .before .before .before .before .before .before .before .before .args .acc .now) (c .loop-test .left) (c .before .before .before .before .clear .ensures)
 
 pub accumulate-spec : {M : Type 1} → statement M

@@ -1,23 +1,24 @@
 -- `passes::blur::accumulate_rows` meets its contract: after k offsets each column has the definition's sum over the first k. Assumes nothing.
-use mathlib.Core.Path.{sym, _∙_, ap}
+use mathlib.Core.Path.{refl, sym, _∙_, ap}
 use Prim.Native.Nat.{ℕ, _+_, _-_, _*_}
 use native.Mathlib.Omega.{arith}
 use lib.ListN.{length}
 use borrow.Author.Needs.{needs}
 use Rattle.num.specs.F32.{_⊗_}
 use Rattle.num.specs.Rewrite.{every, fill}
-use Rattle.passes.specs.Blur.{cell, step, weighted}
-use Rattle.passes.proofs.Offsets.{Summed, summed-none, summed-more, summed-all}
+use Rattle.passes.specs.Blur.{cell, step, total, weighted}
+use Rattle.passes.proofs.Sums.{Summed, summed-none, summed-more, summed-all}
 use Rattle.passes.proofs.blur.accumulate_rows.Statement.{statement}
 use Rattle.passes.proofs.blur.accumulate_rows.Tie as tie
 
 abbrev Inv-loop : tie.InvT-loop
-Inv-loop acc₀ plane h radius y k₀ acc k = Summed (λ x i w. cell plane (length acc₀) x i ⊗ w) h radius (λ x. y) k acc₀ acc
+Inv-loop acc₀ plane h radius y k₀ acc k = Summed (λ x. total (λ i w. cell plane (length acc₀) x i ⊗ w) h radius y) (2 * radius + 1) k acc₀ acc
 
 abbrev μ-loop : tie.MeasureT-loop
 μ-loop acc₀ plane h radius y k₀ acc k = 2 * radius + 1 - k
 
 loop-holds : tie.Need-loop-holds Inv-loop μ-loop
+unfolding total
 loop-holds c = summed-none (c .before .before .before .before .before .before .args .acc .now) _ (c .before .before .clear .ensures)
 
 add-row-requires : tie.Need-add-row-requires Inv-loop μ-loop
@@ -28,15 +29,17 @@ add-row-requires c κs =
     (omega arith, omega arith, omega arith, omega arith, s .pre .3 ∙ ap (λ (n : ℕ). s .args .height * n) (sym (l .inv .kept ∙ d .kept .0)))
 
 loop-again : tie.Need-loop-again Inv-loop μ-loop
+unfolding total
 loop-again c =
     let o = c .before .before in
     let l = o .before .before .before .loop in
     let a = o .before .before .before .before .before .before .before .before .before .before .args in
-    summed-more (l .inv) _ (o .before .before .loop-test .taken)
+    summed-more (l .inv) _ _ (o .before .before .loop-test .taken) (λ x q. refl)
     (o .add-row .ensures
     ∙ ap (λ (m : ℕ). every (λ x. step (λ i w. cell (a .plane .now) m x i ⊗ w) (a .height) (a .radius) (a .y) (l .k)) (l .acc)) (l .inv .kept))
 
 returns : tie.Need-returns Inv-loop μ-loop
+unfolding total
 returns c =
     let a = c .before .before .before .before .before .before .before .before .args in
     let d = c .before .before .before .before .clear in

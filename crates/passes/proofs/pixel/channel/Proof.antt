@@ -1,10 +1,10 @@
--- `passes::bloom::channel` meets its contract: an arm for each channel. Assumes nothing.
+-- `passes::pixel::channel` meets its contract: an arm for each channel. Assumes nothing.
 use Prim.Native.Nat.{ℕ, suc, _-_, _≤_}
 use mathlib.Core.Path.{_≡_}
 use native.Mathlib.Omega.{arith}
-use Rattle.passes.specs.Bloom.{channel}
-use Rattle.passes.proofs.bloom.channel.Statement.{statement}
-use Rattle.passes.proofs.bloom.channel.Tie as tie
+use Rattle.passes.specs.Pixel.{channel}
+use Rattle.passes.proofs.pixel.channel.Statement.{statement}
+use Rattle.passes.proofs.pixel.channel.Tie as tie
 
 from-2 : (n : ℕ) → 2 ≤ n → n ≡ suc (suc (n - 2))
 from-2 n h = omega arith

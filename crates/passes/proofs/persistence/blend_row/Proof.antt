@@ -1,0 +1,34 @@
+-- `passes::persistence::blend_row` meets its contract: three channels of the mix at each place are the mix. Assumes nothing.
+use Prim.Native.Nat.{ℕ, _+_}
+use mathlib.Core.Path.{_≡_, ap, _∙_}
+use lib.ListN.{getD}
+use lib.Ieee.{Float}
+use borrow.Author.Needs.{needs}
+use Rattle.num.specs.Rewrite.{rewrite-at}
+use Rattle.passes.specs.Persistence.{pixel}
+use Rattle.passes.specs.Pixel.{channel, packLimited, rgb}
+use Rattle.passes.specs.declared.pixel.Rgb.{Rgb}
+use Rattle.passes.proofs.persistence.blend_row.Statement.{statement}
+use Rattle.passes.proofs.persistence.blend_row.Tie as tie
+
+whole : (c : Rgb) {r g b : Float} → r ≡ channel 0 c → g ≡ channel 1 c → b ≡ channel 2 c → rgb r g b ≡ c
+unfolding channel
+whole c e f h = rw (e, f, h)
+
+returns : tie.Need-returns
+unfolding pixel
+returns c =
+    let f = c .before .before in
+    let b = f .before .before .before .before .before in
+    let g = b .before .before in
+    let r = g .before .before in
+    let a = r .before .before .before .before .before .args in
+    f .finish-row .ensures
+    ∙ rewrite-at _ _ _ (a .row .now) 0
+    (λ x l. ap packLimited (whole _ (r .channel-line .ensures .value x l) (g .channel-line2 .ensures .value x l) (b .channel-line3 .ensures .value x l)))
+
+pub blend-row-spec : {M : Type 1} → statement M
+blend-row-spec =
+    tie.close
+    (tie.spec (λ c κs. search needs) (λ c κs. search needs) (λ c κs. search needs) (λ c. search needs) (λ c. search needs) (λ c. search needs)
+    (λ c κs. search needs) (λ c. search needs) returns)

@@ -1,0 +1,102 @@
+-- `passes::persistence::mix_line` meets its contract: at turn j each place has its channel of the mix with the j newest older frames. Assumes nothing.
+use Prim.Native.Nat.{ℕ, zero, suc, _+_, _-_, _*_, _≤_, _<_}
+use native.Mathlib.Nat.{suc-mul, zero-mul}
+use native.Mathlib.Numerals.{add-one}
+use native.Mathlib.Omega.{arith}
+use mathlib.Core.Path.{_≡_, refl, sym, ap, _∙_}
+use mathlib.Core.List.{List}
+use lib.ListN.{length, getD, take, drop}
+use lib.Ieee.{Float, nan}
+use borrow.Author.Needs.{needs}
+use Rattle.num.specs.F32.{_⊕_, _⊗_}
+use Rattle.num.specs.Rewrite.{fill, rewrite-ext}
+use Rattle.passes.specs.Persistence.{add, mix}
+use Rattle.passes.specs.Pixel.{channel, scaled, unpack}
+use Rattle.passes.specs.Rows.{lent-length, lent-word, row-ends}
+use Rattle.passes.specs.declared.pixel.Rgb.{Rgb}
+use Rattle.passes.proofs.Sums.{Summed, summed-none, summed-more, summed-all}
+use Rattle.passes.proofs.persistence.mix_line.Statement.{statement}
+use Rattle.passes.proofs.persistence.mix_line.Tie as tie
+
+channel-scaled : (which : ℕ) (w : Float) (c : Rgb) → channel which c ⊗ w ≡ channel which (scaled w c)
+unfolding channel
+channel-scaled zero w c = refl
+channel-scaled (suc zero) w c = refl
+channel-scaled (suc (suc n)) w c = refl
+
+channel-add : (which : ℕ) (c : Rgb) (w : Float) (p : ℕ) → channel which c ⊕ channel which (unpack p) ⊗ w ≡ channel which (add c w p)
+unfolding channel add
+channel-add zero c w p = refl
+channel-add (suc zero) c w p = refl
+channel-add (suc (suc n)) c w p = refl
+
+module _ (w : Float) (ws : ℕ → Float) (past row : List ℕ) (n at which : ℕ) where
+  -- the channel at place x of the row, mixed with j older frames
+  abbrev mixed : ℕ → ℕ → Float
+  mixed x j = channel which (mix w ws past n (at + x) (getD row x 0) j)
+
+  first : {acc : List Float} (entry : List Float) → acc ≡ fill (λ x. channel which (unpack (getD row x 0)) ⊗ w) entry → acc ≡ fill (λ x. mixed x 0) entry
+  unfolding mix
+  first entry e = e ∙ rewrite-ext (length entry) _ _ entry (λ x v l. channel-scaled which w (unpack (getD row x 0)))
+
+  next : (j start m x : ℕ) → start ≡ j * n + at → x < m
+      → mixed x j ⊕ channel which (unpack (getD (take (start + m - start) (drop start past)) x 0)) ⊗ ws j ≡ mixed x (suc j)
+  unfolding mix
+  next j start m x e l =
+      let place : start + x ≡ j * n + (at + x) = omega arith in
+      ap (λ (q : ℕ). mixed x j ⊕ channel which (unpack q) ⊗ ws j) (lent-word start m past 0 x l ∙ ap (λ (i : ℕ). getD past i 0) place)
+      ∙ channel-add which (mix w ws past n (at + x) (getD row x 0) j) (ws j) (getD past (j * n + (at + x)) 0)
+
+abbrev Inv-loop : tie.InvT-loop
+Inv-loop acc₀ row at n w ws history which count start₀ j₀ acc start j =
+    (start ≡ j * n + at) × Summed (mixed w (λ k. getD ws k nan) history row n at which) (length ws) j acc₀ acc
+
+abbrev μ-loop : tie.MeasureT-loop
+μ-loop acc₀ row at n w ws history which count start₀ j₀ acc start j = length ws - j
+
+loop-holds : tie.Need-loop-holds Inv-loop μ-loop
+loop-holds c =
+    let a = c .before .before .before .before .before .before .before .before .args in
+    (omega (arith, zero-mul (a .n)), summed-none (a .acc .now) _ (first _ _ (a .history .now) (a .row .now) _ _ _ (a .acc .now) (c .before .before .begin-line .ensures)))
+
+module _ (c : tie.In-loop Inv-loop μ-loop) where
+  abbrev start : tie.Start Inv-loop μ-loop
+  start = c .before .before .before .before .before .before .before .before .before .before
+
+  -- the older frame's place lies within the history
+  abbrev place-in : c .before .loop .j * start .args .n + start .args .n ≤ length (start .args .history .now)
+  place-in = omega (arith, row-ends (start .args .n) (length (start .args .ws .now)) (c .before .loop .j) (c .loop-test .taken))
+
+  abbrev part-length : let k = c .before .loop .start in
+      length (take (k + length (start .args .row .now) - k) (drop k (start .args .history .now))) ≡ length (start .args .row .now)
+  part-length = lent-length (c .before .loop .start) (length (start .args .row .now)) (start .args .history .now) (omega (arith, place-in))
+
+add-line-requires : tie.Need-add-line-requires Inv-loop μ-loop
+add-line-requires c κs =
+    let i = c .before .before .before in
+    i .before .loop .inv .1 .kept ∙ i .before .before .before .before .begin-line .kept .0 ∙ start i .pre .0 ∙ sym (part-length i)
+
+loop-again : tie.Need-loop-again Inv-loop μ-loop
+loop-again c =
+    let i = c .before .before .before .before .before .before in
+    let l = i .before .loop in
+    let a = start i .args in
+    let turn : (l .j + 1) * a .n ≡ l .j * a .n + a .n = rw add-one (suc-mul (l .j) (a .n)) in (
+      omega (arith, turn),
+      summed-more (l .inv .1) _ _ (i .loop-test .taken) (λ x q. next _ _ (a .history .now) (a .row .now) _ _ _ (l .j) (l .start) (length (a .row .now)) x (l .inv .0) (omega arith))
+          (c .before .before .add-line .ensures),
+    )
+
+returns : tie.Need-returns Inv-loop μ-loop
+returns c =
+    let b = c .before .before .before .before in
+    let a = b .before .before .before .before .before .before .args in
+    summed-all (c .before .loop .inv .1) (a .acc .now) (c .loop-test .left) (first _ _ (a .history .now) (a .row .now) _ _ _ (a .acc .now) (b .begin-line .ensures))
+
+pub mix-line-spec : {M : Type 1} → statement M
+mix-line-spec =
+    tie.close
+    (tie.spec Inv-loop μ-loop (λ c κs. search needs) loop-holds (λ c. omega (arith, place-in c)) (λ c. omega (arith, place-in (c .before)))
+    (λ c. omega arith) (λ c. omega arith) (λ c. omega (arith, place-in (c .before))) (λ c. omega arith) (λ c. omega arith) add-line-requires
+    (λ c. omega (arith, place-in (c .before .before .before .before .before .before))) (λ c. omega arith) (λ c. omega arith) loop-again
+    (λ c. omega arith) returns)
