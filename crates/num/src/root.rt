@@ -4,7 +4,7 @@
 // that it is the nearest value: specs/NearestRoot.antt.
 ghost use mathlib.Core.Path.{_≡_};
 ghost use mathlib.Core.Bool.{false};
-ghost use Prim.Native.Nat.{_+_, _-_, _*_, _^_, _<_, _≤_};
+ghost use Prim.Native.Nat.{_+_, _-_, _*_, _^_, _<_};
 ghost use lib.Ieee.{binary32, ofBits};
 ghost use lib.Ieee.Exact.{HasValue};
 ghost use Rattle.num.specs.Rewrite.{every};

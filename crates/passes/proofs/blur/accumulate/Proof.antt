@@ -5,7 +5,7 @@ use native.Mathlib.Omega.{arith}
 use lib.ListN.{length}
 use borrow.Author.Needs.{needs}
 use Rattle.num.specs.F32.{_⊗_}
-use Rattle.passes.specs.Blur.{at, step, total}
+use Rattle.passes.specs.Blur.{at, total}
 use Rattle.passes.proofs.Sums.{Summed, summed-none, summed-more, summed-all}
 use Rattle.passes.proofs.blur.accumulate.Statement.{statement}
 use Rattle.passes.proofs.blur.accumulate.Tie as tie

@@ -1,7 +1,5 @@
 -- `passes::persistence::blend_row` meets its contract: three channels of the mix at each place are the mix. Assumes nothing.
-use Prim.Native.Nat.{ℕ, _+_}
 use mathlib.Core.Path.{_≡_, ap, _∙_}
-use lib.ListN.{getD}
 use lib.Ieee.{Float}
 use borrow.Author.Needs.{needs}
 use Rattle.num.specs.Rewrite.{rewrite-at}

@@ -1,7 +1,5 @@
 -- `passes::vignette::line` meets its contract: squares, their roots, and the factors of those. Assumes nothing.
-use mathlib.Core.Path.{_≡_, _∙_}
-use mathlib.Core.List.{List}
-use lib.Ieee.{Float}
+use mathlib.Core.Path.{_∙_}
 use borrow.Author.Needs.{needs}
 use Rattle.num.specs.F32.{_⊕_}
 use Rattle.num.specs.Rewrite.{every-twice}
