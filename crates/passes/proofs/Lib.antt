@@ -6,3 +6,4 @@ mod Planes
 mod Mirror
 mod Quarter
 mod Places
+mod Mixes

@@ -1,4 +1,4 @@
--- The blur's offsets: which places take a sample, and the sums one offset further. Assumes nothing.
+-- The blur's offsets: which places take a sample, and the sums one offset further; local lines. Assumes nothing.
 use mathlib.Core.Path.{_≡_, refl, sym, ap, _∙_, subst}
 use mathlib.Core.Logic.{_⊎_, inl, inr, ⊎-elim}
 use mathlib.Core.Bool.{Bool, true, false, _&&_}

@@ -1,17 +1,12 @@
 -- `passes::persistence::blend_row` meets its contract: three channels of the mix at each place are the mix. Assumes nothing.
-use mathlib.Core.Path.{_≡_, ap, _∙_}
-use lib.Ieee.{Float}
+use mathlib.Core.Path.{ap, _∙_}
 use borrow.Author.Needs.{needs}
 use Rattle.num.specs.Rewrite.{rewrite-at}
 use Rattle.passes.specs.Persistence.{pixel}
-use Rattle.passes.specs.Pixel.{channel, packLimited, rgb}
-use Rattle.passes.specs.declared.pixel.Rgb.{Rgb}
+use Rattle.passes.specs.Pixel.{packLimited}
+use Rattle.passes.proofs.Mixes.{whole}
 use Rattle.passes.proofs.persistence.blend_row.Statement.{statement}
 use Rattle.passes.proofs.persistence.blend_row.Tie as tie
-
-whole : (c : Rgb) {r g b : Float} → r ≡ channel 0 c → g ≡ channel 1 c → b ≡ channel 2 c → rgb r g b ≡ c
-unfolding channel
-whole c e f h = rw (e, f, h)
 
 returns : tie.Need-returns
 unfolding pixel

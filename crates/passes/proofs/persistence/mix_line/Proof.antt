@@ -1,51 +1,17 @@
 -- `passes::persistence::mix_line` meets its contract: at turn j each place has its channel of the mix with the j newest older frames. Assumes nothing.
-use Prim.Native.Nat.{ℕ, zero, suc, _+_, _-_, _*_, _≤_, _<_}
+use Prim.Native.Nat.{_+_, _-_, _*_, _≤_}
 use native.Mathlib.Nat.{suc-mul, zero-mul}
 use native.Mathlib.Numerals.{add-one}
 use native.Mathlib.Omega.{arith}
-use mathlib.Core.Path.{_≡_, refl, sym, ap, _∙_}
-use mathlib.Core.List.{List}
+use mathlib.Core.Path.{_≡_, sym, _∙_}
 use lib.ListN.{length, getD, take, drop}
-use lib.Ieee.{Float, nan}
+use lib.Ieee.{nan}
 use borrow.Author.Needs.{needs}
-use Rattle.num.specs.F32.{_⊕_, _⊗_}
-use Rattle.num.specs.Rewrite.{fill, rewrite-ext}
-use Rattle.passes.specs.Persistence.{add, mix}
-use Rattle.passes.specs.Pixel.{channel, scaled, unpack}
-use Rattle.passes.specs.Rows.{lent-length, lent-word, row-ends}
-use Rattle.passes.specs.declared.pixel.Rgb.{Rgb}
+use Rattle.passes.specs.Rows.{lent-length, row-ends}
+use Rattle.passes.proofs.Mixes.{mixed, first, next}
 use Rattle.passes.proofs.Sums.{Summed, summed-none, summed-more, summed-all}
 use Rattle.passes.proofs.persistence.mix_line.Statement.{statement}
 use Rattle.passes.proofs.persistence.mix_line.Tie as tie
-
-channel-scaled : (which : ℕ) (w : Float) (c : Rgb) → channel which c ⊗ w ≡ channel which (scaled w c)
-unfolding channel
-channel-scaled zero w c = refl
-channel-scaled (suc zero) w c = refl
-channel-scaled (suc (suc n)) w c = refl
-
-channel-add : (which : ℕ) (c : Rgb) (w : Float) (p : ℕ) → channel which c ⊕ channel which (unpack p) ⊗ w ≡ channel which (add c w p)
-unfolding channel add
-channel-add zero c w p = refl
-channel-add (suc zero) c w p = refl
-channel-add (suc (suc n)) c w p = refl
-
-module _ (w : Float) (ws : ℕ → Float) (past row : List ℕ) (n at which : ℕ) where
-  -- the channel at place x of the row, mixed with j older frames
-  abbrev mixed : ℕ → ℕ → Float
-  mixed x j = channel which (mix w ws past n (at + x) (getD row x 0) j)
-
-  first : {acc : List Float} (entry : List Float) → acc ≡ fill (λ x. channel which (unpack (getD row x 0)) ⊗ w) entry → acc ≡ fill (λ x. mixed x 0) entry
-  unfolding mix
-  first entry e = e ∙ rewrite-ext (length entry) _ _ entry (λ x v l. channel-scaled which w (unpack (getD row x 0)))
-
-  next : (j start m x : ℕ) → start ≡ j * n + at → x < m
-      → mixed x j ⊕ channel which (unpack (getD (take (start + m - start) (drop start past)) x 0)) ⊗ ws j ≡ mixed x (suc j)
-  unfolding mix
-  next j start m x e l =
-      let place : start + x ≡ j * n + (at + x) = omega arith in
-      ap (λ (q : ℕ). mixed x j ⊕ channel which (unpack q) ⊗ ws j) (lent-word start m past 0 x l ∙ ap (λ (i : ℕ). getD past i 0) place)
-      ∙ channel-add which (mix w ws past n (at + x) (getD row x 0) j) (ws j) (getD past (j * n + (at + x)) 0)
 
 abbrev Inv-loop : tie.InvT-loop
 Inv-loop acc₀ row at n w ws history which count start₀ j₀ acc start j =
