@@ -1,0 +1,12 @@
+-- `chain::fields::count` meets its contract: each test went as the definition's. Assumes nothing.
+use borrow.Author.Needs.{needs}
+use Rattle.chain.specs.Settings.{countAt}
+use Rattle.chain.proofs.Steps.{steps}
+use Rattle.chain.proofs.fields.count.Statement.{statement}
+use Rattle.chain.proofs.fields.count.Tie as tie
+
+pub count-spec : {M : Type 1} → statement M
+unfolding countAt
+count-spec =
+    tie.close
+    (tie.spec (λ c κs. search needs) (λ c. search needs) (λ c. search needs) (λ c. search steps) (λ c. search steps) (λ c. search steps) (λ c. search steps))

@@ -1,0 +1,11 @@
+-- `chain::reader::crt` meets its contract: each field was taken or refused, and the definition goes the same way. Assumes nothing.
+use borrow.Author.Needs.{needs}
+use lib.Ieee.{ofBits}
+use Rattle.chain.specs.Passes.{crtAt}
+use Rattle.chain.proofs.Steps.{steps}
+use Rattle.chain.proofs.reader.crt.Statement.{statement}
+use Rattle.chain.proofs.reader.crt.Tie as tie
+
+pub crt-spec : {M : Type 1} → statement M
+unfolding crtAt ofBits
+crt-spec = tie.close (tie.spec (λ c κs. search needs) (λ c. search needs) (λ c. search needs) (λ c κs. search needs) (λ c. search steps) (λ c. search steps))

@@ -1,0 +1,13 @@
+-- `chain::reader::header` meets its contract: each field was taken or refused, and the definition goes the same way. Assumes nothing.
+use borrow.Author.Needs.{needs}
+use Rattle.chain.specs.Card.{headerAt}
+use Rattle.chain.proofs.Steps.{steps}
+use Rattle.chain.proofs.reader.header.Statement.{statement}
+use Rattle.chain.proofs.reader.header.Tie as tie
+
+pub header-spec : {M : Type 1} → statement M
+unfolding headerAt
+header-spec =
+    tie.close
+    (tie.spec (λ c κs. search needs) (λ c. search needs) (λ c. search needs) (λ c. search steps) (λ c. search steps) (λ c κs. search steps) (λ c. search needs)
+    (λ c. search needs) (λ c. search steps) (λ c. search steps) (λ c. search steps))

@@ -1,0 +1,14 @@
+-- `chain::reader::read_record` meets its contract: each field was taken or refused, and the definition goes the same way. Assumes nothing.
+use borrow.Author.Needs.{needs}
+use Rattle.chain.specs.Records.{recordAt}
+use Rattle.chain.proofs.Steps.{steps}
+use Rattle.chain.proofs.reader.read_record.Statement.{statement}
+use Rattle.chain.proofs.reader.read_record.Tie as tie
+
+pub read-record-spec : {M : Type 1} → statement M
+unfolding recordAt
+read-record-spec =
+    tie.close
+    (tie.spec (λ c κs. search needs) (λ c. search needs) (λ c. search needs) (λ c κs. search needs) (λ c. search steps) (λ c. search steps) (λ c. search steps)
+    (λ c κs. search needs) (λ c. search steps) (λ c κs. search steps) (λ c. search needs) (λ c. search needs) (λ c κs. search needs) (λ c. search steps)
+    (λ c κs. search steps) (λ c. search needs) (λ c. search needs) (λ c κs. search needs) (λ c. search steps) (λ c. search steps))

@@ -1,0 +1,63 @@
+-- The card: version, number of passes, records, padding. Opening it gives the station, or a refusal by its number. Assumes nothing.
+use Prim.Native.Nat.{ℕ, zero, suc, _+_, _-_, _*_, _/_}
+use mathlib.Core.Bool.{Bool, false, not, _&&_}
+use mathlib.Core.List.{List, [], _∷_, _++_}
+use lib.ListN.{length, replicate}
+use lib.Dec.{ltb, eqb}
+use Rattle.chain.specs.Step.{Step, took, refused, Reader, _>>=_, _>>_, ret, refuseIf}
+use Rattle.chain.specs.Bits.{valueAt, fieldAt}
+use Rattle.num.specs.Const.{c0·0}
+use Rattle.chain.specs.Records.{kinds, recordAt}
+use Rattle.chain.specs.declared.station.Pass.the-variants.{Scanlines}
+use Rattle.chain.specs.declared.station.Record.{Record}
+use Rattle.chain.specs.declared.station.Station.{Station}
+use Rattle.chain.specs.declared.reader.Opened.{Opened}
+use Rattle.chain.specs.declared.reader.Answer.the-variants.{Accepted, Refused}
+
+-- what stands in a place past n
+abbrev pub unused : Record
+unused = record { on = false; pass = Scanlines c0·0 }
+
+abbrev pub stationOf : List Record → Station
+stationOf rs = record { records = rs ++ replicate (10 - length rs) unused; n = length rs; held = 0 }
+
+-- n records after those that are done, each of a kind not read before
+unfoldable pub recordsAt : ℕ → List Record → Reader (List Record)
+recordsAt zero done = ret done
+recordsAt (suc n) done = do
+  r ← recordAt (kinds done)
+  recordsAt n (done ++ r ∷ [])
+
+-- zero bits to the byte's end, and no byte after it
+unfoldable pub endsAt : List ℕ → ℕ → Bool
+endsAt card at = eqb (length card) ((at + 7) / 8) && eqb (valueAt card at ((at + 7) / 8 * 8 - at)) 0
+
+unfoldable pub endAt : Reader (Unit {0})
+endAt card at = refuseIf 7 (not (endsAt card at)) card at
+
+-- the version, then the number of passes
+unfoldable pub headerAt : Reader ℕ
+headerAt = do
+  version ← fieldAt 4
+  refuseIf 2 (not (eqb version 1))
+  n ← fieldAt 4
+  refuseIf 3 (ltb 10 n)
+  ret n
+
+unfoldable pub stationAt : Reader Station
+stationAt = do
+  n ← headerAt
+  records ← recordsAt n []
+  endAt
+  ret (stationOf records)
+
+abbrev pub openedOf : Step Station → Opened
+openedOf (took s next) = record { answer = Accepted; station = s }
+openedOf (refused k) = record { answer = Refused k; station = stationOf [] }
+
+-- a card that is accepted, with its station
+abbrev pub accepted : Station → Opened
+accepted s = record { answer = Accepted; station = s }
+
+unfoldable pub openOf : List ℕ → Opened
+openOf card = openedOf (stationAt card 0)
