@@ -1,14 +1,17 @@
-//! The comparison of the number steps with Rust's own, and of the passes with the original's. Two
+//! The comparison of the number steps with Rust's own, of cards with a reading of document 01, and of
+//! the passes with the original's. Two
 //! scripts build and start it from the repository's root: `oracle/compare` and `oracle/bench`. They
 //! set `with_original` where they find the original: without it there are no passes to compare.
 #![cfg_attr(not(with_original), allow(dead_code))]
 
 mod bench;
+mod cards;
 mod constants;
 #[cfg(with_original)]
 mod passes;
 mod patterns;
 mod probe;
+mod random;
 mod steps;
 mod tally;
 
@@ -44,6 +47,7 @@ fn compare(mode: Mode, original: Option<&Path>) -> ExitCode {
         }
     }
     steps::run(mode, &mut total);
+    cards::compare::run(mode, &mut total);
     #[cfg(with_original)]
     passes::compare::run(mode, &mut total);
     println!("{total}");

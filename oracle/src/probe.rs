@@ -10,6 +10,13 @@ mod exports {
         pub fn probe_nearest(xs: *const f32, xs_len: usize, out: *mut u32, out_len: usize);
         pub fn probe_round(xs: *const f32, xs_len: usize, out: *mut f32, out_len: usize);
         pub fn probe_root(xs: *mut f32, xs_len: usize);
+        pub fn probe_card(
+            card: *const u8,
+            card_len: usize,
+            held: u32,
+            out: *mut u8,
+            out_len: usize,
+        ) -> usize;
         pub fn probe_clamp(x: f32, lo: f32, hi: f32) -> f32;
         pub fn probe_min(a: f32, b: f32) -> f32;
         pub fn probe_max(a: f32, b: f32) -> f32;
@@ -107,6 +114,23 @@ fn over<T>(export: Export<T>, xs: &[f32], out: &mut [T]) {
     // SAFETY: both pointers come with the length of their own slice, and a shared and a mutable
     // slice never overlap. The export keeps neither pointer.
     unsafe { export(xs.as_ptr(), xs.len(), out.as_mut_ptr(), out.len()) }
+}
+
+/// What `probe_card` adds to a refusal's number: no card is so long.
+const REFUSED: usize = 256;
+
+/// Opens a card, gives its station a history of `held` words, and writes it. Answers the length, or a
+/// refusal's number.
+pub fn card(card: &[u8], held: u32, out: &mut [u8]) -> Result<usize, u32> {
+    // SAFETY: both pointers come with the length of their own slice, and a shared and a mutable
+    // slice never overlap. The export keeps neither pointer.
+    let answer = unsafe {
+        exports::probe_card(card.as_ptr(), card.len(), held, out.as_mut_ptr(), out.len())
+    };
+    match answer.checked_sub(REFUSED) {
+        None => Ok(answer),
+        Some(number) => Err(number as u32),
+    }
 }
 
 /// What the library takes for granted of a slice that it is lent, an empty one included: words of

@@ -256,10 +256,74 @@ impl fmt::Display for FrameTally {
     }
 }
 
-/// The count over all steps and passes.
+/// An answer to a card: the length that was written, or a refusal's number.
+type Answer = Result<usize, u32>;
+
+/// The count of cards.
+pub struct CardTally {
+    taken: u64,
+    /// By the refusal's number.
+    refused: [u64; 15],
+    different: u64,
+    shown: Vec<String>,
+}
+
+impl CardTally {
+    pub fn new() -> Self {
+        CardTally {
+            taken: 0,
+            refused: [0; 15],
+            different: 0,
+            shown: Vec::new(),
+        }
+    }
+
+    /// Holds the answer to a card and the buffer after it to the paper's.
+    pub fn check(&mut self, card: &[u8], held: u32, here: (Answer, &[u8]), paper: (Answer, &[u8])) {
+        match paper.0 {
+            Ok(_) => self.taken += 1,
+            Err(number) => self.refused[number as usize] += 1,
+        }
+        if here == paper {
+            return;
+        }
+        self.different += 1;
+        if self.shown.len() < SHOWN {
+            self.shown.push(format!(
+                "card {card:02x?}, held {held}: here {:?} and {:02x?}, by the paper {:?} and {:02x?}",
+                here.0, here.1, paper.0, paper.1
+            ));
+        }
+    }
+
+    fn cards(&self) -> u64 {
+        self.taken + self.refused.iter().sum::<u64>()
+    }
+}
+
+impl fmt::Display for CardTally {
+    fn fmt(&self, f: &mut fmt::Formatter) -> fmt::Result {
+        let cards = self.cards();
+        writeln!(f, "cards: {cards} compared, {} different", self.different)?;
+        write!(f, "    {} taken; refused", self.taken)?;
+        for (number, count) in self.refused.iter().enumerate() {
+            if *count > 0 {
+                write!(f, " {number}: {count}")?;
+            }
+        }
+        writeln!(f)?;
+        for text in &self.shown {
+            writeln!(f, "    different at {text}")?;
+        }
+        Ok(())
+    }
+}
+
+/// The count over all steps, cards and passes.
 #[derive(Default)]
 pub struct Total {
     compared: u64,
+    cards: u64,
     frames: u64,
     words: u64,
     pub different: u64,
@@ -270,6 +334,13 @@ impl Total {
     pub fn add<const K: usize>(&mut self, tally: &Tally<K>) {
         print!("{tally}");
         self.compared += tally.compared;
+        self.different += tally.different;
+    }
+
+    /// Prints the count of cards and adds it.
+    pub fn add_cards(&mut self, tally: &CardTally) {
+        print!("{tally}");
+        self.cards += tally.cards();
         self.different += tally.different;
     }
 
@@ -286,11 +357,12 @@ impl fmt::Display for Total {
     fn fmt(&self, f: &mut fmt::Formatter) -> fmt::Result {
         let Total {
             compared,
+            cards,
             frames,
             words,
             different,
         } = self;
-        write!(f, "{compared} values")?;
+        write!(f, "{compared} values, {cards} cards")?;
         if *frames > 0 {
             write!(f, " and {frames} frames of {words} words")?;
         }

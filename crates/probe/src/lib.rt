@@ -1,5 +1,6 @@
 // Exports for the comparison with Rust in oracle/. Here the number steps: those of one operand over slices, those of several
 // on numbers. Each is the step of crate num and nothing more. Nothing here is assumed.
+mod card;
 mod pass;
 
 ghost use mathlib.Core.Path.{_≡_};

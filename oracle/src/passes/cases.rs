@@ -1,9 +1,9 @@
 //! Which frames a pass without memory is compared on.
 
 use super::frames::{Picture, KINDS};
-use super::random::Random;
 use super::settings::{self, Setting};
 use super::table::Pass;
+use crate::random::Random;
 use crate::steps::Mode;
 
 /// One frame through one pass.

@@ -2,7 +2,7 @@
 
 use std::fmt;
 
-use super::random::Random;
+use crate::random::Random;
 
 #[derive(Clone, Copy, Debug)]
 pub enum Kind {

@@ -9,7 +9,6 @@ mod frames;
 #[path = "../../../target/oracle/original.rs"]
 #[rustfmt::skip]
 mod original;
-mod random;
 mod room;
 mod runs;
 mod settings;

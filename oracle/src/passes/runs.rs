@@ -7,10 +7,10 @@ use super::cases;
 use super::frames::Picture;
 use super::original::effect::PostProcessEffect;
 use super::original::persistence::Persistence;
-use super::random::Random;
 use super::room::{Lent, Room};
 use super::settings::{self, Setting};
 use super::table::{Frame, Pass};
+use crate::random::Random;
 use crate::steps::Mode;
 use crate::tally::FrameTally;
 

@@ -1,7 +1,7 @@
 //! The settings of a pass: what its fields are called, where their boundaries lie, and what is left
 //! of a value once it is limited.
 
-use super::random::Random;
+use crate::random::Random;
 
 /// The most fields that a pass has.
 pub const FIELDS: usize = 3;

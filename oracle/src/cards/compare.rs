@@ -1,0 +1,83 @@
+//! Opening and writing, compared with the paper on many cards.
+
+use super::{damage, paper};
+use crate::probe;
+use crate::random::Random;
+use crate::steps::Mode;
+use crate::tally::{CardTally, Total};
+
+/// What stands in the buffer before a card is written.
+const MARK: u8 = 0xa5;
+
+/// The longest card has 72 bytes.
+const ROOM: usize = 80;
+
+pub fn run(mode: Mode, total: &mut Total) {
+    println!("Cards, with a reading of document 01");
+    let count = match mode {
+        Mode::Quick => 400_000,
+        Mode::Full => 20_000_000,
+    };
+    let random = &mut Random::named("cards");
+    let mut tally = CardTally::new();
+    for _ in 0..count {
+        let card = damage::card(random);
+        one(&card, random, &mut tally);
+    }
+    // Every length of one card of all ten passes, cut at each byte.
+    let whole = full();
+    for length in 0..=whole.len() {
+        one(&whole[..length], random, &mut tally);
+    }
+    total.add_cards(&tally);
+}
+
+/// A card of all ten passes, of 72 bytes.
+fn full() -> Vec<u8> {
+    let mut bits = Vec::new();
+    paper::put(&mut bits, 1, 4);
+    paper::put(&mut bits, 10, 4);
+    for kind in 1..=10 {
+        paper::put(&mut bits, kind, 4);
+        paper::put(&mut bits, 1, 1);
+        for field in paper::fields(kind).unwrap_or_default() {
+            match field {
+                paper::Field::Preset => paper::put(&mut bits, 6, 3),
+                paper::Field::Byte | paper::Field::Count(_) => paper::put(&mut bits, 8, 8),
+                _ => paper::put(&mut bits, 1.0f32.to_bits(), 32),
+            }
+        }
+    }
+    bits.resize(bits.len().next_multiple_of(8), false);
+    let byte = |eight: &[bool]| eight.iter().fold(0, |b, &bit| b << 1 | u8::from(bit));
+    bits.chunks(8).map(byte).collect()
+}
+
+/// Opens and writes one card on both sides. Some buffers are too short, and some stations are
+/// handed back with a history that they cannot have.
+fn one(card: &[u8], random: &mut Random, tally: &mut CardTally) {
+    let held = random.choose(&[0, 0, 0, 1, 1_048_576, 1_048_577, u32::MAX]);
+    let room = if random.one_in(4) {
+        random.below(ROOM)
+    } else {
+        ROOM
+    };
+    let mut asked = vec![MARK; room];
+    let number = match paper::open(card) {
+        Err(number) => Err(number),
+        Ok(opened) if !opened.may_hold(held) => Err(13),
+        Ok(opened) => {
+            let written = opened.written();
+            match asked.get_mut(..written.len()) {
+                None => Err(14),
+                Some(front) => {
+                    front.copy_from_slice(&written);
+                    Ok(written.len())
+                }
+            }
+        }
+    };
+    let mut here = vec![MARK; room];
+    let answer = probe::card(card, held, &mut here);
+    tally.check(card, held, (answer, &here), (number, &asked));
+}

@@ -1,0 +1,117 @@
+//! Cards to be opened: good ones with settings of every kind, and what may become of them.
+
+use super::paper::{fields, put, Field};
+use crate::random::Random;
+
+/// Floats where the paper's rules change, or a reader may slip.
+const FLOATS: [u32; 22] = [
+    0x0000_0000, // 0
+    0x8000_0000, // -0
+    0x0000_0001, // the smallest above 0
+    0x8000_0001, // the largest below 0
+    0x007f_ffff, // the largest subnormal
+    0x3f00_0000, // 0.5
+    0x3f00_0001,
+    0x3f73_3333, // 0.95
+    0x3f73_3334,
+    0x3f7f_ffff,
+    0x3f80_0000, // 1
+    0x3f80_0001,
+    0xbf80_0000, // -1
+    0xbf80_0001,
+    0x4000_0000, // 2
+    0x4080_0000, // 4
+    0x4080_0001,
+    0x7f7f_ffff, // the largest
+    0x7f80_0000, // infinity
+    0xff80_0000,
+    0x7f80_0001, // a NaN
+    0xffc0_0000,
+];
+
+/// Bytes where a count is limited or refused.
+const BYTES: [u32; 9] = [0, 1, 2, 7, 8, 9, 64, 65, 255];
+
+/// A card of records of random kinds, in most cases each kind once, then damaged or not.
+pub fn card(random: &mut Random) -> Vec<u8> {
+    if random.one_in(16) {
+        return (0..random.below(80)).map(|_| random.word() as u8).collect();
+    }
+    let mut kinds: Vec<u32> = (1..=10).collect();
+    for place in (1..kinds.len()).rev() {
+        kinds.swap(place, random.below(place + 1));
+    }
+    kinds.truncate(random.below(11));
+    if !kinds.is_empty() && random.one_in(16) {
+        // Any kind number: unknown, or perhaps a second of its kind.
+        let place = random.below(kinds.len());
+        kinds[place] = random.below(16) as u32;
+    }
+    let mut bits = Vec::new();
+    put(&mut bits, 1, 4);
+    put(&mut bits, kinds.len() as u32, 4);
+    for kind in kinds {
+        put(&mut bits, kind, 4);
+        put(&mut bits, random.below(2) as u32, 1);
+        for field in fields(kind).unwrap_or_default() {
+            setting(*field, &mut bits, random);
+        }
+    }
+    damaged(bits, random)
+}
+
+/// Mostly what a card may hold: else few cards of ten records would be taken.
+fn setting(field: Field, bits: &mut Vec<bool>, random: &mut Random) {
+    let odd = random.one_in(24);
+    match field {
+        Field::Byte => put(bits, random.word(), 8),
+        Field::Preset => put(bits, random.below(if odd { 8 } else { 7 }) as u32, 3),
+        Field::Count(_) if odd => put(bits, random.word(), 8),
+        Field::Count(most) => {
+            let value = random.choose(&BYTES).min(most);
+            put(bits, value, 8);
+        }
+        Field::Limited(_) | Field::Within(..) | Field::Gain(_) if odd => {
+            let patterns = [random.word(), random.choose(&FLOATS)];
+            put(bits, random.choose(&patterns), 32);
+        }
+        Field::Limited(_) => {
+            let wide = (random.unit() - 0.25) * 2.0;
+            let edge = f32::from_bits(random.choose(&FLOATS[..18]));
+            put(bits, random.choose(&[wide, edge]).to_bits(), 32);
+        }
+        Field::Within(low, high) => {
+            let inside = low + (high - low) * random.unit();
+            put(bits, random.choose(&[inside, low, high]).to_bits(), 32);
+        }
+        Field::Gain(high) => {
+            let value = (random.unit() - 0.25) * high;
+            put(bits, random.choose(&[value, high, -0.0]).to_bits(), 32);
+        }
+    }
+}
+
+/// The card's bytes, as they are in most cases; else torn at any bit, with a bit changed, with a
+/// padding bit set or with bytes left over.
+fn damaged(mut bits: Vec<bool>, random: &mut Random) -> Vec<u8> {
+    match random.below(8) {
+        0 => bits.truncate(random.below(bits.len() + 1)),
+        1 => {
+            let place = random.below(bits.len());
+            bits[place] = !bits[place];
+        }
+        _ => {}
+    }
+    let padding = bits.len().next_multiple_of(8) - bits.len();
+    bits.resize(bits.len() + padding, false);
+    if padding > 0 && random.one_in(16) {
+        let place = bits.len() - 1 - random.below(padding);
+        bits[place] = true;
+    }
+    let byte = |eight: &[bool]| eight.iter().fold(0, |b, &bit| b << 1 | u8::from(bit));
+    let mut card: Vec<u8> = bits.chunks(8).map(byte).collect();
+    if random.one_in(16) {
+        card.extend((0..random.within(1, 3)).map(|_| random.choose(&[0, 0xff])));
+    }
+    card
+}

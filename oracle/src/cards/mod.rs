@@ -1,0 +1,6 @@
+//! The card: what opening and writing give, held to a reading of document 01 that was written from
+//! the paper alone.
+
+pub mod compare;
+mod damage;
+mod paper;

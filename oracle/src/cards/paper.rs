@@ -1,0 +1,173 @@
+//! Document 01's card, read and written as the paper says it, with nothing of the library.
+
+/// A refusal's number.
+pub type Number = u32;
+
+/// A card once it is opened.
+pub struct Opened {
+    records: Vec<Record>,
+}
+
+struct Record {
+    kind: u32,
+    on: bool,
+    settings: Vec<Value>,
+}
+
+/// A setting once it is normalised.
+#[derive(Clone, Copy)]
+enum Value {
+    /// With its bits on the card.
+    Whole(u32, usize),
+    Float(f32),
+}
+
+/// What a card may hold in a field, and what becomes of it.
+#[derive(Clone, Copy)]
+pub enum Field {
+    /// Limited to 0 and the high end.
+    Limited(f32),
+    /// Refused outside.
+    Within(f32, f32),
+    /// Refused above, and 0 below 0.
+    Gain(f32),
+    /// Any byte.
+    Byte,
+    /// Refused above, and 1 for 0.
+    Count(u32),
+    /// Three bits; 7 is refused.
+    Preset,
+}
+
+/// The settings of a kind, in the order of the paper's table.
+pub fn fields(kind: u32) -> Option<&'static [Field]> {
+    use Field::*;
+    Some(match kind {
+        1 => &[Limited(1.0), Count(64)],
+        2 => &[Byte, Limited(1.0), Count(64)],
+        3 => &[Limited(1.0), Limited(1.0), Limited(1.0)],
+        4 => &[Limited(0.95), Count(8)],
+        5 => &[Preset, Limited(1.0)],
+        6 => &[Limited(0.5)],
+        7 => &[Within(-1.0, 1.0), Gain(4.0), Gain(4.0), Within(1.0, 1.0)],
+        8..=10 => &[Limited(1.0)],
+        _ => return None,
+    })
+}
+
+/// The bits of a card, most significant first.
+struct Bits<'a> {
+    card: &'a [u8],
+    at: usize,
+}
+
+impl Bits<'_> {
+    /// A field: torn where its bits run past the end.
+    fn take(&mut self, width: usize) -> Result<u32, Number> {
+        if self.at + width > 8 * self.card.len() {
+            return Err(1);
+        }
+        let bits = (self.at..self.at + width).map(|p| self.card[p / 8] >> (7 - p % 8) & 1);
+        self.at += width;
+        Ok(bits.fold(0, |value, bit| value << 1 | u32::from(bit)))
+    }
+}
+
+impl Field {
+    fn read(self, bits: &mut Bits) -> Result<Value, Number> {
+        match self {
+            Field::Byte => Ok(Value::Whole(bits.take(8)?, 8)),
+            Field::Count(most) => match bits.take(8)? {
+                0 => Ok(Value::Whole(1, 8)),
+                count if count <= most => Ok(Value::Whole(count, 8)),
+                _ => Err(6),
+            },
+            Field::Preset => match bits.take(3)? {
+                7 => Err(6),
+                preset => Ok(Value::Whole(preset, 3)),
+            },
+            Field::Limited(_) | Field::Within(..) | Field::Gain(_) => {
+                let x = f32::from_bits(bits.take(32)?);
+                if !x.is_finite() {
+                    return Err(6);
+                }
+                let x = match self {
+                    Field::Limited(high) if x > high => high,
+                    Field::Within(low, high) if x < low || x > high => return Err(6),
+                    Field::Gain(high) if x > high => return Err(6),
+                    Field::Limited(_) | Field::Gain(_) if x < 0.0 => 0.0,
+                    _ => x,
+                };
+                // Negative zero becomes zero.
+                Ok(Value::Float(if x == 0.0 { 0.0 } else { x }))
+            }
+        }
+    }
+}
+
+/// Reads a card field by field.
+pub fn open(card: &[u8]) -> Result<Opened, Number> {
+    let mut bits = Bits { card, at: 0 };
+    if bits.take(4)? != 1 {
+        return Err(2);
+    }
+    let n = bits.take(4)?;
+    if n > 10 {
+        return Err(3);
+    }
+    let mut records: Vec<Record> = Vec::new();
+    for _ in 0..n {
+        let kind = bits.take(4)?;
+        let fields = fields(kind).ok_or(4u32)?;
+        if records.iter().any(|record| record.kind == kind) {
+            return Err(5);
+        }
+        let on = bits.take(1)? == 1;
+        let settings: Result<Vec<Value>, Number> =
+            fields.iter().map(|field| field.read(&mut bits)).collect();
+        records.push(Record {
+            kind,
+            on,
+            settings: settings?,
+        });
+    }
+    // Zero bits to the byte's end, and no byte after it.
+    let rest = 8 * card.len() - bits.at;
+    if rest >= 8 || bits.take(rest)? != 0 {
+        return Err(7);
+    }
+    Ok(Opened { records })
+}
+
+impl Opened {
+    /// Whether a station of this chain may hold a history of `held` words.
+    pub fn may_hold(&self, held: u32) -> bool {
+        let remembers = self.records.iter().any(|r| r.kind == 4 && r.on);
+        held == 0 || held <= 1_048_576 && remembers
+    }
+
+    /// The normalised card.
+    pub fn written(&self) -> Vec<u8> {
+        let mut bits = Vec::new();
+        put(&mut bits, 1, 4);
+        put(&mut bits, self.records.len() as u32, 4);
+        for record in &self.records {
+            put(&mut bits, record.kind, 4);
+            put(&mut bits, u32::from(record.on), 1);
+            for setting in &record.settings {
+                match *setting {
+                    Value::Whole(value, width) => put(&mut bits, value, width),
+                    Value::Float(x) => put(&mut bits, x.to_bits(), 32),
+                }
+            }
+        }
+        bits.resize(bits.len().next_multiple_of(8), false);
+        let byte = |eight: &[bool]| eight.iter().fold(0, |b, &bit| b << 1 | u8::from(bit));
+        bits.chunks(8).map(byte).collect()
+    }
+}
+
+/// The lowest `width` bits of `value`, most significant first.
+pub fn put(bits: &mut Vec<bool>, value: u32, width: usize) {
+    bits.extend((0..width).rev().map(|place| value >> place & 1 == 1));
+}
