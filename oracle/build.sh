@@ -22,7 +22,7 @@ END
     cat <<END
 Skipped: the part against the original program, since there is no $original/src/postprocess/pipeline.rs.
 To run it, set HEDGEMALLOW_ORIGINAL to a checkout of rust-nes-emu, the folder that holds src/postprocess.
-The number steps are taken without it.
+The number steps and the cards are taken without it.
 END
     original=
 }

@@ -122,6 +122,8 @@ const REFUSED: usize = 256;
 /// Opens a card, gives its station a history of `held` words, and writes it. Answers the length, or a
 /// refusal's number.
 pub fn card(card: &[u8], held: u32, out: &mut [u8]) -> Result<usize, u32> {
+    assert_lendable(card.as_ptr(), card.len());
+    assert_lendable(out.as_ptr(), out.len());
     // SAFETY: both pointers come with the length of their own slice, and a shared and a mutable
     // slice never overlap. The export keeps neither pointer.
     let answer = unsafe {
@@ -133,11 +135,11 @@ pub fn card(card: &[u8], held: u32, out: &mut [u8]) -> Result<usize, u32> {
     }
 }
 
-/// What the library takes for granted of a slice that it is lent, an empty one included: words of
-/// four bytes, a pointer that is aligned and not null, and a size that a pointer can span. A Rust
-/// slice has all this. It is asserted because the other side cannot be seen from here.
+/// What the library takes for granted of a slice that it is lent, an empty one included: bytes, or
+/// words of four bytes, a pointer that is aligned and not null, and a size that a pointer can span. A
+/// Rust slice has all this. It is asserted because the other side cannot be seen from here.
 fn assert_lendable<T>(start: *const T, len: usize) {
-    assert!(size_of::<T>() == 4);
+    assert!(matches!(size_of::<T>(), 1 | 4));
     assert!(!start.is_null() && start.is_aligned());
     assert!(len <= isize::MAX as usize / size_of::<T>());
 }

@@ -11,7 +11,8 @@ use Rattle.chain.specs.Sheet.{lay}
 use Rattle.chain.specs.declared.station.Record.{Record}
 use Rattle.chain.specs.declared.writer.Sheet.{Sheet}
 use Rattle.chain.proofs.Packed.{length-bits}
-use Rattle.chain.proofs.Sheets.{lay-lay, lay-then, lay-far, record-short}
+use Rattle.chain.proofs.Sheets.{lay-lay, lay-then, lay-far}
+use Rattle.chain.proofs.Records.{record-short}
 
 abbrev sheet : List ℕ → ℕ → Sheet
 sheet bs at = record { bits = bs; at = at }

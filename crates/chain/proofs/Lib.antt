@@ -13,6 +13,7 @@ pub mod Chain
 pub mod Gives
 pub mod Same
 pub mod Theorems
+pub mod Records
 pub mod Sheets
 pub mod Scans
 pub mod Laying

@@ -4,41 +4,26 @@ use native.Mathlib.Omega.{arith}
 use mathlib.Core.Path.{_≡_, refl, _∙_}
 use mathlib.Core.Bool.{Bool, true, false, cond, not, _&&_, _||_}
 use mathlib.Core.List.{List, [], _∷_, _++_}
-use lib.ListN.{length, getD, take, length-append}
+use lib.ListN.{length, take, length-append}
 use lib.Dec.{T, eqb}
 use borrow.Author.Tests.{eqb-true, eq-eqb}
-use lib.Ieee.{binary32, toBits}
 use lib.Ieee.Fits.{and-l, and-r}
 use Rattle.chain.specs.Passes.{kindOf}
 use Rattle.chain.specs.Records.{among}
 use Rattle.chain.specs.Normal.{normalPass, normalChain}
 use Rattle.chain.specs.Claims.{Longest}
-use Rattle.chain.specs.Written.{bits, passBits, recordBits, recordsBits, chainBits, chainCard, cardOf}
+use Rattle.chain.specs.Written.{bits, recordBits, recordsBits, chainBits, chainCard, cardOf}
 use Rattle.chain.specs.declared.station.Pass.{Pass}
 use Rattle.chain.specs.declared.station.Pass.the-variants.{Ntsc, Bloom, AutoGradient, Persistence, Lut, Curvature, ColorCorrection, Crt, Vignette, Scanlines}
 use Rattle.chain.specs.declared.station.Record.{Record}
 use Rattle.chain.proofs.Packed.{length-bits, length-pack}
+use Rattle.chain.proofs.Records.{width, record-long}
+use Rattle.chain.proofs.Tests.{held-not}
 use Rattle.chain.proofs.Writing.{good-parts}
 
--- a record's width by its kind, and the kinds
-abbrev width : ℕ → ℕ
-width k = getD (0 ∷ 45 ∷ 53 ∷ 101 ∷ 45 ∷ 40 ∷ 37 ∷ 133 ∷ 37 ∷ 37 ∷ 37 ∷ []) k 0
-
+-- the kinds
 abbrev every : List ℕ
 every = 1 ∷ 2 ∷ 3 ∷ 4 ∷ 5 ∷ 6 ∷ 7 ∷ 8 ∷ 9 ∷ 10 ∷ []
-
-pass-long : (p : Pass) → 5 + length (passBits p) ≡ width (kindOf p)
-unfolding passBits
-pass-long (Ntsc a b) = omega (arith, length-bits 32 (toBits binary32 a), length-bits 8 b, length-append (bits 32 (toBits binary32 a)) (bits 8 b))
-pass-long (Bloom a b c) = omega (arith, length-bits 8 a, length-bits 32 (toBits binary32 b), length-bits 8 c, length-append (bits 8 a) (bits 32 (toBits binary32 b) ++ (bits 8 c)), length-append (bits 32 (toBits binary32 b)) (bits 8 c))
-pass-long (AutoGradient a b c) = omega (arith, length-bits 32 (toBits binary32 a), length-bits 32 (toBits binary32 b), length-bits 32 (toBits binary32 c), length-append (bits 32 (toBits binary32 a)) (bits 32 (toBits binary32 b) ++ (bits 32 (toBits binary32 c))), length-append (bits 32 (toBits binary32 b)) (bits 32 (toBits binary32 c)))
-pass-long (Persistence a b) = omega (arith, length-bits 32 (toBits binary32 a), length-bits 8 b, length-append (bits 32 (toBits binary32 a)) (bits 8 b))
-pass-long (Lut a b) = omega (arith, length-bits 3 a, length-bits 32 (toBits binary32 b), length-append (bits 3 a) (bits 32 (toBits binary32 b)))
-pass-long (Curvature a) = omega (arith, length-bits 32 (toBits binary32 a))
-pass-long (ColorCorrection a b c d) = omega (arith, length-bits 32 (toBits binary32 a), length-bits 32 (toBits binary32 b), length-bits 32 (toBits binary32 c), length-bits 32 (toBits binary32 d), length-append (bits 32 (toBits binary32 a)) (bits 32 (toBits binary32 b) ++ (bits 32 (toBits binary32 c) ++ (bits 32 (toBits binary32 d)))), length-append (bits 32 (toBits binary32 b)) (bits 32 (toBits binary32 c) ++ (bits 32 (toBits binary32 d))), length-append (bits 32 (toBits binary32 c)) (bits 32 (toBits binary32 d)))
-pass-long (Crt a) = omega (arith, length-bits 32 (toBits binary32 a))
-pass-long (Vignette a) = omega (arith, length-bits 32 (toBits binary32 a))
-pass-long (Scanlines a) = omega (arith, length-bits 32 (toBits binary32 a))
 
 known : (p : Pass) → among (kindOf p) every ≡ true
 known (Ntsc a b) = refl
@@ -51,18 +36,6 @@ known (ColorCorrection a b c d) = refl
 known (Crt a) = refl
 known (Vignette a) = refl
 known (Scanlines a) = refl
-
-record-long : (r : Record) → length (recordBits r) ≡ width (kindOf (r .pass))
-unfolding recordBits
-record-long r =
-    omega (
-      arith,
-      length-append (bits 4 (kindOf (r .pass))) (bits 1 (cond (r .on) 1 0) ++ passBits (r .pass)),
-      length-append (bits 1 (cond (r .on) 1 0)) (passBits (r .pass)),
-      length-bits 4 (kindOf (r .pass)),
-      length-bits 1 (cond (r .on) 1 0),
-      pass-long (r .pass),
-    )
 
 -- what the kinds that are not seen take together
 abbrev free : List ℕ → List ℕ → ℕ
@@ -106,10 +79,6 @@ spent (j ∷ ks) k seen new e = go (eqb j k) refl e (λ h. spent ks k seen new h
         rw (same, here, new) (omega (arith, all-less ks k seen))
     go false h e ih = omega (arith, one-less j k seen, ih e)
 
-not-held : (b : Bool) → T (not b) → b ≡ false
-not-held true h = absurd h
-not-held false h = refl
-
 records-long : (rs : List Record) (seen : List ℕ) → T (normalChain seen rs) → length (recordsBits rs) ≤ free every seen
 unfolding recordsBits normalChain
 records-long [] seen h = omega arith
@@ -117,7 +86,7 @@ records-long (r ∷ rs) seen h =
     let k = kindOf (r .pass) in
     let front = and-l (normalPass (r .pass) && not (among k seen)) (normalChain (seen ++ k ∷ []) rs) h in
     let rest = and-r (normalPass (r .pass) && not (among k seen)) (normalChain (seen ++ k ∷ []) rs) h in
-    let new = not-held (among k seen) (and-r (normalPass (r .pass)) (not (among k seen)) front) in
+    let new = held-not (among k seen) (and-r (normalPass (r .pass)) (not (among k seen)) front) in
     omega (arith, length-append (recordBits r) (recordsBits rs), record-long r, records-long rs (seen ++ k ∷ []) rest, spent every k seen new (known (r .pass)))
 
 -- no chain's card is longer than 72 bytes

@@ -9,13 +9,8 @@ use lib.Seq.{paste, take-all, take-length, getD-at, take-at, drop-at, drop-drop,
 use lib.Dec.{T, leb, leb→le}
 pub use lib.Dec.{lit≤}
 use lib.Pow.{shr-shr}
-use lib.Ieee.{binary32, toBits}
 use Rattle.chain.specs.declared.station.Pass.{Pass}
-use Rattle.chain.specs.declared.station.Pass.the-variants.{Ntsc, Bloom, AutoGradient, Persistence, Lut, Curvature, ColorCorrection, Crt, Vignette, Scanlines}
-use mathlib.Core.Bool.{cond}
-use Rattle.chain.specs.Passes.{kindOf}
-use Rattle.chain.specs.declared.station.Record.{Record}
-use Rattle.chain.specs.Written.{bits, passBits, recordBits}
+use Rattle.chain.specs.Written.{bits, passBits}
 use Rattle.chain.specs.Sheet.{lay}
 use Rattle.chain.specs.declared.writer.Sheet.{Sheet}
 use Rattle.chain.proofs.Packed.{length-bits}
@@ -116,28 +111,3 @@ reach p m h = omega arith
 
 -- `search lays` closes what a field needs of the sheet, and that the fields are laid one after another
 pub ruleset lays = (lay-then, pass-laid, field-far, room, reach, lit≤, tt)
-
-pub pass-short : (p : Pass) → length (passBits p) ≤ 128
-unfolding passBits
-pass-short (Ntsc a b) = omega (arith, length-bits 32 (toBits binary32 a), length-bits 8 b, length-append (bits 32 (toBits binary32 a)) (bits 8 b))
-pass-short (Bloom a b c) = omega (arith, length-bits 8 a, length-bits 32 (toBits binary32 b), length-bits 8 c, length-append (bits 8 a) ((bits 32 (toBits binary32 b)) ++ (bits 8 c)), length-append (bits 32 (toBits binary32 b)) (bits 8 c))
-pass-short (AutoGradient a b c) = omega (arith, length-bits 32 (toBits binary32 a), length-bits 32 (toBits binary32 b), length-bits 32 (toBits binary32 c), length-append (bits 32 (toBits binary32 a)) ((bits 32 (toBits binary32 b)) ++ (bits 32 (toBits binary32 c))), length-append (bits 32 (toBits binary32 b)) (bits 32 (toBits binary32 c)))
-pass-short (Persistence a b) = omega (arith, length-bits 32 (toBits binary32 a), length-bits 8 b, length-append (bits 32 (toBits binary32 a)) (bits 8 b))
-pass-short (Lut a b) = omega (arith, length-bits 3 a, length-bits 32 (toBits binary32 b), length-append (bits 3 a) (bits 32 (toBits binary32 b)))
-pass-short (Curvature a) = omega (arith, length-bits 32 (toBits binary32 a))
-pass-short (ColorCorrection a b c d) = omega (arith, length-bits 32 (toBits binary32 a), length-bits 32 (toBits binary32 b), length-bits 32 (toBits binary32 c), length-bits 32 (toBits binary32 d), length-append (bits 32 (toBits binary32 a)) ((bits 32 (toBits binary32 b)) ++ ((bits 32 (toBits binary32 c)) ++ (bits 32 (toBits binary32 d)))), length-append (bits 32 (toBits binary32 b)) ((bits 32 (toBits binary32 c)) ++ (bits 32 (toBits binary32 d))), length-append (bits 32 (toBits binary32 c)) (bits 32 (toBits binary32 d)))
-pass-short (Crt a) = omega (arith, length-bits 32 (toBits binary32 a))
-pass-short (Vignette a) = omega (arith, length-bits 32 (toBits binary32 a))
-pass-short (Scanlines a) = omega (arith, length-bits 32 (toBits binary32 a))
-
-pub record-short : (r : Record) → length (recordBits r) ≤ 133
-unfolding recordBits
-record-short r =
-    omega (
-      arith,
-      length-append (bits 4 (kindOf (r .pass))) (bits 1 (cond (r .on) 1 0) ++ passBits (r .pass)),
-      length-append (bits 1 (cond (r .on) 1 0)) (passBits (r .pass)),
-      length-bits 4 (kindOf (r .pass)),
-      length-bits 1 (cond (r .on) 1 0),
-      pass-short (r .pass),
-    )

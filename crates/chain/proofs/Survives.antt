@@ -1,8 +1,8 @@
 -- Any good station survives writing and opening: refusal 13's test is what the round trip needs. Assumes nothing.
 use Prim.Native.Nat.{ℕ, _+_, _-_}
 use native.Mathlib.Omega.{arith}
-use mathlib.Core.Path.{_≡_, refl, ap, ap₂, sym, subst, _∙_}
-use mathlib.Core.Bool.{Bool, true, false, not, _&&_}
+use mathlib.Core.Path.{_≡_, ap, ap₂, sym, subst, _∙_}
+use mathlib.Core.Bool.{not, _&&_}
 use mathlib.Core.List.{List, [], _∷_, _++_, map-append}
 use lib.ListN.{length, take, replicate, take-append-drop}
 use lib.Seq.{length-take-le}
@@ -26,15 +26,8 @@ use Rattle.chain.specs.declared.station.Station.{Station}
 use Rattle.chain.proofs.Back.{Settled, Counted}
 use Rattle.chain.proofs.Chain.{NormalPass, NormalChain}
 use Rattle.chain.proofs.Writing.{good-parts}
+use Rattle.chain.proofs.Tests.{held-true, held-not}
 use Rattle.chain.proofs.Theorems.{chain-opens}
-
-held-true : (b : Bool) → T b → b ≡ true
-held-true true h = refl
-held-true false h = absurd h
-
-held-not : (b : Bool) → T (not b) → b ≡ false
-held-not true h = absurd h
-held-not false h = refl
 
 settled-of : (low high x : Float) → T (fits binary32 x) → T (settled low high x) → Settled low high x
 unfolding settled

@@ -1,9 +1,10 @@
 -- Tests in the code, one after another, decide as the definition's `&&`: `search tests` closes each return. Assumes nothing.
 use Prim.Native.Nat.{ℕ}
 use mathlib.Core.Path.{_≡_, refl, sym, _∙_}
-use mathlib.Core.Bool.{Bool, true, false, _&&_, _||_}
+use mathlib.Core.Bool.{Bool, true, false, not, _&&_, _||_}
 pub use borrow.Author.Tests.{eq-eqb, ne-eqb, le-leb, lt-leb, lt-ltb, le-ltb, not-true, not-false}
 use mathlib.Core.List.{List}
+use lib.Dec.{T}
 use lib.Ieee.{Float}
 use Rattle.chain.specs.Normal.{settled, normalPass, normalChain}
 use Rattle.chain.specs.declared.station.Pass.{Pass}
@@ -15,6 +16,15 @@ asked low high x b c e h = sym e ∙ h
 
 pub asked-chain : (seen : List ℕ) (rs : List Record) (b c : Bool) → b ≡ normalChain seen rs → b ≡ c → normalChain seen rs ≡ c
 asked-chain seen rs b c e h = sym e ∙ h
+
+-- a test that holds, and one whose opposite holds
+pub held-true : (b : Bool) → T b → b ≡ true
+held-true true h = refl
+held-true false h = absurd h
+
+pub held-not : (b : Bool) → T (not b) → b ≡ false
+held-not true h = absurd h
+held-not false h = refl
 
 pub and-both : (a b : Bool) → a ≡ true → b ≡ true → (a && b) ≡ true
 and-both a b e h = rw (e, h) refl
