@@ -12,7 +12,7 @@ use Rattle.passes.specs.Fold.{fold}
 use Rattle.passes.specs.Pixel.{unpack, unit, channel, pack, packNearest, packLimited, packUnit, dim, luma601, luma709}
 use Rattle.passes.specs.Position.{position}
 use Rattle.num.specs.Rewrite.{rewrite}
-use Rattle.passes.specs.Flow.{Flow, flow}
+use Rattle.passes.specs.Flow.{sized, sameHeld, Flow, flow}
 use Rattle.passes.specs.Blur as Blur
 use Rattle.passes.specs.Scanlines as Scanlines
 use Rattle.passes.specs.Vignette as Vignette
@@ -33,7 +33,7 @@ numbered = 0xaa000001 ∷ 2 ∷ 3 ∷ 4 ∷ 0xbb000005 ∷ 6 ∷ 7 ∷ 8 ∷ 9 �
 
 -- persistence 0.5, depth 1, from frame to frame; the history is longer than its one place
 abbrev shown : Flow → ℕ → Flow
-shown x p = Persistence.persistence c0·5 1 (flow (p ∷ []) (x .held) (x .past))
+shown x p = Persistence.persistence c0·5 1 (sized 1 1) (flow (p ∷ []) (x .held) (x .past))
 
 abbrev first : Flow
 first = shown (flow [] 0 (7 ∷ 8 ∷ [])) 0xffffff
@@ -69,7 +69,7 @@ unfolding ofBits ofInt add sub mul div neg lt le clampOf minOf maxOf absOf cutOf
     Crt.crt Crt.beam Crt.phosphor Crt.offset Crt.edge Crt.shade
     Curvature.curvature Curvature.bend Curvature.sample Curvature.outside
     AutoGradient.autoGradient AutoGradient.shaded AutoGradient.adaptive AutoGradient.addLuma AutoGradient.warm AutoGradient.brightness AutoGradient.shade
-    Persistence.persistence Persistence.decay Persistence.total Persistence.add Persistence.mix Persistence.pixel Persistence.blended Persistence.blend
+    sameHeld Persistence.persistence Persistence.decay Persistence.total Persistence.add Persistence.mix Persistence.pixel Persistence.blended Persistence.blend
     Persistence.copies Persistence.refilled Persistence.shifted
     ColorCorrection.colorCorrection ColorCorrection.pixel
 marked-hold = refl

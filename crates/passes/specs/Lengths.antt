@@ -3,7 +3,6 @@ use mathlib.Core.Path.{_≡_, refl}
 use mathlib.Core.Bool.{Bool, true, false, cond}
 use mathlib.Core.List.{List}
 use Prim.Native.Nat.{ℕ, _*_, _≤_}
-use lib.Dec.{eqb}
 use lib.ListN.{length}
 use lib.Ieee.{Float}
 use Rattle.num.specs.Rewrite.{length-rewrite}
@@ -16,7 +15,7 @@ use Rattle.passes.specs.Lut.{lut}
 use Rattle.passes.specs.ColorCorrection.{colorCorrection}
 use Rattle.passes.specs.Ntsc.{ntsc}
 use Rattle.passes.specs.Bloom.{bloom}
-use Rattle.passes.specs.Flow.{Flow, flow}
+use Rattle.passes.specs.Flow.{Held, sameHeld, Flow, flow}
 use Rattle.passes.specs.Persistence.{persistence, blend, shifted, refilled}
 use Rattle.passes.specs.PersistenceLaws.{blend-length, shifted-length, refilled-length}
 
@@ -57,21 +56,30 @@ module _ (w h : ℕ) (s : Float) (frame : List ℕ) where
   unfolding bloom
   bloom-length threshold radius = length-rewrite _ _ _
 
-module _ (amount : Float) (k : ℕ) (x : Flow) where
-  pub persistence-length : length (persistence amount k x .frame) ≡ length (x .frame)
-  unfolding persistence
-  persistence-length = either (eqb (x .held) (length (x .frame)))
-    where
-      either : (b : Bool) → length (cond b (flow (blend amount k (x .past) (x .frame)) (length (x .frame)) (shifted k (x .frame) (x .past)))
-          (flow (x .frame) (length (x .frame)) (refilled k (x .frame) (x .past))) .frame) ≡ length (x .frame)
-      either true = blend-length amount k (x .past) (x .frame)
-      either false = refl
+module _ (amount : Float) (k : ℕ) (size : Held) (x : Flow) where
+  abbrev either : Bool → Flow
+  either b = cond b (flow (blend amount k (x .past) (x .frame)) size (shifted k (x .frame) (x .past))) (flow (x .frame) size (refilled k (x .frame) (x .past)))
 
-  pub history-length : k * length (x .frame) ≤ length (x .past) → length (persistence amount k x .past) ≡ length (x .past)
+  pub persistence-length : length (persistence amount k size x .frame) ≡ length (x .frame)
   unfolding persistence
-  history-length h = either (eqb (x .held) (length (x .frame)))
+  persistence-length = of (sameHeld (x .held) size)
     where
-      either : (b : Bool) → length (cond b (flow (blend amount k (x .past) (x .frame)) (length (x .frame)) (shifted k (x .frame) (x .past)))
-          (flow (x .frame) (length (x .frame)) (refilled k (x .frame) (x .past))) .past) ≡ length (x .past)
-      either true = shifted-length k (x .frame) (x .past) h
-      either false = refilled-length k (x .frame) (x .past) h
+      of : (b : Bool) → length (either b .frame) ≡ length (x .frame)
+      of true = blend-length amount k (x .past) (x .frame)
+      of false = refl
+
+  pub history-length : k * length (x .frame) ≤ length (x .past) → length (persistence amount k size x .past) ≡ length (x .past)
+  unfolding persistence
+  history-length h = of (sameHeld (x .held) size)
+    where
+      of : (b : Bool) → length (either b .past) ≡ length (x .past)
+      of true = shifted-length k (x .frame) (x .past) h
+      of false = refilled-length k (x .frame) (x .past) h
+
+  pub persistence-held : persistence amount k size x .held ≡ size
+  unfolding persistence
+  persistence-held = of (sameHeld (x .held) size)
+    where
+      of : (b : Bool) → either b .held ≡ size
+      of true = refl
+      of false = refl

@@ -2,12 +2,11 @@
 use Prim.Native.Nat.{ℕ, zero, suc, _+_, _*_}
 use mathlib.Core.Bool.{cond}
 use mathlib.Core.List.{List, [], _++_}
-use lib.Dec.{eqb}
 use lib.ListN.{length, getD, take, drop}
 use lib.Ieee.{Float}
 use Rattle.num.specs.Const.{c0·55, c1·0}
 use Rattle.num.specs.F32.{_⊕_, _⊗_, _⊘_}
-use Rattle.passes.specs.Flow.{Flow, flow}
+use Rattle.passes.specs.Flow.{Held, sameHeld, Flow, flow}
 use Rattle.passes.specs.Pixel.{packLimited, rgb, scaled, unpack}
 use Rattle.num.specs.Rewrite.{every}
 use Rattle.passes.specs.declared.pixel.Rgb.{Rgb}
@@ -62,10 +61,9 @@ refilled k frame past = copies k frame ++ drop (k * length frame) past
 unfoldable pub shifted : ℕ → (frame past : List ℕ) → List ℕ
 shifted k frame past = take (k * length frame) (frame ++ past) ++ drop (k * length frame) past
 
--- of depth k; where held differs from the count the history is begun anew, and the frame stays as it is
-unfoldable pub persistence : Float → ℕ → Flow → Flow
-persistence amount k x =
-    let count = length (x .frame) in
-    cond (eqb (x .held) count)
-    (flow (blend amount k (x .past) (x .frame)) count (shifted k (x .frame) (x .past)))
-    (flow (x .frame) count (refilled k (x .frame) (x .past)))
+-- of depth k, for a frame of that size; where the history holds frames of another it is begun anew, and the frame stays as it is
+unfoldable pub persistence : Float → ℕ → Held → Flow → Flow
+persistence amount k size x =
+    cond (sameHeld (x .held) size)
+    (flow (blend amount k (x .past) (x .frame)) size (shifted k (x .frame) (x .past)))
+    (flow (x .frame) size (refilled k (x .frame) (x .past)))

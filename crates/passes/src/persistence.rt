@@ -243,7 +243,7 @@ pub fn apply(
     held: u32,
 ) -> u32
     requires { ⌜ (depth ≤ 8) × (depth * length (now frame) ≤ length (now history)) × (length (now frame) ≤ length (now scratch)) × (length (now frame) ≤ 1048576) ⌝ }
-    ensures { λ r. ⌜ (flow (now (frame .exit)) r (now (history .exit)) ≡ Persistence.persistence amount depth (flow (now (frame .entry)) held (now (history .entry)))) × (drop (length (now (frame .entry))) (now (scratch .exit)) ≡ drop (length (now (frame .entry))) (now (scratch .entry))) ⌝ }
+    ensures { λ r. ⌜ (flow (now (frame .exit)) r (now (history .exit)) ≡ Persistence.persistence amount depth (length (now (frame .entry))) (flow (now (frame .entry)) held (now (history .entry)))) × (drop (length (now (frame .entry))) (now (scratch .exit)) ≡ drop (length (now (frame .entry))) (now (scratch .entry))) ⌝ }
 {
     let count = frame.len();
     if held == count as u32 {

@@ -3,8 +3,8 @@ use Prim.Native.Nat.{ℕ, _+_}
 use mathlib.Core.List.{List}
 use Rattle.chain.specs.Card.{openOf}
 use Rattle.chain.specs.Write.{writeAnswer, writeInto}
-use Rattle.chain.specs.declared.reader.Answer.{Answer}
-use Rattle.chain.specs.declared.reader.Answer.the-variants.{Accepted, Refused}
+use Rattle.chain.specs.declared.station.Answer.{Answer}
+use Rattle.chain.specs.declared.station.Answer.the-variants.{Accepted, Refused}
 use Rattle.chain.specs.declared.station.Station.{Station}
 use Rattle.chain.specs.declared.writer.Written.{Written}
 use Rattle.chain.specs.declared.writer.Written.the-variants as W

@@ -2,7 +2,7 @@
 ghost use mathlib.Core.Path.{_≡_};
 ghost use Rattle.probe.specs.Cards.{answerOf, bytesOf};
 use chain::reader;
-use chain::reader::Answer;
+use chain::station::Answer;
 use chain::writer;
 use chain::writer::Written;
 

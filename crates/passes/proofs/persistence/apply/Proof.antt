@@ -8,19 +8,19 @@ use borrow.Author.Tests.{eq-eqb, ne-eqb}
 use lib.ListN.{length}
 use lib.Seq.{length-take-le, drop-at}
 use lib.Ieee.{Float}
-use Rattle.passes.specs.Flow.{flow}
+use Rattle.passes.specs.Flow.{sameHeld, flow}
 use Rattle.passes.specs.Persistence.{blend, refilled, shifted, persistence}
 use Rattle.passes.proofs.persistence.apply.Statement.{statement}
 use Rattle.passes.proofs.persistence.apply.Tie as tie
 
 module _ (amount : Float) (k : ℕ) (frame : List ℕ) (held : ℕ) (past : List ℕ) where
   follows : {picture new : List ℕ} → held ≡ length frame → picture ≡ blend amount k past frame → new ≡ shifted k frame past
-      → flow picture held new ≡ persistence amount k (flow frame held past)
-  unfolding persistence
+      → flow picture held new ≡ persistence amount k (length frame) (flow frame held past)
+  unfolding persistence sameHeld
   follows e f p = rw (f, p, eq-eqb held (length frame) e) (ap (λ (n : ℕ). flow (blend amount k past frame) n (shifted k frame past)) e)
 
-  begins : {new : List ℕ} → (held ≡ length frame → ⊥) → new ≡ refilled k frame past → flow frame (length frame) new ≡ persistence amount k (flow frame held past)
-  unfolding persistence
+  begins : {new : List ℕ} → (held ≡ length frame → ⊥) → new ≡ refilled k frame past → flow frame (length frame) new ≡ persistence amount k (length frame) (flow frame held past)
+  unfolding persistence sameHeld
   begins n p = rw (p, ne-eqb held (length frame) n)
 
 slice-aggregate-follow : tie.Need-slice-aggregate-follow

@@ -5,8 +5,8 @@ use mathlib.Core.List.{List}
 use mathlib.Core.Path.{_≡_, ap, sym, _∙_}
 use Rattle.chain.specs.Card.{openOf}
 use Rattle.chain.specs.Write.{writeAnswer, writeInto}
-use Rattle.chain.specs.declared.reader.Answer.{Answer}
-use Rattle.chain.specs.declared.reader.Answer.the-variants.{Accepted, Refused}
+use Rattle.chain.specs.declared.station.Answer.{Answer}
+use Rattle.chain.specs.declared.station.Answer.the-variants.{Accepted, Refused}
 use Rattle.chain.specs.declared.reader.Opened.{Opened}
 use Rattle.chain.specs.declared.writer.Written.{Written}
 use Rattle.probe.specs.Cards.{holding, wrote, told, kept, answerOf, bytesOf}
