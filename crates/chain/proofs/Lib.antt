@@ -1,5 +1,14 @@
--- Laws that the proofs of several functions cite, and the theorems of specs/Claims.antt: Theorems, Survives, Longest.
+-- Laws that the proofs of several functions cite, and the theorems of specs/Claims.antt: Theorems, Survives, Longest; of specs/Agree.antt: Agreement, Made.
+-- Runs that are computed: Examples.
 pub mod Bits
+pub mod Bools
+pub mod Good
+pub mod PassCases
+pub mod Replies
+pub mod Depths
+pub mod First
+pub mod Lending
+pub mod Goes
 pub mod Reals
 pub mod Steps
 pub mod Unknown
@@ -20,3 +29,11 @@ pub mod Laying
 pub mod Writing
 pub mod Longest
 pub mod Survives
+pub mod Kept
+pub mod Apart
+pub mod Changed
+pub mod Sound
+pub mod Meets
+pub mod Agreement
+pub mod Made
+pub mod Examples

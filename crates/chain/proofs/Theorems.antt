@@ -13,7 +13,7 @@ use Rattle.chain.specs.Written.{chainCard, cardOf}
 use Rattle.chain.specs.declared.station.Record.{Record}
 use Rattle.chain.specs.declared.station.Station.{Station}
 use Rattle.chain.specs.declared.reader.Opened.{Opened}
-use Rattle.chain.specs.declared.reader.Answer.the-variants.{Accepted, Refused}
+use Rattle.chain.specs.declared.station.Answer.the-variants.{Accepted, Refused}
 use Rattle.chain.proofs.Chain.{NormalChain, chain-back}
 use Rattle.chain.proofs.Gives.{Opens, gives-station}
 use Rattle.chain.proofs.Same.{chains-same}

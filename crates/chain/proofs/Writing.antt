@@ -2,28 +2,24 @@
 use Prim.Native.Nat.{ℕ, _+_, _/_, _≤_, _<_}
 use native.Mathlib.Omega.{arith}
 use mathlib.Core.Path.{_≡_, ap, sym, subst, _∙_}
-use mathlib.Core.Bool.{true, _&&_, _||_}
+use mathlib.Core.Bool.{true}
 use mathlib.Core.List.{[], _++_}
 use lib.ListN.{length, take, getD, length-append, length-take}
-use lib.Dec.{T, leb, eqb, leb→le}
-use lib.Ieee.Fits.{and-l, and-r}
-use Rattle.chain.specs.Normal.{normalChain, persists, goodStation}
+use lib.Dec.{T}
+use Rattle.chain.specs.Normal.{normalChain, goodStation}
 use Rattle.chain.specs.Written.{bits, recordsBits, chainBits, pack, chainCard, cardOf}
 use Rattle.chain.specs.Sheet.{lay, blank}
 use Rattle.chain.specs.declared.station.Station.{Station}
 use Rattle.chain.specs.declared.writer.Sheet.{Sheet}
+use Rattle.chain.proofs.Good.{good}
 use Rattle.chain.proofs.Packed.{length-bits, length-pack, pack-same, blank-bits}
 use Rattle.chain.proofs.Chain.{chain-bits}
 use Rattle.chain.proofs.Laying.{records-short}
 
 pub good-parts : (s : Station) → goodStation s ≡ true → (s .n ≤ 10) × T (normalChain [] (take (s .n) (s .records)))
-unfolding goodStation
 good-parts s e =
-    let chain = take (s .n) (s .records) in
-    let all : T (leb (s .n) 10 && normalChain [] chain && leb (s .held) 1048576 && (eqb (s .held) 0 || persists chain)) = subst T (sym e) tt in
-    let abc = and-l (leb (s .n) 10 && normalChain [] chain && leb (s .held) 1048576) (eqb (s .held) 0 || persists chain) all in
-    let ab = and-l (leb (s .n) 10 && normalChain [] chain) (leb (s .held) 1048576) abc in
-    (leb→le (s .n) 10 (and-l (leb (s .n) 10) (normalChain [] chain) ab), and-r (leb (s .n) 10) (normalChain [] chain) ab)
+    let g = good s e in
+    (g .few, subst T (sym (g .normal)) tt)
 
 module _ (s : Station) (t : Sheet) (e : t ≡ lay blank (chainBits (take (s .n) (s .records)))) where
   far : t .at ≡ length (chainBits (take (s .n) (s .records)))

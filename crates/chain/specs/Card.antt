@@ -12,7 +12,7 @@ use Rattle.chain.specs.declared.station.Pass.the-variants.{Scanlines}
 use Rattle.chain.specs.declared.station.Record.{Record}
 use Rattle.chain.specs.declared.station.Station.{Station}
 use Rattle.chain.specs.declared.reader.Opened.{Opened}
-use Rattle.chain.specs.declared.reader.Answer.the-variants.{Accepted, Refused}
+use Rattle.chain.specs.declared.station.Answer.the-variants.{Accepted, Refused}
 
 -- what stands in a place past n
 abbrev pub unused : Record

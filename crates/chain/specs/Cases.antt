@@ -1,21 +1,26 @@
--- The cases of the card: those that document 01 marks (●), and one for each refusal. Each list pairs what a definition gives with what it should give, and one
+-- The cases of the card, those that document 01 marks (●) and one for each refusal, and of the refusals of the calls. Each list pairs what a definition gives with what it should give, and one
 -- proof by computation holds the whole list. Assumes nothing.
 use Prim.Native.Nat.{ℕ}
-use mathlib.Core.Bool.{true}
+use mathlib.Core.Bool.{Bool, true, false}
 use mathlib.Core.List.{List, [], _∷_}
 use mathlib.Core.Path.{refl}
 use lib.Ieee.{ofBits, toBits, lt, eq}
 use Rattle.num.specs.Cases.{Hold}
 use Rattle.num.specs.Const.{c0·0}
 use Rattle.num.specs.Steps.{clampOf, plusZeroOf, limitOf}
+use Rattle.passes.specs.Flow.{sameHeld, fineHeld}
 use Rattle.chain.specs.Step.{refused, refuseIf}
 use Rattle.chain.specs.Bits.{valueAt, fieldAt}
 use Rattle.chain.specs.Settings.{finiteAt, limitedAt, countAt}
 use Rattle.chain.specs.Passes.{passAt, persistenceAt, scanlinesAt}
 use Rattle.chain.specs.Records.{recordAt}
 use Rattle.chain.specs.Card.{stationOf, headerAt, recordsAt, endsAt, endAt, stationAt, openedOf, accepted, openOf}
+use Rattle.chain.specs.Calls.{hold, badSide, stops, lacks}
+use Rattle.chain.specs.Chain.{depth}
+use Rattle.chain.specs.Normal.{settled, normalPass, normalChain, persists, goodStation}
 use Rattle.chain.specs.Written.{bits, passBits, recordBits, recordsBits, chainBits, valueOf, pack, chainCard, cardOf}
-use Rattle.chain.specs.declared.station.Pass.the-variants.{Persistence}
+use Rattle.chain.specs.declared.station.Pass.the-variants.{Persistence, Scanlines}
+use Rattle.chain.specs.declared.station.Station.{Station}
 use Rattle.chain.specs.declared.reader.Opened.{Opened}
 
 -- ● Card 10: the empty chain. Depth 8 taken (11 48 00 00 00 00 40), 9 refused with 6.
@@ -51,3 +56,37 @@ pub written-hold : Hold written
 unfolding openOf stationAt headerAt fieldAt valueAt refuseIf recordsAt endAt endsAt recordAt passAt persistenceAt scanlinesAt countAt limitedAt finiteAt
     ofBits toBits lt eq limitOf plusZeroOf clampOf cardOf chainCard pack valueOf chainBits recordsBits recordBits passBits bits
 written-hold = refl
+
+-- persistence of depth 8, on and off, and scanlines
+abbrev kept : Bool → Station
+kept on = stationOf (record { on = on; pass = Persistence c0·0 8 } ∷ record { on = true; pass = Scanlines c0·0 } ∷ [])
+
+-- Frames: a doubled kind, and a count held while persistence is off (13); a side of 0 and of 1025 (8), and 1024 taken; a framebuffer of one word too few (9); a
+-- history of one word too few, on and off (10); one f32 word too few, and one u32 word (11); nothing too few. The first that holds is given.
+-- Other calls: on a bad station (13), on a kind that is not there, and that no pass has (12), and on one that is there.
+abbrev pub stopped : List (ℕ × ℕ)
+stopped =
+    (stops (stationOf (record { on = true; pass = Scanlines c0·0 } ∷ record { on = false; pass = Scanlines c0·0 } ∷ [])) 0 0 0 0 0 0, 13)
+    ∷ (stops (hold 1 (kept false)) 0 0 0 0 0 0, 13)
+    ∷ (stops (hold 1048577 (kept true)) 1 1 1 8 6 1, 13)
+    ∷ (stops (hold 1048576 (kept true)) 1 1 1 8 6 1, 0)
+    ∷ (stops (kept true) 0 1 0 0 0 0, 8)
+    ∷ (stops (kept true) 1 0 0 0 0 0, 8)
+    ∷ (stops (kept true) 1025 1 1025 8200 6150 1025, 8)
+    ∷ (stops (kept true) 1 1025 1025 8200 6150 1025, 8)
+    ∷ (stops (kept true) 1024 1 1024 8192 6144 1024, 0)
+    ∷ (stops (kept true) 3 2 5 0 0 0, 9)
+    ∷ (stops (kept true) 3 2 6 47 0 0, 10)
+    ∷ (stops (kept false) 3 2 6 47 0 0, 10)
+    ∷ (stops (kept true) 3 2 6 48 35 6, 11)
+    ∷ (stops (kept true) 3 2 6 48 36 5, 11)
+    ∷ (stops (kept true) 3 2 6 48 36 6, 0)
+    ∷ (lacks (hold 1 (kept false)) 4, 13)
+    ∷ (lacks (kept false) 5, 12)
+    ∷ (lacks (kept false) 11, 12)
+    ∷ (lacks (kept false) 4, 0)
+    ∷ []
+
+pub stopped-hold : Hold stopped
+unfolding stops lacks badSide goodStation fineHeld sameHeld normalChain normalPass settled persists depth ofBits lt
+stopped-hold = refl

@@ -1,5 +1,5 @@
 -- Readers: Step, Bits, Settings, Passes, Records, Card. Writers: Written, Sheet, Write. The station test: Normal. What is proved of them: Alike, Typed, Claims.
--- Worked cases: Cases.
+-- The calls: Chain, Lent, Calls, Answers. The plain machine and demand 3: Machine, Agree. Worked cases: Cases, Marked.
 pub mod Step
 pub mod Bits
 pub mod Settings
@@ -13,4 +13,11 @@ pub mod Write
 pub mod Alike
 pub mod Typed
 pub mod Claims
+pub mod Chain
+pub mod Lent
+pub mod Calls
+pub mod Answers
+pub mod Machine
+pub mod Agree
 pub mod Cases
+pub mod Marked

@@ -6,6 +6,7 @@ use lib.ListN.{take}
 use lib.Dec.{leb, ltb, eqb}
 use lib.Ieee.{Float, nan, inf, fin, lt, neg}
 use lib.Ieee.Scale.{finite}
+use Rattle.passes.specs.Flow.{nothing, sameHeld, fineHeld}
 use Rattle.num.specs.Const.{c0·0, c0·5, c0·95, c1·0, c4·0}
 use Rattle.chain.specs.Passes.{kindOf}
 use Rattle.chain.specs.Records.{among}
@@ -53,4 +54,4 @@ persists (r ∷ rs) = (eqb (kindOf (r .pass)) 4 && r .on) || persists rs
 
 unfoldable pub goodStation : Station → Bool
 goodStation s =
-    leb (s .n) 10 && normalChain [] (take (s .n) (s .records)) && leb (s .held) 1048576 && (eqb (s .held) 0 || persists (take (s .n) (s .records)))
+    leb (s .n) 10 && normalChain [] (take (s .n) (s .records)) && fineHeld (s .held) && (sameHeld (s .held) nothing || persists (take (s .n) (s .records)))

@@ -18,6 +18,7 @@ use super::fields::limited;
 use super::fields::preset;
 use super::fields::real_refusal;
 use super::fields::within;
+use super::station::Answer;
 use super::station::Pass;
 use super::station::Record;
 use super::station::Station;
@@ -270,11 +271,6 @@ pub(crate) fn read_record(card: &[u8], at: usize, records: [Record; 10], n: usiz
         return RecordRead::Refused(pass_refusal(r3));
     };
     RecordRead::Value(Record { on: on == 1, pass }, at)
-}
-
-pub enum Answer {
-    Accepted,
-    Refused(u8),
 }
 
 // What opening a card answers, with the station: an empty one where the card is refused.

@@ -61,6 +61,12 @@ pub struct Station {
     pub held: u32,
 }
 
+// What a call answers: accepted, or a refusal's number.
+pub enum Answer {
+    Accepted,
+    Refused(u8),
+}
+
 // The kind number of a pass.
 pub(crate) fn kind_of(pass: Pass) -> u8
     ensures { λ r. ⌜ r ≡ kindOf pass ⌝ }

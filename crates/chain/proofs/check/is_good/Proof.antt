@@ -1,12 +1,13 @@
 -- `chain::check::is_good` meets its contract: each test went as the definition's. Assumes nothing.
 use borrow.Author.Needs.{needs}
+use Rattle.passes.specs.Flow.{sameHeld, fineHeld}
 use Rattle.chain.specs.Normal.{goodStation}
 use Rattle.chain.proofs.Tests.{goods}
 use Rattle.chain.proofs.check.is_good.Statement.{statement}
 use Rattle.chain.proofs.check.is_good.Tie as tie
 
 pub is-good-spec : {M : Type 1} → statement M
-unfolding goodStation
+unfolding goodStation fineHeld sameHeld
 is-good-spec =
     tie.close
     (tie.spec (λ c. search goods) (λ c κs. search needs) (λ c. search goods) (λ c. search goods) (λ c. search goods) (λ c κs. search needs) (λ c. search goods))

@@ -1,0 +1,217 @@
+-- A chain of good records taken apart: where no persistence is on it only paints the frame, else it is what stands before persistence, persistence, and what
+-- stands after it. Assumes nothing.
+use Prim.Native.Nat.{ℕ, suc, _+_, _*_, _≤_}
+use native.Mathlib.Nat.{zero-add}
+use native.Mathlib.Omega.{arith}
+use mathlib.Core.Path.{_≡_, refl, ap, sym, _∙_}
+use mathlib.Core.Bool.{Bool, true, false, not, _&&_, _||_}
+use mathlib.Core.List.{List, [], _∷_, _++_}
+use borrow.Author.Tests.{leb-true}
+use lib.Dec.{leb, eqb}
+use lib.Ieee.{Float}
+use lib.ListN.{length, take}
+use Rattle.num.specs.Const.{c0·0, c0·95}
+use Rattle.passes.specs.Flow.{sized, Flow}
+use Rattle.passes.specs.Fold.{fold}
+use Rattle.passes.specs.Lengths.{persistence-length, history-length, persistence-held}
+use Rattle.passes.specs.Persistence.{persistence}
+use Rattle.chain.specs.Chain.{wash, over, turn, chain, depthOf, depth}
+use Rattle.chain.specs.Normal.{settled, normalPass, normalChain, persists}
+use Rattle.chain.specs.Passes.{kindOf}
+use Rattle.chain.specs.Records.{kinds, among}
+use Rattle.chain.specs.declared.station.Pass.the-variants.{Persistence}
+use Rattle.chain.specs.declared.station.Record.{Record}
+use Rattle.chain.proofs.Bools.{false-true, both, neither, or-second}
+use Rattle.chain.proofs.Good.{Headed, headed, no-second}
+use Rattle.chain.proofs.Kept.{Near, Fits, near-more, near-picture}
+use Rattle.chain.proofs.PassCases.{Plain, by-memory}
+
+-- ## Without persistence
+
+-- it is not on, and there are no places
+absent : (rs : List Record) → among 4 (kinds rs) ≡ false → (persists rs ≡ false) × (depth rs ≡ 0)
+unfolding persists depth
+absent [] e = (refl, refl)
+absent (r ∷ rs) e =
+    let d = neither (eqb (kindOf (r .pass)) 4) (among 4 (kinds rs)) e in
+    let ih = absent rs (d .1) in
+    by-memory (λ p. eqb (kindOf p) 4 ≡ false → ((eqb (kindOf p) 4 && r .on) || persists rs ≡ false) × (depthOf p + depth rs ≡ 0))
+    (λ amount k z. false-true (sym z)) (λ p m z. rw (m .kind, m .no-depth, zero-add (depth rs)) ih)
+    (r .pass) (d .0)
+
+-- a chain with places has persistence
+pub depth-among : (rs : List Record) → 1 ≤ depth rs → among 4 (kinds rs) ≡ true
+unfolding depth
+depth-among [] e = absurd (omega arith)
+depth-among (r ∷ rs) e =
+    by-memory (λ p. 1 ≤ depthOf p + depth rs → eqb (kindOf p) 4 || among 4 (kinds rs) ≡ true)
+    (λ amount k z. refl) (λ p m z. or-second (eqb (kindOf p) 4) (among 4 (kinds rs)) (depth-among rs (omega (arith, m .no-depth))))
+    (r .pass) e
+
+-- ## Records without persistence that is on
+
+pub record Washes (rs : List Record) : Type 0 where
+  pub paint : (w h : ℕ) → List ℕ → List ℕ
+  pub keeps : (w h : ℕ) (frame : List ℕ) → length (paint w h frame) ≡ length frame
+  pub whole : (w h : ℕ) (x : Flow) → chain w h rs x ≡ wash (paint w h) x
+
+unwashed : (r : Record) → r .on ≡ false → Washes (r ∷ [])
+unfolding fold turn wash
+unwashed r e = record { paint = λ w h frame. frame; keeps = λ w h frame. refl; whole = λ w h x. rw e }
+
+washed : (r : Record) → Plain (r .pass) → Washes (r ∷ [])
+unfolding fold turn
+washed r m = go (r .on) refl
+  where
+    go : (b : Bool) → r .on ≡ b → Washes (r ∷ [])
+    go true e = record { paint = m .paint; keeps = m .keeps; whole = λ w h x. rw e (m .whole w h x) }
+    go false e = unwashed r e
+
+washes-one : (r : Record) → eqb (kindOf (r .pass)) 4 && r .on ≡ false → Washes (r ∷ [])
+washes-one r e =
+    by-memory (λ p. eqb (kindOf p) 4 && r .on ≡ false → Washes (record { on = r .on; pass = p } ∷ []))
+    (λ amount k z. unwashed (record { on = r .on; pass = Persistence amount k }) z) (λ p m z. washed (record { on = r .on; pass = p }) m)
+    (r .pass) e
+
+washes-more : (r : Record) (rs : List Record) → Washes (r ∷ []) → Washes rs → Washes (r ∷ rs)
+unfolding fold wash
+washes-more r rs a b =
+    record {
+      paint = λ w h frame. b .paint w h (a .paint w h frame);
+      keeps = λ w h frame. b .keeps w h (a .paint w h frame) ∙ a .keeps w h frame;
+      whole = λ w h x. ap (chain w h rs) (a .whole w h x) ∙ b .whole w h _;
+    }
+
+washes : (rs : List Record) → persists rs ≡ false → Washes rs
+unfolding fold persists wash
+washes [] e = record { paint = λ w h frame. frame; keeps = λ w h frame. refl; whole = λ w h x. refl }
+washes (r ∷ rs) e =
+    let d = neither (eqb (kindOf (r .pass)) 4 && r .on) (persists rs) e in
+    washes-more r rs (washes-one r (d .0)) (washes rs (d .1))
+
+-- ## Good records with persistence on
+
+-- what stands before it, persistence, and what stands after it
+pub record Keeps (rs : List Record) : Type 0 where
+  pub amount : Float
+  pub before : (w h : ℕ) → List ℕ → List ℕ
+  pub after : (w h : ℕ) → List ℕ → List ℕ
+  pub before-keeps : (w h : ℕ) (frame : List ℕ) → length (before w h frame) ≡ length frame
+  pub after-keeps : (w h : ℕ) (frame : List ℕ) → length (after w h frame) ≡ length frame
+  pub some-depth : 1 ≤ depth rs
+  pub whole : (w h : ℕ) (x : Flow) → chain w h rs x ≡ wash (after w h) (persistence amount (depth rs) (sized w h) (wash (before w h) x))
+
+keeps-later : (r : Record) (rs : List Record) → Plain (r .pass) → Keeps rs → Keeps (r ∷ rs)
+unfolding fold wash depth
+keeps-later r rs m s =
+    let a = washed r m in
+    record {
+      amount = s .amount;
+      before = λ w h frame. s .before w h (a .paint w h frame);
+      after = s .after;
+      before-keeps = λ w h frame. s .before-keeps w h (a .paint w h frame) ∙ a .keeps w h frame;
+      after-keeps = s .after-keeps;
+      some-depth = rw (m .no-depth, zero-add (depth rs)) (s .some-depth);
+      whole = λ w h x. ap (chain w h rs) (a .whole w h x) ∙ s .whole w h _ ∙ rw (m .no-depth, zero-add (depth rs));
+    }
+
+keeps-now : (seen : List ℕ) (on : Bool) (amount : Float) (k : ℕ) (rs : List Record) → Headed seen (Persistence amount k) rs
+    → on || persists rs ≡ true → Keeps (record { on = on; pass = Persistence amount k } ∷ rs)
+unfolding fold turn over wash depth normalPass
+keeps-now seen true amount k rs q e =
+    let rest = absent rs (no-second seen (Persistence amount k) rs q) in
+    let a = washes rs (rest .0) in
+    let one : k + depth rs ≡ k = omega (arith, rest .1) in
+    let some : 1 ≤ k = leb-true 1 k (both (leb 1 k) _ (both (settled c0·0 c0·95 amount) _ (q .normal) .1) .0) in
+    record {
+      amount = amount;
+      before = λ w h frame. frame;
+      after = a .paint;
+      before-keeps = λ w h frame. refl;
+      after-keeps = a .keeps;
+      some-depth = omega arith;
+      whole = λ w h x. a .whole w h _ ∙ rw one;
+    }
+keeps-now seen false amount k rs q e = false-true (sym (absent rs (no-second seen (Persistence amount k) rs q) .0) ∙ e)
+
+keeps : (seen : List ℕ) (rs : List Record) → normalChain seen rs ≡ true → persists rs ≡ true → Keeps rs
+unfolding persists
+keeps seen [] n e = false-true e
+keeps seen (r ∷ rs) n e =
+    let ih : persists rs ≡ true → Keeps rs = keeps (seen ++ kindOf (r .pass) ∷ []) rs (headed seen r rs n .others) in
+    by-memory (λ p. Headed seen p rs → (eqb (kindOf p) 4 && r .on) || persists rs ≡ true → Keeps (record { on = r .on; pass = p } ∷ rs))
+    (λ amount k q z. keeps-now seen (r .on) amount k rs q z) (λ p m q z. keeps-later (record { on = r .on; pass = p }) rs m (ih (rw (m .kind) at z)))
+    (r .pass) (headed seen r rs n) e
+
+-- ## A good chain
+
+pub data Apart (rs : List Record) : Type 0 where
+  quiet : persists rs ≡ false → Washes rs → Apart rs
+  keeping : persists rs ≡ true → Keeps rs → Apart rs
+
+pub apart : (rs : List Record) → normalChain [] rs ≡ true → Apart rs
+apart rs n = go (persists rs) refl
+  where
+    go : (b : Bool) → persists rs ≡ b → Apart rs
+    go true e = keeping e (keeps [] rs n e)
+    go false e = quiet e (washes rs e)
+
+module _ (w h : ℕ) (rs : List Record) where
+  abbrev Enough : Flow → Type 0
+  Enough = Fits (depth rs) (sized w h)
+
+  pub frame-length : Apart rs → (x : Flow) → length (chain w h rs x .frame) ≡ length (x .frame)
+  unfolding wash
+  frame-length (quiet e a) x = ap (λ (y : Flow). length (y .frame)) (a .whole w h x) ∙ a .keeps w h (x .frame)
+  frame-length (keeping e a) x =
+      ap (λ (y : Flow). length (y .frame)) (a .whole w h x)
+      ∙ a .after-keeps w h _
+      ∙ persistence-length (a .amount) (depth rs) (sized w h) (wash (a .before w h) x)
+      ∙ a .before-keeps w h (x .frame)
+
+  pub past-length : Apart rs → (x : Flow) → Enough x → length (chain w h rs x .past) ≡ length (x .past)
+  unfolding wash
+  past-length (quiet e a) x fits = ap (λ (y : Flow). length (y .past)) (a .whole w h x)
+  past-length (keeping e a) x fits =
+      let long : length (a .before w h (x .frame)) ≡ h * w = a .before-keeps w h (x .frame) ∙ fits .long in
+      ap (λ (y : Flow). length (y .past)) (a .whole w h x)
+      ∙ history-length (a .amount) (depth rs) (sized w h) (wash (a .before w h) x) (rw long (fits .room))
+
+  pub chain-held : Keeps rs → (x : Flow) → chain w h rs x .held ≡ sized w h
+  unfolding wash
+  chain-held a x = ap (λ (y : Flow). y .held) (a .whole w h x) ∙ persistence-held (a .amount) (depth rs) (sized w h) (wash (a .before w h) x)
+
+  before-fits : (a : Keeps rs) (x : Flow) → Enough x → Enough (wash (a .before w h) x)
+  unfolding wash
+  before-fits a x fits = record { long = a .before-keeps w h (x .frame) ∙ fits .long; room = fits .room }
+
+  -- two flows through it
+  module _ (x y : Flow) (same : x .frame ≡ y .frame) (fits : Enough x) (fits′ : Enough y) where
+    before-near : (a : Keeps rs) (m : ℕ) → Near m (x .held) (y .held) (x .past) (y .past)
+        → let u = wash (a .before w h) x in let v = wash (a .before w h) y in Near m (u .held) (v .held) (u .past) (v .past)
+    unfolding wash
+    before-near a m near = record { same-held = near .same-held; places = near .places }
+
+    before-same : (a : Keeps rs) → wash (a .before w h) x .frame ≡ wash (a .before w h) y .frame
+    unfolding wash
+    before-same a = ap (a .before w h) same
+
+    -- where m places agree, one more does
+    pub chain-near : Keeps rs → (m : ℕ) → suc m ≤ depth rs → Near m (x .held) (y .held) (x .past) (y .past)
+        → take (suc m * (h * w)) (chain w h rs x .past) ≡ take (suc m * (h * w)) (chain w h rs y .past)
+    unfolding wash
+    chain-near a m le near =
+        ap (λ (z : Flow). take (suc m * (h * w)) (z .past)) (a .whole w h x)
+        ∙ near-more (a .amount) (depth rs) (sized w h) _ _ (before-same a) (before-fits a x fits) (before-fits a y fits′) m le (before-near a m near)
+        ∙ sym (ap (λ (z : Flow). take (suc m * (h * w)) (z .past)) (a .whole w h y))
+
+    -- where all do, the pictures do
+    pub chain-picture : Apart rs → Near (depth rs) (x .held) (y .held) (x .past) (y .past) → chain w h rs x .frame ≡ chain w h rs y .frame
+    unfolding wash
+    chain-picture (quiet e a) near =
+        ap (λ (z : Flow). z .frame) (a .whole w h x) ∙ ap (a .paint w h) same ∙ sym (ap (λ (z : Flow). z .frame) (a .whole w h y))
+    chain-picture (keeping e a) near =
+        let fine = before-fits a x fits .long in
+        ap (λ (z : Flow). z .frame) (a .whole w h x)
+        ∙ ap (a .after w h) (near-picture (a .amount) (depth rs) (sized w h) _ _ (before-same a) fine (a .some-depth) (before-near a (depth rs) near))
+        ∙ sym (ap (λ (z : Flow). z .frame) (a .whole w h y))

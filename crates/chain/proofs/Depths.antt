@@ -1,0 +1,52 @@
+-- The depth of a chain: the sum grows record by record, and is enough for each of its passes. Assumes nothing.
+use Prim.Native.Nat.{ℕ, zero, suc, _+_, _*_, _≤_, _<_}
+use native.Mathlib.Nat.{le-of-suc-le-suc, not-suc-le-zero, mul-le-mul-right, le-trans}
+use native.Mathlib.Omega.{arith}
+use mathlib.Core.Path.{_≡_, subst}
+use mathlib.Core.Bool.{true}
+use mathlib.Core.List.{List, [], _∷_, _++_}
+use lib.ListN.{length, take, getD}
+use lib.Seq.{getD-take, length-take-le}
+use Rattle.chain.specs.Alike.{chainOf}
+use Rattle.chain.specs.Chain.{depth, depthOf}
+use Rattle.chain.specs.Lent.{Readies}
+use Rattle.chain.specs.Normal.{goodStation, normalPass, normalChain}
+use Rattle.chain.specs.Passes.{kindOf}
+use Rattle.chain.specs.declared.station.Record.{Record}
+use Rattle.chain.specs.declared.station.Station.{Station}
+use Rattle.chain.proofs.Good.{good, headed}
+
+pub depth-more : (rs : List Record) (i : ℕ) (d : Record) → i < length rs → depth (take (suc i) rs) ≡ depth (take i rs) + depthOf (getD rs i d .pass)
+unfolding depth
+depth-more [] i d l = absurd (not-suc-le-zero l)
+depth-more (r ∷ rs) zero d l = omega arith
+depth-more (r ∷ rs) (suc i) d l = omega (arith, depth-more rs i d (le-of-suc-le-suc l))
+
+-- no pass is deeper than the chain
+deepest : (rs : List Record) (i : ℕ) (d : Record) → i < length rs → depthOf (getD rs i d .pass) ≤ depth rs
+unfolding depth
+deepest [] i d l = absurd (not-suc-le-zero l)
+deepest (r ∷ rs) zero d l = omega arith
+deepest (r ∷ rs) (suc i) d l = omega (arith, deepest rs i d (le-of-suc-le-suc l))
+
+-- every pass of a normalised chain is normalised
+normal-at : (seen : List ℕ) (rs : List Record) → normalChain seen rs ≡ true → (i : ℕ) (d : Record) → i < length rs → normalPass (getD rs i d .pass) ≡ true
+normal-at seen [] h i d l = absurd (not-suc-le-zero l)
+normal-at seen (r ∷ rs) h zero d l = headed seen r rs h .normal
+normal-at seen (r ∷ rs) h (suc i) d l = normal-at (seen ++ kindOf (r .pass) ∷ []) rs (headed seen r rs h .others) i d (le-of-suc-le-suc l)
+
+-- a good station's records are ready where the history is long enough
+pub readies : (s : Station) (w h room : ℕ) → goodStation s ≡ true → length (s .records) ≡ 10 → depth (chainOf s) * (h * w) ≤ room → Readies w h (s .n) (s .records) room
+readies s w h room e long fits =
+    let g = good s e in
+    let size : length (chainOf s) ≡ s .n = length-take-le (s .n) (s .records) (omega (arith, g .few)) in
+    record {
+      few = g .few;
+      each = λ i d l.
+          let same : getD (chainOf s) i d ≡ getD (s .records) i d = getD-take (s .n) (s .records) i d l in
+          let inside : i < length (chainOf s) = omega arith in
+          record {
+            normal = subst (λ (r : Record). normalPass (r .pass) ≡ true) same (normal-at [] (chainOf s) (g .normal) i d inside);
+            past-room = subst (λ (r : Record). depthOf (r .pass) * (h * w) ≤ room) same (le-trans (mul-le-mul-right (h * w) (deepest (chainOf s) i d inside)) fits);
+          };
+    }

@@ -1,0 +1,137 @@
+-- Demand 3 is not empty: two cards of one station, runs of the plain machine that are computed, with the points of agreement of several lists, and the theorem
+-- at these stations. Assumes nothing.
+use Prim.Native.Nat.{ℕ}
+use native.Mathlib.Omega.{arith}
+use mathlib.Core.Path.{_≡_, refl}
+use mathlib.Core.Bool.{true, false}
+use mathlib.Core.List.{List, [], _∷_, map}
+use lib.Ieee.{ofBits, ofInt, add, mul, div, lt, eq}
+use lib.ListN.{drop}
+use Rattle.num.specs.Cases.{Hold}
+use Rattle.num.specs.Const.{c0·5, c1·0}
+use Rattle.num.specs.Rewrite.{rewrite}
+use Rattle.num.specs.Steps.{clampOf, cutOf, plusZeroOf, limitOf}
+use Rattle.passes.specs.Flow.{sameHeld, fineHeld}
+use Rattle.passes.specs.Fold.{fold}
+use Rattle.passes.specs.Persistence as Persistence
+use Rattle.passes.specs.Pixel.{unpack, pack, packLimited}
+use Rattle.chain.specs.Agree.{opened, SameCall, frames, none, more, before, point}
+use Rattle.chain.specs.Bits.{valueAt, fieldAt}
+use Rattle.chain.specs.Calls.{badSide, stops, lacks, Report, refusal, acceptance, unless, onFirst, presets, unlessFramed, shown, frameReply}
+use Rattle.chain.specs.Card.{stationOf, headerAt, recordsAt, endsAt, endAt, stationAt, accepted, openOf}
+use Rattle.chain.specs.Chain.{wash, over, turn, depth}
+use Rattle.chain.specs.Machine.{Call, frame, reset, switch, step, State, Seen, call, after, run, saw}
+use Rattle.chain.specs.Normal.{settled, normalPass, normalChain, persists, goodStation}
+use Rattle.chain.specs.Passes.{passAt, persistenceAt, lutAt}
+use Rattle.chain.specs.Records.{recordAt}
+use Rattle.chain.specs.Settings.{finiteAt, limitedAt, countAt, presetAt}
+use Rattle.chain.specs.Step.{refuseIf}
+use Rattle.chain.specs.declared.station.Pass.the-variants.{Persistence, Lut}
+use Rattle.chain.specs.declared.station.Station.{Station}
+use Rattle.chain.proofs.Agreement.{demand-3}
+
+-- ## Two cards
+
+-- persistence 0.5 of depth 2, on, and a LUT of preset 6, off; on one card the LUT has strength 2.0, which is limited to 1.0
+abbrev card : List ℕ
+card = 0x12 ∷ 0x49 ∷ 0xf8 ∷ 0 ∷ 0 ∷ 0 ∷ 0x12 ∷ 0xb2 ∷ 0 ∷ 0 ∷ 0 ∷ 0 ∷ []
+
+abbrev other : List ℕ
+other = 0x12 ∷ 0x49 ∷ 0xf8 ∷ 0 ∷ 0 ∷ 0 ∷ 0x12 ∷ 0xb1 ∷ 0xfc ∷ 0 ∷ 0 ∷ 0 ∷ []
+
+abbrev station : Station
+station = stationOf (record { on = true; pass = Persistence c0·5 2 } ∷ record { on = false; pass = Lut 6 c1·0 } ∷ [])
+
+opens : openOf card ≡ accepted station
+unfolding openOf stationAt headerAt fieldAt valueAt refuseIf recordsAt endAt endsAt recordAt passAt persistenceAt lutAt presetAt countAt limitedAt finiteAt
+    ofBits lt eq limitOf plusZeroOf clampOf
+opens = refl
+
+opens-other : openOf other ≡ accepted station
+unfolding openOf stationAt headerAt fieldAt valueAt refuseIf recordsAt endAt endsAt recordAt passAt persistenceAt lutAt presetAt countAt limitedAt finiteAt
+    ofBits lt eq limitOf plusZeroOf clampOf
+opens-other = refl
+
+-- ## Runs
+
+-- a frame of one pixel in a framebuffer of two words, with two history words lent
+abbrev one : (spare p : ℕ) → Call
+one spare p = frame 1 1 (p ∷ spare ∷ []) 2 6 1
+
+-- with one history word lent it is refused
+abbrev short : Call
+short = frame 1 1 (0 ∷ 0 ∷ []) 1 6 1
+
+-- shared, but for the word past count
+abbrev shared : (spare : ℕ) → List Call
+shared spare = one spare 0 ∷ one spare 0x404040 ∷ one spare 0x808080 ∷ one spare 0xffffff ∷ []
+
+-- one station has had a white frame, a refused frame and a preset step seven times round; the other nothing
+abbrev own : List Call
+own = one 0 0xffffff ∷ short ∷ step ∷ step ∷ step ∷ step ∷ step ∷ step ∷ step ∷ []
+
+abbrev old : State
+old = run (opened station (90 ∷ 91 ∷ 92 ∷ [])) own
+
+abbrev new : State
+new = opened station (5 ∷ 6 ∷ [])
+
+abbrev pictures : List Seen → List (List ℕ)
+pictures = map (λ s. s .picture)
+
+abbrev answers : List Seen → List Report
+answers = map (λ s. s .answer)
+
+-- Before the point the pictures differ, from it on they agree: it can come no sooner. After a reset, and after persistence was switched off and on, the old
+-- station shows what the new one does.
+abbrev shows : List (List (List ℕ) × List (List ℕ))
+shows =
+    (pictures (saw old (shared 7)), (0x6f6f6f ∷ []) ∷ (0x4b4b4b ∷ []) ∷ (0x5a5a5a ∷ []) ∷ (0xbdbdbd ∷ []) ∷ [])
+    ∷ (pictures (saw new (shared 8)), (0 ∷ []) ∷ (0x242424 ∷ []) ∷ (0x5a5a5a ∷ []) ∷ (0xbdbdbd ∷ []) ∷ [])
+    ∷ (pictures (saw old (reset ∷ shared 7)), [] ∷ (0 ∷ []) ∷ (0x242424 ∷ []) ∷ (0x5a5a5a ∷ []) ∷ (0xbdbdbd ∷ []) ∷ [])
+    ∷ (pictures (saw old (switch 4 false ∷ switch 4 true ∷ shared 7)), [] ∷ [] ∷ (0 ∷ []) ∷ (0x242424 ∷ []) ∷ (0x5a5a5a ∷ []) ∷ (0xbdbdbd ∷ []) ∷ [])
+    ∷ []
+
+-- what the own list reports: acceptance, refusal 10, and the presets
+abbrev reports : List (List Report × List Report)
+reports =
+    (answers (saw (opened station (90 ∷ 91 ∷ 92 ∷ [])) own), acceptance [] ∷ refusal 10 ∷ map (λ p. acceptance (p ∷ [])) (0 ∷ 1 ∷ 2 ∷ 3 ∷ 4 ∷ 5 ∷ 6 ∷ []))
+    ∷ []
+
+-- Of the shared list the point is the call after the second frame. A reset and a switching-off agree themselves; a switch to the present position, a switch of
+-- another pass and a refused frame do not count; a list may end before its point; once persistence is off, the first call agrees.
+abbrev points : List (ℕ × ℕ)
+points =
+    (point old (shared 7), 2)
+    ∷ (point new (shared 8), 2)
+    ∷ (point old (one 0 1 ∷ reset ∷ one 0 2 ∷ []), 1)
+    ∷ (point old (one 0 1 ∷ switch 4 false ∷ one 0 2 ∷ []), 1)
+    ∷ (point old (one 0 1 ∷ switch 4 true ∷ switch 5 true ∷ one 0 2 ∷ one 0 3 ∷ []), 4)
+    ∷ (point old (one 0 1 ∷ short ∷ one 0 2 ∷ one 0 3 ∷ []), 3)
+    ∷ (point old (one 0 1 ∷ short ∷ []), 2)
+    ∷ (point (run old (switch 4 false ∷ [])) (one 0 1 ∷ one 0 2 ∷ []), 0)
+    ∷ []
+
+pub runs-hold : Hold shows × Hold reports × Hold points
+unfolding point before saw run after call frameReply unlessFramed shown unless stops lacks goodStation fineHeld sameHeld badSide settled normalPass normalChain
+    persists depth fold turn over wash onFirst presets ofBits ofInt add mul div lt clampOf cutOf rewrite unpack pack packLimited
+    Persistence.persistence Persistence.decay Persistence.total Persistence.add Persistence.mix Persistence.pixel Persistence.blended Persistence.blend
+    Persistence.copies Persistence.refilled Persistence.shifted
+runs-hold = (refl, refl, refl)
+
+-- ## The theorem at these stations
+
+same : (p : ℕ) → SameCall (one 7 p) (one 8 p)
+same p = frames refl (λ fits. refl)
+
+pub agree : drop 2 (saw old (shared 7)) ≡ drop 2 (saw new (shared 8))
+unfolding point before saw run after call frameReply unlessFramed shown unless stops lacks goodStation fineHeld sameHeld badSide settled normalPass normalChain
+    persists depth fold turn over wash onFirst presets ofBits ofInt add mul div lt clampOf cutOf rewrite unpack pack packLimited
+    Persistence.persistence Persistence.decay Persistence.total Persistence.add Persistence.mix Persistence.pixel Persistence.blended Persistence.blend
+    Persistence.copies Persistence.refilled Persistence.shifted
+agree =
+    demand-3 card other station station opens opens-other refl (90 ∷ 91 ∷ 92 ∷ []) (5 ∷ 6 ∷ []) own [] (record { same-switches = refl; same-presets = refl })
+    (shared 7) (shared 8) (more (same 0) (more (same 0x404040) (more (same 0x808080) (more (same 0xffffff) none))))
+    (omega arith, (omega arith, (omega arith, (omega arith, tt))))
+    (omega arith, (omega arith, (omega arith, (omega arith, tt))))
+    .1

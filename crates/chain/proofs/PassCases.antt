@@ -1,0 +1,146 @@
+-- The ten passes by cases: persistence or a pass that only paints the frame, a LUT or a pass without a preset, and what the other arm of a `match` tells.
+-- Assumes nothing.
+use Prim.Native.Nat.{ℕ, suc}
+use native.Mathlib.Omega.{arith}
+use mathlib.Core.Path.{_≡_, refl, sym, ap, subst, _∙_}
+use mathlib.Core.Bool.{false}
+use mathlib.Core.List.{List, [], _∷_}
+use denote.Enum.Declared.{tagOf}
+use lib.Dec.{eqb}
+use lib.Ieee.{Float}
+use lib.ListN.{length}
+use types.Run.{OneOf, miss}
+use Rattle.passes.specs.Flow.{Flow}
+use Rattle.passes.specs.Lengths.{ntsc-length, bloom-length, auto-gradient-length, lut-length, curvature-length, color-correction-length}
+use Rattle.passes.specs.Lengths.{crt-length, vignette-length, scanlines-length}
+use Rattle.passes.specs.Ntsc.{ntsc}
+use Rattle.passes.specs.Bloom.{bloom}
+use Rattle.passes.specs.AutoGradient.{autoGradient}
+use Rattle.passes.specs.Lut.{lut}
+use Rattle.passes.specs.Curvature.{curvature}
+use Rattle.passes.specs.ColorCorrection.{colorCorrection}
+use Rattle.passes.specs.Crt.{crt}
+use Rattle.passes.specs.Vignette.{vignette}
+use Rattle.passes.specs.Scanlines.{scanlines}
+use Rattle.chain.specs.Calls.{next, steppedPass, presetOf}
+use Rattle.chain.specs.Chain.{wash, over, depthOf}
+use Rattle.chain.specs.Passes.{kindOf}
+use Rattle.chain.specs.declared.station.Pass.{Pass}
+use Rattle.chain.specs.declared.station.Pass.the-variants.{Ntsc, Bloom, AutoGradient, Persistence, Lut, Curvature, ColorCorrection, Crt, Vignette, Scanlines}
+use Rattle.chain.proofs.station.Pass.{the-type}
+
+-- ## Persistence, or a pass that only paints the frame
+
+pub record Plain (p : Pass) : Type 0 where
+  pub paint : (w h : ℕ) → List ℕ → List ℕ
+  pub keeps : (w h : ℕ) (frame : List ℕ) → length (paint w h frame) ≡ length frame
+  pub whole : (w h : ℕ) (x : Flow) → over w h p x ≡ wash (paint w h) x
+  pub kind : eqb (kindOf p) 4 ≡ false
+  pub no-depth : depthOf p ≡ 0
+
+pub by-memory : (P : Pass → Type 0) → ((amount : Float) (k : ℕ) → P (Persistence amount k)) → ((p : Pass) → Plain p → P p) → (p : Pass) → P p
+unfolding over
+by-memory P f g (Ntsc s b) =
+    g _ (record { paint = λ w h. ntsc w s b; keeps = λ w h l. ntsc-length w h s l b; whole = λ w h x. refl; kind = refl; no-depth = refl })
+by-memory P f g (Bloom t s r) =
+    g _ (record { paint = λ w h. bloom w h t s r; keeps = λ w h l. bloom-length w h s l t r; whole = λ w h x. refl; kind = refl; no-depth = refl })
+by-memory P f g (AutoGradient s u v) =
+    let law : (w h : ℕ) (l : List ℕ) → length (autoGradient w h s u v l) ≡ length l = λ w h l. auto-gradient-length w h s l u v in
+    g _ (record { paint = λ w h. autoGradient w h s u v; keeps = law; whole = λ w h x. refl; kind = refl; no-depth = refl })
+by-memory P f g (Persistence a k) = f a k
+by-memory P f g (Lut p s) =
+    g _ (record { paint = λ w h. lut p s; keeps = λ w h l. lut-length w h s l p; whole = λ w h x. refl; kind = refl; no-depth = refl })
+by-memory P f g (Curvature a) =
+    g _ (record { paint = λ w h. curvature w h a; keeps = λ w h l. curvature-length w h a l; whole = λ w h x. refl; kind = refl; no-depth = refl })
+by-memory P f g (ColorCorrection b c s y) =
+    let law : (w h : ℕ) (l : List ℕ) → length (colorCorrection b c s l) ≡ length l = λ w h l. color-correction-length w h b l c s in
+    g _ (record { paint = λ w h. colorCorrection b c s; keeps = law; whole = λ w h x. refl; kind = refl; no-depth = refl })
+by-memory P f g (Crt s) =
+    g _ (record { paint = λ w h. crt w h s; keeps = λ w h l. crt-length w h s l; whole = λ w h x. refl; kind = refl; no-depth = refl })
+by-memory P f g (Vignette s) =
+    g _ (record { paint = λ w h. vignette w h s; keeps = λ w h l. vignette-length w h s l; whole = λ w h x. refl; kind = refl; no-depth = refl })
+by-memory P f g (Scanlines s) =
+    g _ (record { paint = λ w h. scanlines w s; keeps = λ w h l. scanlines-length w h s l; whole = λ w h x. refl; kind = refl; no-depth = refl })
+
+-- ## No second persistence
+
+-- any pass but persistence keeps no older frame
+pub no-depth : (p : Pass) → (kindOf p ≡ 4 → ⊥) → depthOf p ≡ 0
+no-depth = by-memory (λ p. (kindOf p ≡ 4 → ⊥) → depthOf p ≡ 0) (λ amount k n. absurd (n refl)) (λ p m n. m .no-depth)
+
+-- ## A LUT, or a pass without a preset
+
+-- a pass but for its preset
+abbrev pub blank : Pass → Pass
+blank (Ntsc strength bleed) = Ntsc strength bleed
+blank (Bloom threshold strength radius) = Bloom threshold strength radius
+blank (AutoGradient strength vertical horizontal) = AutoGradient strength vertical horizontal
+blank (Persistence amount depth) = Persistence amount depth
+blank (Lut preset strength) = Lut 0 strength
+blank (Curvature amount) = Curvature amount
+blank (ColorCorrection brightness contrast saturation gamma) = ColorCorrection brightness contrast saturation gamma
+blank (Crt strength) = Crt strength
+blank (Vignette strength) = Vignette strength
+blank (Scanlines strength) = Scanlines strength
+
+-- a pass without a preset
+pub record Other (p : Pass) : Type 0 where
+  pub whole : blank p ≡ p
+  pub no-preset : presetOf p ≡ []
+  pub unstepped : steppedPass p ≡ p
+
+-- each pass is a LUT or has no preset
+pub by-preset : (P : Pass → Type 0) → ((preset : ℕ) (strength : Float) → P (Lut preset strength)) → ((p : Pass) → Other p → P p) → (p : Pass) → P p
+by-preset P f g (Ntsc a b) = g _ (record { whole = refl; no-preset = refl; unstepped = refl })
+by-preset P f g (Bloom a b c) = g _ (record { whole = refl; no-preset = refl; unstepped = refl })
+by-preset P f g (AutoGradient a b c) = g _ (record { whole = refl; no-preset = refl; unstepped = refl })
+by-preset P f g (Persistence a b) = g _ (record { whole = refl; no-preset = refl; unstepped = refl })
+by-preset P f g (Lut a b) = f a b
+by-preset P f g (Curvature a) = g _ (record { whole = refl; no-preset = refl; unstepped = refl })
+by-preset P f g (ColorCorrection a b c d) = g _ (record { whole = refl; no-preset = refl; unstepped = refl })
+by-preset P f g (Crt a) = g _ (record { whole = refl; no-preset = refl; unstepped = refl })
+by-preset P f g (Vignette a) = g _ (record { whole = refl; no-preset = refl; unstepped = refl })
+by-preset P f g (Scanlines a) = g _ (record { whole = refl; no-preset = refl; unstepped = refl })
+
+-- any pass but a LUT has none
+pub no-lut : (p : Pass) → (kindOf p ≡ 5 → ⊥) → Other p
+no-lut = by-preset (λ p. (kindOf p ≡ 5 → ⊥) → Other p) (λ preset strength n. absurd (n refl)) (λ p o n. o)
+
+pub stepped-kind : (p : Pass) → kindOf (steppedPass p) ≡ kindOf p
+stepped-kind = by-preset (λ p. kindOf (steppedPass p) ≡ kindOf p) (λ preset strength. refl) (λ p o. ap kindOf (o .unstepped))
+
+-- a LUT with its next preset
+pub steps : (p : Pass) {preset new : ℕ} {strength : Float} → p ≡ Lut preset strength → new ≡ next preset → Lut new strength ≡ steppedPass p
+steps p {strength = strength} e n = ap (λ (k : ℕ). Lut k strength) n ∙ ap steppedPass (sym e)
+
+-- ## What the other arm of a `match` tells
+
+-- the kinds stand in the order of the enum's cases
+tag-kind : (p : Pass) → kindOf p ≡ suc (tagOf the-type p)
+tag-kind (Ntsc strength bleed) = refl
+tag-kind (Bloom threshold strength radius) = refl
+tag-kind (AutoGradient strength vertical horizontal) = refl
+tag-kind (Persistence amount depth) = refl
+tag-kind (Lut preset strength) = refl
+tag-kind (Curvature amount) = refl
+tag-kind (ColorCorrection brightness contrast saturation gamma) = refl
+tag-kind (Crt strength) = refl
+tag-kind (Vignette strength) = refl
+tag-kind (Scanlines strength) = refl
+
+-- a pass of the cases that are left is no persistence, and no LUT
+pub not-persistence : (p : Pass) → OneOf (0 ∷ 1 ∷ 2 ∷ 4 ∷ 5 ∷ 6 ∷ 7 ∷ 8 ∷ 9 ∷ []) (tagOf the-type p) → kindOf p ≡ 4 → ⊥
+not-persistence p t e =
+    let tag : tagOf the-type p ≡ 3 = omega (arith, tag-kind p) in
+    miss others 3 tt (subst (OneOf others) tag t)
+  where
+    others : List ℕ
+    others = 0 ∷ 1 ∷ 2 ∷ 4 ∷ 5 ∷ 6 ∷ 7 ∷ 8 ∷ 9 ∷ []
+
+pub not-lut : (p : Pass) → OneOf (0 ∷ 1 ∷ 2 ∷ 3 ∷ 5 ∷ 6 ∷ 7 ∷ 8 ∷ 9 ∷ []) (tagOf the-type p) → kindOf p ≡ 5 → ⊥
+not-lut p t e =
+    let tag : tagOf the-type p ≡ 4 = omega (arith, tag-kind p) in
+    miss others 4 tt (subst (OneOf others) tag t)
+  where
+    others : List ℕ
+    others = 0 ∷ 1 ∷ 2 ∷ 3 ∷ 5 ∷ 6 ∷ 7 ∷ 8 ∷ 9 ∷ []

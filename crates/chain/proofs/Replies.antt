@@ -1,0 +1,73 @@
+-- The calls on one pass: a reply by its refusal, what no refusal tells, and the record changed in its place. Assumes nothing.
+use Prim.Native.Nat.{ℕ, zero, suc, _≤_}
+use native.Mathlib.Omega.{arith}
+use mathlib.Core.Path.{_≡_, refl, sym, ap, _∙_}
+use mathlib.Core.Bool.{Bool, true, false, not, cond}
+use mathlib.Core.List.{List, [], _∷_, map}
+use lib.ListN.{length, getD, set, length-map}
+use Rattle.passes.specs.Flow.{Held}
+use Rattle.chain.specs.Alike.{chainOf}
+use Rattle.chain.specs.Calls.{hold, rechain, refusal, acceptance, Reply, reply, unless, lacks, onFirst, heldAfter, turned, switched, switchReply, stepped, steppedPass, presetOf, presets, stepLut, stepReply}
+use Rattle.chain.specs.Lent.{First}
+use Rattle.chain.specs.Normal.{goodStation}
+use Rattle.chain.specs.Records.{kinds, among}
+use Rattle.chain.specs.declared.station.Pass.{Pass}
+use Rattle.chain.specs.declared.station.Record.{Record}
+use Rattle.chain.specs.declared.station.Station.{Station}
+use Rattle.chain.proofs.First.{first-set, one-preset}
+use Rattle.chain.proofs.Good.{Good, good}
+use Rattle.chain.proofs.Scans.{past}
+
+pub refuses : (k n : ℕ) (s : Station) (r : Reply) → (k ≡ 0 → ⊥) → k ≡ n → reply (refusal k) s ≡ unless n s r
+unfolding unless
+refuses zero n s r some e = absurd (some refl)
+refuses (suc k) n s r some e = ap (λ (m : ℕ). unless m s r) e
+
+pub accepts : (n : ℕ) (s : Station) (r : Reply) → n ≡ 0 → r ≡ unless n s r
+unfolding unless
+accepts n s r e = ap (λ (m : ℕ). unless m s r) (sym e)
+
+-- no refusal: the station is good, and the kind is there
+pub present : (s : Station) (kind : ℕ) → lacks s kind ≡ 0 → Good s × (among kind (kinds (chainOf s)) ≡ true)
+unfolding lacks
+present s kind e = by (goodStation s) (among kind (kinds (chainOf s))) refl refl e
+  where
+    by : (g a : Bool) → goodStation s ≡ g → among kind (kinds (chainOf s)) ≡ a → _≡_ {A = ℕ} (cond (not g) 13 (cond a 0 12)) 0
+        → Good s × (among kind (kinds (chainOf s)) ≡ true)
+    by true true q t z = (good s q, t)
+    by true false q t z = absurd (omega arith)
+    by false a q t z = absurd (omega arith)
+
+-- the length of an array of structs in a struct stands in what owning it tells, under a map
+pub unmapped : {X Y : Type 0} (f : X → Y) (l : List X) (n : ℕ) → length (map f l) ≡ n → length l ≡ n
+unmapped f l n e = sym (length-map l f) ∙ e
+
+-- ## A record changed in its place
+
+abbrev put : ℕ → Record → Held → Station → Station
+put i r held s = record { records = set (s .records) i r; n = s .n; held = held }
+
+module _ (kind : ℕ) (s : Station) (i : ℕ) (t : First kind (s .n) (s .records) i) (room : s .n ≤ length (s .records)) (none : lacks s kind ≡ 0) where
+  placed : (f : Record → Record) (held : Held) → put i (f (getD (s .records) i past)) held s ≡ hold held (rechain (onFirst kind f (chainOf s)) s)
+  placed f held = ap (λ (rs : List Record). record { records = rs; n = s .n; held = held }) (sym (first-set kind (s .n) f (s .records) i past t room))
+
+  -- its switch
+  pub switches : (on : Bool) {held : Held} → held ≡ heldAfter kind on (s .held)
+      → reply (acceptance []) (put i (turned on (getD (s .records) i past)) held s) ≡ switchReply kind on s
+  switches on {held} e =
+      ap (λ (h : Held). reply (acceptance []) (put i (turned on (getD (s .records) i past)) h s)) e
+      ∙ ap (reply (acceptance [])) (placed (turned on) (heldAfter kind on (s .held)))
+      ∙ accepts (lacks s kind) s (reply (acceptance []) (switched kind on s)) none
+
+-- the LUT's preset, which is the only one
+pub cycles : (s : Station) (i : ℕ) → First 5 (s .n) (s .records) i → s .n ≤ length (s .records) → lacks s 5 ≡ 0
+    → {pass : Pass} {preset : ℕ} → pass ≡ steppedPass (getD (s .records) i past .pass) → presetOf pass ≡ preset ∷ []
+    → reply (acceptance (preset ∷ [])) (put i (record { on = getD (s .records) i past .on; pass = pass }) (s .held) s) ≡ stepReply s
+cycles s i t room none {pass} {preset} e p =
+    let one = one-preset [] (s .n) (s .records) i past (present s 5 none .0 .normal) t room in
+    let now : Pass → Station = λ q. put i (record { on = getD (s .records) i past .on; pass = q }) (s .held) s in
+    let report = acceptance (presets (stepLut (chainOf s))) in
+    ap (λ (ps : List ℕ). reply (acceptance ps) (now pass)) (sym p ∙ ap presetOf e ∙ sym one)
+    ∙ ap (λ (q : Pass). reply report (now q)) e
+    ∙ ap (reply report) (placed 5 s i t room none stepped (s .held))
+    ∙ accepts (lacks s 5) s (reply report (rechain (stepLut (chainOf s)) s)) none

@@ -1,0 +1,341 @@
+-- What every call keeps: a good station stays good, so refusal 13 never comes, its records change in nothing but switches and preset, its places past n and the
+-- length of its own buffer not at all. Assumes nothing.
+use Prim.Native.Nat.{ℕ, zero, suc, _*_, _≤_}
+use native.Mathlib.Omega.{arith}
+use mathlib.Core.Path.{_≡_, refl, ap, ap₂, sym, subst, _∙_}
+use mathlib.Core.Bool.{Bool, true, false, not, _&&_, _||_, cond}
+use mathlib.Core.List.{List, [], _∷_, _++_, map-append}
+use borrow.Author.Tests.{eqb-true, eq-eqb, le-leb, lt-ltb}
+use lib.Dec.{ltb, eqb}
+use lib.Ieee.{Float, neg}
+use lib.ListN.{length, take, drop, length-map}
+use lib.Seq.{length-take-le, length-front, take-at, drop-at, take-append-seam}
+use Rattle.num.specs.Const.{c0·0, c0·5, c0·95, c1·0, c4·0}
+use Rattle.passes.specs.Flow.{Held, nothing, sized, sameHeld, fineHeld, Flow}
+use Rattle.chain.specs.Agree.{opened}
+use Rattle.chain.specs.Alike.{chainOf}
+use Rattle.chain.specs.Calls.{hold, rechain, badSide, stops, lacks, Report, refusal, acceptance, Reply, reply, unless}
+use Rattle.chain.specs.Calls.{onFirst, turned, switched, stepped, stepLut, Framed, framed, unlessFramed, incoming, shown, frameReply}
+use Rattle.chain.specs.Card.{stationOf, accepted, openOf}
+use Rattle.chain.specs.Chain.{wash, chain, depth}
+use Rattle.chain.specs.Machine.{Call, frame, reset, switch, step, State, Seen, call, after, run, saw}
+use Rattle.chain.specs.Normal.{settled, counted, normalPass, normalChain, persists, goodStation}
+use Rattle.chain.specs.Passes.{kindOf}
+use Rattle.chain.specs.Records.{kinds, among}
+use Rattle.chain.specs.declared.station.Pass.{Pass}
+use Rattle.chain.specs.declared.station.Pass.the-variants.{Ntsc, Bloom, AutoGradient, Persistence, Lut, Curvature, ColorCorrection, Crt, Vignette, Scanlines}
+use Rattle.chain.specs.declared.station.Record.{Record}
+use Rattle.chain.specs.declared.station.Station.{Station}
+use Rattle.chain.proofs.Apart.{Apart, quiet, keeping, apart, past-length, chain-held}
+use Rattle.chain.proofs.Bools.{or-second, or-first-only, or-map}
+use Rattle.chain.proofs.Back.{Settled, Counted}
+use Rattle.chain.proofs.Chain.{NormalPass, NormalChain}
+use Rattle.chain.proofs.Changed.{shapes, depths, depth-is, Gentle, turned-gentle, stepped-gentle, first-shapes, first-normal, first-persists}
+use Rattle.chain.proofs.Good.{Good, good, is-good, is-headed}
+use Rattle.chain.proofs.Goes.{goes, area-fine}
+use Rattle.chain.proofs.Kept.{Fits}
+use Rattle.chain.proofs.PassCases.{blank}
+use Rattle.chain.proofs.Theorems.{accepted-opens}
+
+-- ## What no call changes
+
+-- the passes of a station but for the preset, their number, and the places past it
+abbrev pub Fixed : Type 0
+Fixed = List Pass × ℕ × List Record
+
+abbrev pub fixed : Station → Fixed
+fixed s = (shapes (chainOf s), s .n, drop (s .n) (s .records))
+
+-- a good station with places for its n records
+pub record Fit (s : Station) : Type 0 where
+  pub sound : goodStation s ≡ true
+  pub room : length (chainOf s) ≡ s .n
+
+-- what a call leaves of the station s
+pub record After (s t : Station) : Type 0 where
+  pub sound : goodStation t ≡ true
+  pub same : fixed t ≡ fixed s
+
+pub same-depth : (s t : Station) → fixed t ≡ fixed s → depth (chainOf t) ≡ depth (chainOf s)
+same-depth s t e = sym (depth-is (chainOf t)) ∙ ap (λ (x : Fixed). depths (x .0)) e ∙ depth-is (chainOf s)
+
+same-long : (rs qs : List Record) → shapes rs ≡ shapes qs → length rs ≡ length qs
+same-long rs qs e = sym (length-map rs (λ r. blank (r .pass))) ∙ ap length e ∙ length-map qs (λ r. blank (r .pass))
+
+after-fit : (s t : Station) → Fit s → After s t → Fit t
+after-fit s t f a =
+    let number : t .n ≡ s .n = ap (λ (x : Fixed). x .1) (a .same) in
+    record { sound = a .sound; room = same-long (chainOf t) (chainOf s) (ap (λ (x : Fixed). x .0) (a .same)) ∙ f .room ∙ sym number }
+
+after-itself : (s : Station) → Fit s → After s s
+after-itself s f = record { sound = f .sound; same = refl }
+
+-- ## A station that is changed
+
+nothing-fine : fineHeld nothing ≡ true
+unfolding fineHeld
+nothing-fine = refl
+
+nothing-idle : (b : Bool) → sameHeld nothing nothing || b ≡ true
+unfolding sameHeld
+nothing-idle b = refl
+
+module _ (s : Station) (fit : Fit s) where
+  abbrev g : Good s
+  g = good s (fit .sound)
+
+  -- held is nothing while persistence is off or absent
+  pub idle-held : persists (chainOf s) ≡ false → s .held ≡ nothing
+  unfolding sameHeld
+  idle-held o = eqb-true (s .held) nothing (or-first-only (eqb (s .held) nothing) (persists (chainOf s)) o (g .idle))
+
+  -- in what it holds
+  after-hold : (held : Held) → fineHeld held ≡ true → sameHeld held nothing || persists (chainOf s) ≡ true → After s (hold held s)
+  after-hold held fine idle = record { sound = is-good (hold held s) (record { few = g .few; normal = g .normal; fine = fine; idle = idle }); same = refl }
+
+  after-reset : After s (hold nothing s)
+  after-reset = after-hold nothing nothing-fine (nothing-idle (persists (chainOf s)))
+
+  -- and in the first record of a kind
+  module _ (kind : ℕ) (f : Record → Record) (gentle : Gentle f) where
+    abbrev rs : List Record
+    rs = onFirst kind f (chainOf s)
+
+    alike : shapes rs ≡ shapes (chainOf s)
+    alike = first-shapes kind f gentle (chainOf s)
+
+    long : length rs ≡ s .n
+    long = same-long rs (chainOf s) alike ∙ fit .room
+
+    chain-is-rs : chainOf (rechain rs s) ≡ rs
+    chain-is-rs = take-at rs (drop (s .n) (s .records)) (s .n) long
+
+    after-first : (held : Held) → fineHeld held ≡ true → sameHeld held nothing || persists rs ≡ true → After s (hold held (rechain rs s))
+    after-first held fine idle =
+        record {
+          sound =
+              is-good (hold held (rechain rs s))
+              (record {
+                few = g .few;
+                normal = ap (normalChain []) chain-is-rs ∙ first-normal kind f gentle [] (chainOf s) (g .normal);
+                fine = fine;
+                idle = ap (λ (l : List Record). sameHeld held nothing || persists l) chain-is-rs ∙ idle;
+              });
+          same =
+              ap₂ (λ (l : List Pass) (rest : List Record). (l, s .n, rest)) (ap shapes chain-is-rs ∙ alike)
+              (drop-at rs (drop (s .n) (s .records)) (s .n) long);
+        }
+
+    -- persistence that was on stays on, and what is held stays
+    after-kept : (kind ≡ 4 → (r : Record) → r .on ≡ true → f r .on ≡ true) → After s (rechain rs s)
+    after-kept stays =
+        after-first (s .held) (g .fine)
+        (or-map (sameHeld (s .held) nothing) (persists (chainOf s)) (persists rs) (g .idle) (first-persists kind f gentle stays (chainOf s)))
+
+  after-switch : (kind : ℕ) (on : Bool) → After s (switched kind on s)
+  after-switch kind on = go (eqb kind 4 && not on) refl
+    where
+      stays : (b : Bool) → eqb kind 4 ≡ true → eqb kind 4 && not b ≡ false → b ≡ true
+      stays true t z = refl
+      stays false t z = sym (rw t at z)
+
+      go : (b : Bool) → eqb kind 4 && not on ≡ b → After s (hold (cond b nothing (s .held)) (rechain (onFirst kind (turned on) (chainOf s)) s))
+      go true e = after-first kind (turned on) (turned-gentle on) nothing nothing-fine (nothing-idle (persists (onFirst kind (turned on) (chainOf s))))
+      go false e = after-kept kind (turned on) (turned-gentle on) (λ four r z. stays on (eq-eqb kind 4 four) e)
+
+  after-step : After s (rechain (stepLut (chainOf s)) s)
+  after-step = after-kept 5 stepped stepped-gentle (λ four r z. z)
+
+-- ## An accepted frame
+
+fine-sized : (w h : ℕ) → w ≤ 1024 → h ≤ 1024 → fineHeld (sized w h) ≡ true
+unfolding fineHeld
+fine-sized w h a b = le-leb (h * w) 1048576 (area-fine a b)
+
+pub good-apart : (s : Station) → Fit s → Apart (chainOf s)
+good-apart s f = apart (chainOf s) (good s (f .sound) .normal)
+
+pub enough : (w h : ℕ) (s : Station) (words past : List ℕ) → h * w ≤ length words → depth (chainOf s) * (h * w) ≤ length past
+    → Fits (depth (chainOf s)) (sized w h) (incoming w h s words past)
+enough w h s words past frame-room past-room = record { long = length-take-le (h * w) words frame-room; room = past-room }
+
+after-frame : (w h : ℕ) (s : Station) (words past : List ℕ) → Fit s → fineHeld (sized w h) ≡ true → After s (shown w h s words past .station)
+unfolding shown wash
+after-frame w h s words past f fine = go (good-apart s f)
+  where
+    x : Flow
+    x = incoming w h s words past
+
+    go : Apart (chainOf s) → After s (hold (chain w h (chainOf s) x .held) s)
+    go (quiet o a) = rw (ap (λ (y : Flow). y .held) (a .whole w h x)) (after-itself s f)
+    go (keeping o a) =
+        rw (chain-held w h (chainOf s) a x) (after-hold s f (sized w h) fine (or-second (sameHeld (sized w h) nothing) (persists (chainOf s)) o))
+
+-- ## Each call
+
+-- refused with k, or accepted
+by-lack : (P : Reply → Type 0) (k : ℕ) (s : Station) (r : Reply) → P (reply (refusal k) s) → P r → P (unless k s r)
+unfolding unless
+by-lack P zero s r p q = q
+by-lack P (suc k) s r p q = p
+
+by-stop : (P : Framed → Type 0) (k : ℕ) (s : Station) (words past : List ℕ) (r : Framed) → P (framed (refusal k) s words past) → (k ≡ 0 → P r)
+    → P (unlessFramed k s words past r)
+unfolding unlessFramed
+by-stop P zero s words past r p q = q refl
+by-stop P (suc k) s words past r p q = p
+
+pub call-after : (c : Call) (s : State) → Fit (s .station) → After (s .station) (call c s .gives .station)
+unfolding call frameReply
+call-after (frame w h words l m i) s f =
+    let past = take l (s .history) in
+    by-stop (λ r. After (s .station) (r .station)) _ (s .station) words past _ (after-itself (s .station) f)
+    (λ z.
+    let g = goes (s .station) w h (length words) (length past) m i z in
+    after-frame w h (s .station) words past f (fine-sized w h (g .wide .1) (g .high .1)))
+call-after reset s f = by-lack (λ r. After (s .station) (r .station)) _ (s .station) _ (after-itself (s .station) f) (after-reset (s .station) f)
+call-after (switch kind on) s f =
+    by-lack (λ r. After (s .station) (r .station)) _ (s .station) _ (after-itself (s .station) f) (after-switch (s .station) f kind on)
+call-after step s f = by-lack (λ r. After (s .station) (r .station)) _ (s .station) _ (after-itself (s .station) f) (after-step (s .station) f)
+
+pub call-fit : (c : Call) (s : State) → Fit (s .station) → Fit (after c s .station)
+unfolding after
+call-fit c s f = after-fit (s .station) _ f (call-after c s f)
+
+pub run-fit : (s : State) (cs : List Call) → Fit (s .station) → Fit (run s cs .station)
+unfolding run
+run-fit s [] f = f
+run-fit s (c ∷ cs) f = run-fit (after c s) cs (call-fit c s f)
+
+pub run-fixed : (s : State) (cs : List Call) → Fit (s .station) → fixed (run s cs .station) ≡ fixed (s .station)
+unfolding run after
+run-fixed s [] f = refl
+run-fixed s (c ∷ cs) f = run-fixed (after c s) cs (call-fit c s f) ∙ call-after c s f .same
+
+-- ## The own buffer keeps its length
+
+frame-past : (w h : ℕ) (s : Station) (words past : List ℕ) (m i : ℕ) → Fit s → length (frameReply w h s words past m i .past) ≡ length past
+unfolding frameReply shown
+frame-past w h s words past m i f =
+    by-stop (λ r. length (r .past) ≡ length past) _ s words past _ refl
+    (λ z.
+    let g = goes s w h (length words) (length past) m i z in
+    past-length w h (chainOf s) (good-apart s f) (incoming w h s words past) (enough w h s words past (g .frame-room) (g .past-room)))
+
+pub call-length : (c : Call) (s : State) → Fit (s .station) → length (after c s .history) ≡ length (s .history)
+unfolding call after
+call-length (frame w h words l m i) s f =
+    let past = take l (s .history) in
+    length-front (s .history) (frameReply w h (s .station) words past m i .past) l (frame-past w h (s .station) words past m i f)
+call-length reset s f = refl
+call-length (switch kind on) s f = refl
+call-length step s f = refl
+
+pub run-length : (s : State) (cs : List Call) → Fit (s .station) → length (run s cs .history) ≡ length (s .history)
+unfolding run
+run-length s [] f = refl
+run-length s (c ∷ cs) f = run-length (after c s) cs (call-fit c s f) ∙ call-length c s f
+
+-- ## Refusal 13 never comes
+
+cond-not : (b : Bool) (k x : ℕ) → (k ≡ 13 → ⊥) → (x ≡ 13 → ⊥) → cond b k x ≡ 13 → ⊥
+cond-not true k x p q = p
+cond-not false k x p q = q
+
+lacks-not : (s : Station) (kind : ℕ) → goodStation s ≡ true → lacks s kind ≡ 13 → ⊥
+unfolding lacks
+lacks-not s kind e = rw e (cond-not (among kind (kinds (chainOf s))) 0 12 (omega arith) (omega arith))
+
+stops-not : (s : Station) (w h u v m i : ℕ) → goodStation s ≡ true → stops s w h u v m i ≡ 13 → ⊥
+unfolding stops
+stops-not s w h u v m i e =
+    rw e
+    (cond-not (badSide w || badSide h) 8 _ (omega arith)
+    (cond-not (ltb u (h * w)) 9 _ (omega arith)
+    (cond-not (ltb v (depth (chainOf s) * (h * w))) 10 _ (omega arith)
+    (cond-not (ltb m (6 * (h * w)) || ltb i (h * w)) 11 0 (omega arith) (omega arith)))))
+
+refusal-not : (k : ℕ) → (k ≡ 13 → ⊥) → Path Report (refusal k) (refusal 13) → ⊥
+refusal-not k q e = q (cc)
+
+acceptance-not : (r : List ℕ) → Path Report (acceptance r) (refusal 13) → ⊥
+acceptance-not r e = let z : _≡_ {A = ℕ} 0 1 = cc in omega arith
+
+-- to a good station, in one call
+pub call-not : (c : Call) (s : State) → goodStation (s .station) ≡ true → call c s .gives .answer ≡ refusal 13 → ⊥
+unfolding call frameReply shown
+call-not (frame w h words l m i) s e =
+    by-stop (λ r. r .answer ≡ refusal 13 → ⊥) _ (s .station) words (take l (s .history)) _
+    (refusal-not _ (stops-not (s .station) w h _ _ m i e)) (λ z. acceptance-not [])
+call-not reset s e = by-lack (λ r. r .answer ≡ refusal 13 → ⊥) _ (s .station) _ (refusal-not _ (lacks-not (s .station) 4 e)) (acceptance-not [])
+call-not (switch kind on) s e = by-lack (λ r. r .answer ≡ refusal 13 → ⊥) _ (s .station) _ (refusal-not _ (lacks-not (s .station) kind e)) (acceptance-not [])
+call-not step s e = by-lack (λ r. r .answer ≡ refusal 13 → ⊥) _ (s .station) _ (refusal-not _ (lacks-not (s .station) 5 e)) (acceptance-not _)
+
+-- no answer of a list is refusal 13
+abbrev pub No-13 : List Seen → Type 0
+No-13 [] = Unit {0}
+No-13 (x ∷ xs) = (x .answer ≡ refusal 13 → ⊥) × No-13 xs
+
+pub saw-not : (s : State) (cs : List Call) → Fit (s .station) → No-13 (saw s cs)
+unfolding saw
+saw-not s [] f = tt
+saw-not s (c ∷ cs) f = (call-not c s (f .sound), saw-not (after c s) cs (call-fit c s f))
+
+-- ## An opened station
+
+settled-is : (low high x : Float) → Settled low high x → settled low high x ≡ true
+unfolding settled
+settled-is low high x t = rw (t .number, t .above, t .below, t .plain)
+
+counted-is : (most v : ℕ) → Counted most v → counted most v ≡ true
+counted-is most v t = rw (le-leb 1 v (t .some), le-leb v most (t .few))
+
+normal-is : (p : Pass) → NormalPass p → normalPass p ≡ true
+unfolding normalPass
+normal-is (Ntsc a b) t = rw (settled-is c0·0 c1·0 a (t .0), counted-is 64 b (t .1))
+normal-is (Bloom a b c) t = rw (settled-is c0·0 c1·0 b (t .1), counted-is 64 c (t .2))
+normal-is (AutoGradient a b c) t = rw (settled-is c0·0 c1·0 a (t .0), settled-is c0·0 c1·0 b (t .1), settled-is c0·0 c1·0 c (t .2))
+normal-is (Persistence a b) t = rw (settled-is c0·0 c0·95 a (t .0), counted-is 8 b (t .1))
+normal-is (Lut a b) t = rw (lt-ltb a 7 (t .0), settled-is c0·0 c1·0 b (t .1))
+normal-is (Curvature a) t = settled-is c0·0 c0·5 a t
+normal-is (ColorCorrection a b c d) t =
+    rw (settled-is (neg c1·0) c1·0 a (t .0), settled-is c0·0 c4·0 b (t .1), settled-is c0·0 c4·0 c (t .2), settled-is c1·0 c1·0 d (t .3))
+normal-is (Crt a) t = settled-is c0·0 c1·0 a t
+normal-is (Vignette a) t = settled-is c0·0 c1·0 a t
+normal-is (Scanlines a) t = settled-is c0·0 c1·0 a t
+
+chain-is : (done rs : List Record) → NormalChain done rs → normalChain (kinds done) rs ≡ true
+unfolding normalChain
+chain-is done [] t = refl
+chain-is done (r ∷ rs) t =
+    is-headed (kinds done) r rs
+    (record {
+      normal = normal-is (r .pass) (t .0);
+      new = t .1;
+      others =
+          subst (λ (ks : List ℕ). normalChain ks rs ≡ true) (map-append (λ (r : Record). kindOf (r .pass)) done (r ∷ [])) (chain-is (done ++ r ∷ []) rs (t .2));
+    })
+
+pub opened-fit : (card : List ℕ) (s : Station) → openOf card ≡ accepted s → Fit s
+opened-fit card s e =
+    let o = accepted-opens card s e in
+    let chain-of : chainOf (stationOf (o .chain)) ≡ o .chain = take-append-seam (o .chain) _ in
+    subst Fit (sym (o .whole))
+    (record {
+      sound =
+          is-good (stationOf (o .chain))
+          (record {
+            few = o .few;
+            normal = ap (normalChain []) chain-of ∙ chain-is [] (o .chain) (o .normal);
+            fine = nothing-fine;
+            idle = nothing-idle (persists (chainOf (stationOf (o .chain))));
+          });
+      room = ap length chain-of;
+    })
+
+-- in an own list and in the shared list after it refusal 13 never comes
+pub never-13 : (card : List ℕ) (s : Station) → openOf card ≡ accepted s → (H : List ℕ) (own cs : List Call)
+    → No-13 (saw (opened s H) own) × No-13 (saw (run (opened s H) own) cs)
+never-13 card s e H own cs =
+    let f = opened-fit card s e in
+    (saw-not (opened s H) own f, saw-not (run (opened s H) own) cs (run-fit (opened s H) own f))

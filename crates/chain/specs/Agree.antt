@@ -1,0 +1,137 @@
+-- Demand 3: whatever two stations went through, from the point of agreement of a shared list on they give the same. Assumes nothing.
+use Prim.Native.Nat.{ℕ, suc, _*_, _-_, _≤_}
+use mathlib.Core.Path.{_≡_}
+use mathlib.Core.Bool.{Bool, true, false, not, _&&_, _||_, cond}
+use mathlib.Core.List.{List, [], _∷_, _++_}
+use lib.Dec.{eqb}
+use lib.ListN.{length, take, drop}
+use lib.Ieee.{Float}
+use Rattle.chain.specs.Alike.{chainOf, switches}
+use Rattle.chain.specs.Answers.{reported, called, cycled, Applies}
+use Rattle.chain.specs.Calls.{Report, refusal, acceptance, resetReply, switchReply, stepReply, presets}
+use Rattle.chain.specs.Card.{accepted, openOf}
+use Rattle.chain.specs.Chain.{depth}
+use Rattle.chain.specs.Machine.{Call, frame, reset, switch, step, State, Seen, seen, picture, still, call, after, run, saw}
+use Rattle.chain.specs.Normal.{persists}
+use Rattle.chain.specs.Written.{cardOf}
+use Rattle.chain.specs.declared.pipeline.Called.{Called}
+use Rattle.chain.specs.declared.pipeline.Cycled.{Cycled}
+use Rattle.chain.specs.declared.station.Station.{Station}
+
+-- ## Own lists, equal frames, lent words
+
+-- an opened station, and a history buffer with any words
+abbrev pub opened : Station → List ℕ → State
+opened s history = record { station = s; history = history }
+
+-- Calls that two stations share. Frames are equal when width, height and all lent lengths are, and, where the framebuffer holds count words, its first count
+-- words: those past count may differ.
+pub data SameCall : Call → Call → Type 0 where
+  frames : {w h lent floats ints : ℕ} {words other : List ℕ} → length words ≡ length other → (h * w ≤ length words → take (h * w) words ≡ take (h * w) other)
+      → SameCall (frame w h words lent floats ints) (frame w h other lent floats ints)
+  resets : SameCall reset reset
+  switches-to : {kind : ℕ} {on : Bool} → SameCall (switch kind on) (switch kind on)
+  steps : SameCall step step
+
+-- one shared list, as either station gets it
+pub data Same : List Call → List Call → Type 0 where
+  none : Same [] []
+  more : {c d : Call} {cs ds : List Call} → SameCall c d → Same cs ds → Same (c ∷ cs) (d ∷ ds)
+
+-- the history words lent to a call
+abbrev pub lent : Call → ℕ
+lent (frame w h words history floats ints) = history
+lent reset = 0
+lent (switch kind on) = 0
+lent step = 0
+
+-- each call lends no more words than an own buffer of n words has
+abbrev pub Lends : ℕ → List Call → Type 0
+Lends n [] = Unit {0}
+Lends n (c ∷ cs) = (lent c ≤ n) × Lends n cs
+
+-- ## The point of agreement
+
+-- persistence is in the chain and on
+abbrev pub on : State → Bool
+on s = persists (chainOf (s .station))
+
+abbrev pub ok : Report → Bool
+ok (refusal k) = false
+ok (acceptance r) = true
+
+-- persistence takes each accepted frame that comes while it is on
+abbrev pub takes : State → Call → Bool
+takes s (frame w h words history floats ints) = on s && ok (call (frame w h words history floats ints) s .gives .answer)
+takes s reset = false
+takes s (switch kind position) = false
+takes s step = false
+
+-- a reset, or a switching-off: an accepted switch of persistence from on to off
+abbrev pub ends : State → Call → Bool
+ends s (frame w h words history floats ints) = false
+ends s reset = true
+ends s (switch kind position) = ok (call (switch kind position) s .gives .answer) && (on s && not (on (after (switch kind position) s)))
+ends s step = false
+
+-- how many calls come before the point, while k frames have still to be taken
+unfoldable pub before : ℕ → State → List Call → ℕ
+before k s [] = 0
+before k s (c ∷ cs) = cond (eqb k 0 || ends s c) 0 (suc (before (cond (takes s c) (k - 1) k) (after c s) cs))
+
+-- the first call where persistence is off or absent; else the call after the K-th frame that it takes, or the first reset or switching-off, if that comes sooner
+unfoldable pub point : State → List Call → ℕ
+point s cs = cond (on s) (before (depth (chainOf (s .station))) s cs) 0
+
+-- ## Demand 3
+
+-- comparable after the own lists, beside cards that normalise alike: the switch of each pass and the preset, if there is one, are equal
+pub record Comparable (s t : Station) : Type 0 where
+  pub same-switches : switches s ≡ switches t
+  pub same-presets : presets (chainOf s) ≡ presets (chainOf t)
+
+abbrev pub Demand-3 : Type 0
+Demand-3 =
+    -- two accepted cards that normalise alike, with the stations that opening gives
+    (card other : List ℕ) (a b : Station) → openOf card ≡ accepted a → openOf other ≡ accepted b → cardOf a ≡ cardOf b
+    -- own history buffers of any size with any words, and own lists of any calls
+    → (H G : List ℕ) (own own′ : List Call) →
+    let s : State = run (opened a H) own in
+    let t : State = run (opened b G) own′ in
+    Comparable (s .station) (t .station)
+    -- a shared list, whose frames lend words of either own buffer
+    → (cs ds : List Call) → Same cs ds → Lends (length H) cs → Lends (length G) cs
+    -- the point is one for both, and from it on each answer, returned station and picture is equal
+    → (point s cs ≡ point t ds) × (drop (point s cs) (saw s cs) ≡ drop (point s cs) (saw t ds))
+
+-- ## The same of calls that were made
+
+-- A list of calls that were made, by what the functions promise alone: each got the station and the own buffer that the one before it left. `gave` is what they
+-- gave, `t` what the last one left.
+pub data Made : (s : State) → List Call → (gave : List Seen) → (t : State) → Type 0 where
+  begin : {s : State} → Made s [] [] s
+  -- `apply` with the first words of the own buffer, and scratches with any words
+  by-apply : {s t : State} {cs : List Call} {gave : List Seen} {w h history : ℕ} {words ints words′ past′ ints′ : List ℕ} {floats floats′ : List Float} (r : Called)
+      → Applies w h (s .station) words (take history (s .history)) floats ints r words′ past′ floats′ ints′
+      → Made (record { station = r .station; history = past′ ++ drop history (s .history) }) cs gave t
+      → Made s (frame w h words history (length floats) (length ints) ∷ cs) (seen (reported (r .answer)) (r .station) (picture (reported (r .answer)) (h * w) words′) ∷ gave) t
+  by-reset : {s t : State} {cs : List Call} {gave : List Seen} (r : Called) → called r ≡ resetReply (s .station)
+      → Made (record { station = r .station; history = s .history }) cs gave t → Made s (reset ∷ cs) (still (s .history) (called r) .gives ∷ gave) t
+  by-set-enabled : {s t : State} {cs : List Call} {gave : List Seen} {kind : ℕ} {position : Bool} (r : Called) → called r ≡ switchReply kind position (s .station)
+      → Made (record { station = r .station; history = s .history }) cs gave t → Made s (switch kind position ∷ cs) (still (s .history) (called r) .gives ∷ gave) t
+  by-cycle-lut : {s t : State} {cs : List Call} {gave : List Seen} (r : Cycled) → cycled r ≡ stepReply (s .station)
+      → Made (record { station = r .station; history = s .history }) cs gave t → Made s (step ∷ cs) (still (s .history) (cycled r) .gives ∷ gave) t
+
+-- in own and shared lists each answer, returned station and picture is the machine's
+abbrev pub Made-is : Type 0
+Made-is = (s t : State) (cs : List Call) (gave : List Seen) → Made s cs gave t → (gave ≡ saw s cs) × (t ≡ run s cs)
+
+-- `s` and `t` are what the own lists left, `gave` and `gave′` what the shared list gave
+abbrev pub Demand-3-made : Type 0
+Demand-3-made =
+    (card other : List ℕ) (a b : Station) → openOf card ≡ accepted a → openOf other ≡ accepted b → cardOf a ≡ cardOf b
+    → (H G : List ℕ) (own own′ : List Call) (past past′ : List Seen) (s t : State) → Made (opened a H) own past s → Made (opened b G) own′ past′ t
+    → Comparable (s .station) (t .station)
+    → (cs ds : List Call) → Same cs ds → Lends (length H) cs → Lends (length G) cs
+    → (gave gave′ : List Seen) (u v : State) → Made s cs gave u → Made t ds gave′ v
+    → (point s cs ≡ point t ds) × (drop (point s cs) gave ≡ drop (point s cs) gave′)

@@ -1,0 +1,44 @@
+-- What the functions answer, in the words of document 01: for each case of an answer its number and values. Assumes nothing.
+use Prim.Native.Nat.{ℕ, _*_}
+use mathlib.Core.Path.{_≡_}
+use mathlib.Core.List.{List, [], _∷_}
+use lib.ListN.{length, drop}
+use lib.Ieee.{Float}
+use Rattle.chain.specs.Calls.{Report, refusal, acceptance, Reply, reply, framed, frameReply}
+use Rattle.chain.specs.declared.pipeline.Called.{Called}
+use Rattle.chain.specs.declared.pipeline.Cycled.{Cycled}
+use Rattle.chain.specs.declared.pipeline.Cycle.{Cycle}
+use Rattle.chain.specs.declared.pipeline.Cycle.the-variants as Cycle
+use Rattle.chain.specs.declared.station.Answer.{Answer}
+use Rattle.chain.specs.declared.station.Answer.the-variants.{Accepted, Refused}
+use Rattle.chain.specs.declared.station.Station.{Station}
+
+-- of a frame, a reset and a switch: acceptance reports nothing
+abbrev pub reported : Answer → Report
+reported Accepted = acceptance []
+reported (Refused k) = refusal k
+
+-- of a preset step: acceptance reports the new preset
+abbrev pub reportedStep : Cycle → Report
+reportedStep (Cycle.Preset p) = acceptance (p ∷ [])
+reportedStep (Cycle.Refused k) = refusal k
+
+abbrev pub called : Called → Reply
+called r = reply (reported (r .answer)) (r .station)
+
+abbrev pub cycled : Cycled → Reply
+cycled r = reply (reportedStep (r .answer)) (r .station)
+
+-- the scratch words that a frame may change: k, or none where it is refused
+abbrev pub free : Answer → ℕ → ℕ
+free Accepted k = k
+free (Refused e) k = 0
+
+-- What a frame call promises. It gets a station, a framebuffer, a history and two scratches, and leaves `r` and the buffers with a prime.
+pub record Applies (w h : ℕ) (s : Station) (words past : List ℕ) (floats : List Float) (ints : List ℕ) (r : Called) (words′ past′ : List ℕ) (floats′ : List Float) (ints′ : List ℕ) : Type 0 where
+  -- the answer, the station, and every word of the framebuffer and of the history
+  pub replies : framed (reported (r .answer)) (r .station) words′ past′ ≡ frameReply w h s words past (length floats) (length ints)
+  -- the f32 words past 6 * count stay, and all of them where the frame is refused
+  pub floats-stay : drop (free (r .answer) (6 * (h * w))) floats′ ≡ drop (free (r .answer) (6 * (h * w))) floats
+  -- the u32 words past count stay, and all of them where the frame is refused
+  pub ints-stay : drop (free (r .answer) (h * w)) ints′ ≡ drop (free (r .answer) (h * w)) ints

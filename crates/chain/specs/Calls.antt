@@ -1,0 +1,160 @@
+-- The calls on a station: what each refuses, what it answers, and what it leaves. Assumes nothing.
+use Prim.Native.Nat.{ℕ, zero, suc, _+_, _*_}
+use mathlib.Core.Bool.{Bool, not, _&&_, _||_, cond}
+use mathlib.Core.List.{List, [], _∷_, _++_}
+use lib.Dec.{eqb, ltb}
+use lib.ListN.{length, take, drop}
+use Rattle.passes.specs.Flow.{Held, nothing, Flow, flow}
+use Rattle.chain.specs.Alike.{chainOf}
+use Rattle.chain.specs.Chain.{chain, depth}
+use Rattle.chain.specs.Normal.{goodStation}
+use Rattle.chain.specs.Passes.{kindOf}
+use Rattle.chain.specs.Records.{kinds, among}
+use Rattle.chain.specs.declared.station.Pass.{Pass}
+use Rattle.chain.specs.declared.station.Pass.the-variants.{Ntsc, Bloom, AutoGradient, Persistence, Lut, Curvature, ColorCorrection, Crt, Vignette, Scanlines}
+use Rattle.chain.specs.declared.station.Record.{Record}
+use Rattle.chain.specs.declared.station.Station.{Station}
+
+-- ## A station that is changed
+
+-- in what its history holds
+abbrev pub hold : Held → Station → Station
+hold held s = record { records = s .records; n = s .n; held = held }
+
+-- in the records of its chain; those past n stay
+abbrev pub rechain : List Record → Station → Station
+rechain rs s = record { records = rs ++ drop (s .n) (s .records); n = s .n; held = s .held }
+
+-- ## Refusals: a number of document 01's table, 0 for none
+
+unfoldable pub badSide : ℕ → Bool
+badSide x = eqb x 0 || ltb 1024 x
+
+-- of a frame, by the lengths of what is lent
+unfoldable pub stops : Station → (w h words history floats ints : ℕ) → ℕ
+stops s w h words history floats ints =
+    cond (not (goodStation s)) 13
+    (cond (badSide w || badSide h) 8
+    (cond (ltb words (h * w)) 9
+    (cond (ltb history (depth (chainOf s) * (h * w))) 10
+    (cond (ltb floats (6 * (h * w)) || ltb ints (h * w)) 11 0))))
+
+-- of a call on the pass of that kind
+unfoldable pub lacks : Station → ℕ → ℕ
+lacks s kind = cond (not (goodStation s)) 13 (cond (among kind (kinds (chainOf s))) 0 12)
+
+-- ## Answers
+
+-- document 01's answer: a refusal's number, or acceptance with all that the call reports
+pub data Report : Type 0 where
+  refusal : ℕ → Report
+  acceptance : List ℕ → Report
+
+pub record Reply : Type 0 where
+  pub answer : Report
+  pub station : Station
+
+abbrev pub reply : Report → Station → Reply
+reply answer s = record { answer = answer; station = s }
+
+-- refusal k with the station as it was given, or r where k is 0
+unfoldable pub unless : ℕ → Station → Reply → Reply
+unless zero s r = r
+unless (suc k) s r = reply (refusal (suc k)) s
+
+-- ## Reset, switch, preset step
+
+-- the first record of that kind, changed by f
+unfoldable pub onFirst : ℕ → (Record → Record) → List Record → List Record
+onFirst kind f [] = []
+onFirst kind f (r ∷ rs) = cond (eqb (kindOf (r .pass)) kind) (f r ∷ rs) (r ∷ onFirst kind f rs)
+
+abbrev pub resetReply : Station → Reply
+resetReply s = unless (lacks s 4) s (reply (acceptance []) (hold nothing s))
+
+abbrev pub turned : Bool → Record → Record
+turned on r = record { on = on; pass = r .pass }
+
+-- persistence that is off holds nothing
+abbrev pub heldAfter : ℕ → Bool → Held → Held
+heldAfter kind on held = cond (eqb kind 4 && not on) nothing held
+
+abbrev pub switched : ℕ → Bool → Station → Station
+switched kind on s = hold (heldAfter kind on (s .held)) (rechain (onFirst kind (turned on) (chainOf s)) s)
+
+abbrev pub switchReply : ℕ → Bool → Station → Reply
+switchReply kind on s = unless (lacks s kind) s (reply (acceptance []) (switched kind on s))
+
+-- from 0 to 6, and back to 0
+abbrev pub next : ℕ → ℕ
+next preset = cond (ltb preset 6) (preset + 1) 0
+
+abbrev pub steppedPass : Pass → Pass
+steppedPass (Ntsc strength bleed) = Ntsc strength bleed
+steppedPass (Bloom threshold strength radius) = Bloom threshold strength radius
+steppedPass (AutoGradient strength vertical horizontal) = AutoGradient strength vertical horizontal
+steppedPass (Persistence amount depth) = Persistence amount depth
+steppedPass (Lut preset strength) = Lut (next preset) strength
+steppedPass (Curvature amount) = Curvature amount
+steppedPass (ColorCorrection brightness contrast saturation gamma) = ColorCorrection brightness contrast saturation gamma
+steppedPass (Crt strength) = Crt strength
+steppedPass (Vignette strength) = Vignette strength
+steppedPass (Scanlines strength) = Scanlines strength
+
+abbrev pub stepped : Record → Record
+stepped r = record { on = r .on; pass = steppedPass (r .pass) }
+
+abbrev pub presetOf : Pass → List ℕ
+presetOf (Ntsc strength bleed) = []
+presetOf (Bloom threshold strength radius) = []
+presetOf (AutoGradient strength vertical horizontal) = []
+presetOf (Persistence amount depth) = []
+presetOf (Lut preset strength) = preset ∷ []
+presetOf (Curvature amount) = []
+presetOf (ColorCorrection brightness contrast saturation gamma) = []
+presetOf (Crt strength) = []
+presetOf (Vignette strength) = []
+presetOf (Scanlines strength) = []
+
+-- the preset of each LUT in the chain: of one, or of none
+unfoldable pub presets : List Record → List ℕ
+presets [] = []
+presets (r ∷ rs) = presetOf (r .pass) ++ presets rs
+
+abbrev pub stepLut : List Record → List Record
+stepLut = onFirst 5 stepped
+
+-- a step reports the new preset
+abbrev pub stepReply : Station → Reply
+stepReply s = unless (lacks s 5) s (reply (acceptance (presets (stepLut (chainOf s)))) (rechain (stepLut (chainOf s)) s))
+
+-- ## Frame
+
+-- a frame leaves the framebuffer and the lent history too
+pub record Framed : Type 0 where
+  pub answer : Report
+  pub station : Station
+  pub words : List ℕ
+  pub past : List ℕ
+
+abbrev pub framed : Report → Station → (words past : List ℕ) → Framed
+framed answer s words past = record { answer = answer; station = s; words = words; past = past }
+
+-- refusal k with the station, the framebuffer and the history as they were given, or r where k is 0
+unfoldable pub unlessFramed : ℕ → Station → (words past : List ℕ) → Framed → Framed
+unlessFramed zero s words past r = r
+unlessFramed (suc k) s words past r = framed (refusal (suc k)) s words past
+
+abbrev pub incoming : (w h : ℕ) → Station → (words past : List ℕ) → Flow
+incoming w h s words past = flow (take (h * w) words) (s .held) past
+
+-- an accepted frame: the chain runs over the first count words of the framebuffer
+unfoldable pub shown : (w h : ℕ) → Station → (words past : List ℕ) → Framed
+shown w h s words past =
+    let x : Flow = chain w h (chainOf s) (incoming w h s words past) in
+    framed (acceptance []) (hold (x .held) s) (x .frame ++ drop (h * w) words) (x .past)
+
+-- `floats` and `ints` are the lengths of the scratches
+unfoldable pub frameReply : (w h : ℕ) → Station → (words past : List ℕ) → (floats ints : ℕ) → Framed
+frameReply w h s words past floats ints =
+    unlessFramed (stops s w h (length words) (length past) floats ints) s words past (shown w h s words past)

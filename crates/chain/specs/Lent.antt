@@ -1,0 +1,37 @@
+-- What the inner functions of the calls rely on: what is lent to a pass, and where a record stands. Assumes nothing.
+use Prim.Native.Nat.{ℕ, _*_, _≤_, _<_}
+use mathlib.Core.Path.{_≡_}
+use mathlib.Core.Bool.{true}
+use mathlib.Core.List.{List}
+use lib.ListN.{length, getD}
+use lib.Ieee.{Float}
+use Rattle.passes.specs.Rows.{Frame}
+use Rattle.chain.specs.Chain.{depthOf}
+use Rattle.chain.specs.Normal.{normalPass}
+use Rattle.chain.specs.Passes.{kindOf}
+use Rattle.chain.specs.declared.station.Pass.{Pass}
+use Rattle.chain.specs.declared.station.Record.{Record}
+
+-- a frame, six f32 words and one u32 word of scratch for each of its words
+pub record Lent (w h : ℕ) (frame : List ℕ) (floats : List Float) (ints : List ℕ) : Type 0 where
+  pub shape : Frame w h frame
+  pub some-wide : 0 < w
+  pub some-high : 0 < h
+  pub floats-room : length floats ≡ 6 * (h * w)
+  pub ints-room : length ints ≡ h * w
+
+-- a normalised pass, and history words enough for it
+pub record Ready (w h : ℕ) (pass : Pass) (room : ℕ) : Type 0 where
+  pub normal : normalPass pass ≡ true
+  pub past-room : depthOf pass * (h * w) ≤ room
+
+-- the first n records are ready
+pub record Readies (w h n : ℕ) (rs : List Record) (room : ℕ) : Type 0 where
+  pub few : n ≤ 10
+  pub each : (i : ℕ) (d : Record) → i < n → Ready w h (getD rs i d .pass) room
+
+-- the first record of that kind among the first n stands at i
+pub record First (kind n : ℕ) (rs : List Record) (i : ℕ) : Type 0 where
+  pub within : i < n
+  pub there : (d : Record) → kindOf (getD rs i d .pass) ≡ kind
+  pub earlier : (j : ℕ) (d : Record) → j < i → kindOf (getD rs j d .pass) ≡ kind → ⊥

@@ -1,0 +1,228 @@
+// The calls on a station: a frame, a reset, a switch, a preset step. None has a condition: what it cannot do it refuses, by a number of document 01's table,
+// and a refusal changes nothing.
+ghost use mathlib.Core.Path.{_≡_};
+ghost use Prim.Native.Nat.{_≤_, _<_};
+ghost use mathlib.Core.Bool.{true};
+ghost use mathlib.Core.List.{[], _∷_};
+ghost use lib.ListN.{take};
+ghost use Rattle.chain.specs.Calls.{heldAfter, next as nextOf, steppedPass, presetOf, resetReply, switchReply, stepReply};
+ghost use Rattle.chain.specs.Lent.{First};
+ghost use Rattle.chain.specs.Passes.{kindOf};
+ghost use Rattle.chain.specs.Answers.{called, cycled, Applies};
+ghost use Rattle.chain.specs.Records.{kinds, among};
+use super::refusals::lacks;
+use super::refusals::stops;
+use super::run::run_chain;
+use super::station::Answer;
+use super::station::Pass;
+use super::station::Record;
+use super::station::Station;
+use super::station::kind_of;
+
+// What a frame, a reset and a switch answer, with the station.
+pub struct Called {
+    pub answer: Answer,
+    pub station: Station,
+}
+
+// What a preset step answers: the new preset, or a refusal's number.
+pub enum Cycle {
+    Preset(u8),
+    Refused(u8),
+}
+
+pub struct Cycled {
+    pub answer: Cycle,
+    pub station: Station,
+}
+
+// A frame: the passes that are on, in the card's order, over the first count words of the framebuffer. The first 6 * count words of `floats` and the first
+// count words of `ints` are scratch.
+pub fn apply(
+    station: Station,
+    framebuffer: &mut [u32],
+    width: usize,
+    height: usize,
+    history: &mut [u32],
+    floats: &mut [f32],
+    ints: &mut [u32],
+) -> Called
+    ensures { λ r. ⌜ Applies width height station (now (framebuffer .entry)) (now (history .entry)) (now (floats .entry)) (now (ints .entry)) r (now (framebuffer .exit)) (now (history .exit)) (now (floats .exit)) (now (ints .exit)) ⌝ }
+{
+    let refusal = stops(
+        station,
+        width,
+        height,
+        framebuffer.len(),
+        history.len(),
+        floats.len(),
+        ints.len(),
+    );
+    if refusal != 0 {
+        return Called {
+            answer: Answer::Refused(refusal),
+            station,
+        };
+    }
+    let count = height * width;
+    let room = 6 * count;
+    let n = station.n;
+    let records = station.records;
+    let before = station.held;
+    let held = run_chain(
+        records,
+        n,
+        &mut framebuffer[..count],
+        history,
+        &mut floats[..room],
+        &mut ints[..count],
+        width,
+        height,
+        before,
+    );
+    let after = Station { records, n, held };
+    Called {
+        answer: Answer::Accepted,
+        station: after,
+    }
+}
+
+// Forgets what the history holds; its words stay.
+pub fn reset(station: Station) -> Called
+    ensures { λ r. ⌜ called r ≡ resetReply station ⌝ }
+{
+    let refusal = lacks(station, 4);
+    if refusal != 0 {
+        return Called {
+            answer: Answer::Refused(refusal),
+            station,
+        };
+    }
+    let n = station.n;
+    let records = station.records;
+    let after = Station {
+        records,
+        n,
+        held: 0,
+    };
+    Called {
+        answer: Answer::Accepted,
+        station: after,
+    }
+}
+
+// The place of the first record of that kind among the first n.
+pub(crate) fn place(records: [Record; 10], n: usize, kind: u8) -> usize
+    requires { ⌜ (n ≤ 10) × (among kind (kinds (take n records)) ≡ true) ⌝ }
+    ensures { λ r. ⌜ First kind n records r ⌝ }
+{
+    let mut i: usize = 0;
+    while i + 1 < n {
+        let r = records[i];
+        let pass = r.pass;
+        if kind_of(pass) == kind {
+            return i;
+        }
+        i += 1;
+    }
+    i
+}
+
+// What is held once a pass is switched: persistence that is off holds nothing.
+pub(crate) fn still_held(kind: u8, on: bool, held: u32) -> u32
+    ensures { λ r. ⌜ r ≡ heldAfter kind on held ⌝ }
+{
+    if kind == 4 {
+        if !on {
+            return 0;
+        }
+    }
+    held
+}
+
+// Switches the pass of that kind.
+pub fn set_enabled(station: Station, kind: u8, on: bool) -> Called
+    ensures { λ r. ⌜ called r ≡ switchReply kind on station ⌝ }
+{
+    let refusal = lacks(station, kind);
+    if refusal != 0 {
+        return Called {
+            answer: Answer::Refused(refusal),
+            station,
+        };
+    }
+    let n = station.n;
+    let mut records = station.records;
+    let held = still_held(kind, on, station.held);
+    let at = place(records, n, kind);
+    let r = records[at];
+    let pass = r.pass;
+    records[at] = Record { on, pass };
+    let after = Station { records, n, held };
+    Called {
+        answer: Answer::Accepted,
+        station: after,
+    }
+}
+
+// The preset after that one.
+pub(crate) fn next(preset: u8) -> u8
+    ensures { λ r. ⌜ r ≡ nextOf preset ⌝ }
+{
+    if preset < 6 {
+        return preset + 1;
+    }
+    0
+}
+
+// A LUT with its next preset; any other pass stays.
+pub(crate) fn step_pass(pass: Pass) -> Pass
+    ensures { λ r. ⌜ r ≡ steppedPass pass ⌝ }
+{
+    if let Pass::Lut { preset, strength } = pass {
+        let preset = next(preset);
+        return Pass::Lut { preset, strength };
+    }
+    pass
+}
+
+// The preset of a LUT.
+pub(crate) fn preset_of(pass: Pass) -> u8
+    requires { ⌜ kindOf pass ≡ 5 ⌝ }
+    ensures { λ r. ⌜ presetOf pass ≡ r ∷ [] ⌝ }
+{
+    if let Pass::Lut {
+        preset,
+        strength: _,
+    } = pass {
+        return preset;
+    }
+    0
+}
+
+// Steps the LUT to its next preset, and reports it.
+pub fn cycle_lut(station: Station) -> Cycled
+    ensures { λ r. ⌜ cycled r ≡ stepReply station ⌝ }
+{
+    let refusal = lacks(station, 5);
+    if refusal != 0 {
+        return Cycled {
+            answer: Cycle::Refused(refusal),
+            station,
+        };
+    }
+    let n = station.n;
+    let mut records = station.records;
+    let held = station.held;
+    let at = place(records, n, 5);
+    let r = records[at];
+    let on = r.on;
+    let old = r.pass;
+    let pass = step_pass(old);
+    records[at] = Record { on, pass };
+    let after = Station { records, n, held };
+    Cycled {
+        answer: Cycle::Preset(preset_of(pass)),
+        station: after,
+    }
+}

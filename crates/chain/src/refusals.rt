@@ -1,0 +1,100 @@
+// What the calls refuse: a number of document 01's table, 0 for none.
+ghost use mathlib.Core.Path.{_≡_};
+ghost use Prim.Native.Nat.{_≤_, _*_};
+ghost use lib.ListN.{take};
+ghost use Rattle.chain.specs.Chain.{depthOf, depth as depthIn};
+ghost use Rattle.chain.specs.Calls.{badSide, stops as stopsBy, lacks as lacksAt};
+use super::check::is_good;
+use super::station::Pass;
+use super::station::Record;
+use super::station::Station;
+use super::station::holds;
+
+// How many older frames a pass keeps.
+pub(crate) fn depth_of(pass: Pass) -> usize
+    ensures { λ r. ⌜ (r ≡ depthOf pass) × (r ≤ 255) ⌝ }
+{
+    if let Pass::Persistence { amount: _, depth } = pass {
+        return depth as usize;
+    }
+    0
+}
+
+// The sum of the depths of the first n records.
+pub(crate) fn depth(records: [Record; 10], n: usize) -> usize
+    requires { ⌜ n ≤ 10 ⌝ }
+    ensures { λ r. ⌜ (r ≡ depthIn (take n records)) × (r ≤ 2550) ⌝ }
+{
+    let mut sum: usize = 0;
+    let mut i: usize = 0;
+    while i < n {
+        let r = records[i];
+        let pass = r.pass;
+        sum += depth_of(pass);
+        i += 1;
+    }
+    sum
+}
+
+pub(crate) fn bad_side(x: usize) -> bool
+    ensures { λ r. ⌜ r ≡ badSide x ⌝ }
+{
+    if x == 0 {
+        return true;
+    }
+    1024 < x
+}
+
+// Of a frame, by the lengths of what is lent.
+pub(crate) fn stops(
+    station: Station,
+    width: usize,
+    height: usize,
+    words: usize,
+    history: usize,
+    floats: usize,
+    ints: usize,
+) -> u8
+    ensures { λ r. ⌜ r ≡ stopsBy station width height words history floats ints ⌝ }
+{
+    if !is_good(station) {
+        return 13;
+    }
+    if bad_side(width) {
+        return 8;
+    }
+    if bad_side(height) {
+        return 8;
+    }
+    let count = height * width;
+    if words < count {
+        return 9;
+    }
+    let n = station.n;
+    let records = station.records;
+    if history < depth(records, n) * count {
+        return 10;
+    }
+    if floats < 6 * count {
+        return 11;
+    }
+    if ints < count {
+        return 11;
+    }
+    0
+}
+
+// Of a call on the pass of that kind.
+pub(crate) fn lacks(station: Station, kind: u8) -> u8
+    ensures { λ r. ⌜ r ≡ lacksAt station kind ⌝ }
+{
+    if !is_good(station) {
+        return 13;
+    }
+    let n = station.n;
+    let records = station.records;
+    if holds(records, n, kind) {
+        return 0;
+    }
+    12
+}
