@@ -1,0 +1,87 @@
+-- What an event of program `station` does and prints. The framebuffer has 1,024 words, of which a frame is lent just its own. Assumes nothing.
+use Prim.Native.Nat.{ℕ, zero, suc}
+use mathlib.Core.Bool.{Bool, true, false, cond}
+use mathlib.Core.List.{List, [], _++_}
+use lib.Dec.{eqb}
+use lib.ListN.{length, drop}
+use Rattle.chain.specs.Calls.{Report, refusal, acceptance, Reply, Framed, resetReply, switchReply, stepReply, frameReply}
+use Rattle.chain.specs.declared.station.Answer.{Answer}
+use Rattle.chain.specs.declared.station.Answer.the-variants.{Accepted, Refused}
+use Rattle.chain.specs.declared.station.Station.{Station}
+use Rattle.events.specs.Events.{letterIn, widthIn, heightIn, countIn, kindIn, positionIn, eventFault, unpacked}
+use Rattle.events.specs.Text.{F, L, R, S, E, numberOf, numbersOf, pixelsOf, line}
+
+-- ## Lines
+
+abbrev pub refusalLine : ℕ → List ℕ
+refusalLine k = line E (numberOf k)
+
+-- of a reset, a switch and a step: the letter, then what the call reports
+abbrev pub spoken : ℕ → Report → List ℕ
+spoken letter (refusal k) = refusalLine k
+spoken letter (acceptance ns) = line letter (numbersOf ns)
+
+-- of a frame: the letter, then each pixel of its picture
+abbrev pub pictured : Report → List ℕ → List ℕ
+pictured (refusal k) words = refusalLine k
+pictured (acceptance ns) words = line F (pixelsOf words)
+
+-- ## The card: an accepted one prints nothing
+
+abbrev pub openText : Answer → List ℕ
+openText Accepted = []
+openText (Refused k) = refusalLine k
+
+abbrev pub isOpen : Answer → Bool
+isOpen Accepted = true
+isOpen (Refused k) = false
+
+-- ## Events
+
+-- the station after an event, the words of the framebuffer and of the history, what is printed, and whether the next event is read
+pub record Outcome : Type 0 where
+  pub station : Station
+  pub words : List ℕ
+  pub past : List ℕ
+  pub text : List ℕ
+  pub more : Bool
+
+abbrev pub outcome : Station → (words past text : List ℕ) → Bool → Outcome
+outcome s words past text more = record { station = s; words = words; past = past; text = text; more = more }
+
+abbrev pub answered : ℕ → Reply → (words past : List ℕ) → Outcome
+answered letter r words past = outcome (r .station) words past (spoken letter (r .answer)) true
+
+-- a frame, whose words are all that is lent of the framebuffer
+abbrev pub shown : Framed → Outcome
+shown r = outcome (r .station) (r .words) (r .past) (pictured (r .answer) (r .words)) true
+
+-- 6,144 f32 words and 1,024 u32 words are lent to each frame, and the whole history
+abbrev pub frameReplied : List ℕ → Station → (past : List ℕ) → Framed
+frameReplied bytes s past = frameReply (widthIn bytes) (heightIn bytes) s (unpacked (countIn bytes) (drop 3 bytes)) past 6144 1024
+
+-- the other words of the framebuffer stay
+abbrev pub among : ℕ → List ℕ → Outcome → Outcome
+among count words o = outcome (o .station) (o .words ++ drop count words) (o .past) (o .text) (o .more)
+
+abbrev pub framePlayed : List ℕ → Station → (words past : List ℕ) → Outcome
+framePlayed bytes s words past = among (countIn bytes) words (shown (frameReplied bytes s past))
+
+-- an event without fault, by its letter
+unfoldable pub called : List ℕ → Station → (words past : List ℕ) → Outcome
+called bytes s words past =
+    cond (eqb (letterIn bytes) F) (framePlayed bytes s words past)
+    (cond (eqb (letterIn bytes) R) (answered R (resetReply s) words past)
+    (cond (eqb (letterIn bytes) S) (answered S (switchReply (kindIn bytes) (eqb (positionIn bytes) 1) s) words past)
+    (answered L (stepReply s) words past)))
+
+-- fault k ends the reading; 0 is none
+unfoldable pub unlessFault : ℕ → Station → (words past : List ℕ) → Outcome → Outcome
+unlessFault zero s words past o = o
+unlessFault (suc k) s words past o = outcome s words past (refusalLine (suc k)) false
+
+-- the bytes are all that the input had of the event: none where it has ended
+unfoldable pub playedOf : List ℕ → Station → (words past : List ℕ) → Outcome
+playedOf bytes s words past =
+    cond (eqb (length bytes) 0) (outcome s words past [] false)
+    (unlessFault (eventFault bytes) s words past (called bytes s words past))

@@ -1,0 +1,42 @@
+-- Document 01's worked example of program `station`: what its input prints, by computation. Assumes nothing.
+use Prim.Native.Nat.{ℕ}
+use mathlib.Core.List.{List, [], _∷_}
+use mathlib.Core.Path.{_≡_, refl}
+use lib.Ieee.{ofBits, ofInt, sub, mul, div, lt}
+use Rattle.num.specs.F32.{dec}
+use Rattle.passes.specs.Fold.{fold}
+use Rattle.num.specs.Rewrite.{rewrite}
+use Rattle.num.specs.Steps.{cutOf, plusZeroOf, limitOf}
+use Rattle.passes.specs.Flow.{sameHeld, fineHeld}
+use Rattle.passes.specs.Pixel.{unpack, pack, dim}
+use Rattle.passes.specs.Scanlines as Scanlines
+use Rattle.chain.specs.Bits.{valueAt, fieldAt}
+use Rattle.chain.specs.Calls.{badSide, stops, lacks, unless, unlessFramed, shown, frameReply}
+use Rattle.chain.specs.Card.{headerAt, recordsAt, endsAt, endAt, stationAt, openOf}
+use Rattle.chain.specs.Chain.{wash, over, turn, depth}
+use Rattle.chain.specs.Normal.{settled, normalPass, normalChain, persists, goodStation}
+use Rattle.chain.specs.Passes.{passAt, scanlinesAt}
+use Rattle.chain.specs.Records.{recordAt}
+use Rattle.chain.specs.Settings.{finiteAt, limitedAt}
+use Rattle.chain.specs.Step.{refuseIf}
+use Rattle.events.specs.Events.{headWanted, cardIn, outside, frameWanted, eventWanted, frameFault, eventFault, unpacked}
+use Rattle.events.specs.Play.{called, unlessFault, playedOf}
+use Rattle.events.specs.Program.{eventLines, printed}
+use Rattle.events.specs.Text.{F, R, E, space, newline, decimal, pixelsOf}
+
+-- 06 11 A9 F8 00 00 00 46 01 02 FF FF FF 64 64 64 52
+abbrev pub input : List ℕ
+input = 0x06 ∷ 0x11 ∷ 0xa9 ∷ 0xf8 ∷ 0 ∷ 0 ∷ 0 ∷ F ∷ 1 ∷ 2 ∷ 0xff ∷ 0xff ∷ 0xff ∷ 0x64 ∷ 0x64 ∷ 0x64 ∷ R ∷ []
+
+-- F FFFFFF 323232, then E 12
+abbrev pub lines : List ℕ
+lines =
+    F ∷ space ∷ 70 ∷ 70 ∷ 70 ∷ 70 ∷ 70 ∷ 70 ∷ space ∷ 51 ∷ 50 ∷ 51 ∷ 50 ∷ 51 ∷ 50 ∷ newline
+    ∷ E ∷ space ∷ 49 ∷ 50 ∷ newline ∷ []
+
+pub worked : printed input ≡ lines
+unfolding dec ofBits ofInt sub mul div lt cutOf plusZeroOf limitOf rewrite fold sameHeld fineHeld unpack pack dim Scanlines.scanlines Scanlines.inRow
+    openOf stationAt headerAt fieldAt valueAt refuseIf recordsAt endAt endsAt recordAt passAt scanlinesAt finiteAt limitedAt frameReply unlessFramed
+    shown stops lacks unless badSide goodStation normalChain normalPass settled persists depth turn over wash headWanted cardIn outside frameWanted
+    eventWanted frameFault eventFault unpacked called unlessFault playedOf eventLines printed decimal pixelsOf
+worked = refl
