@@ -22,7 +22,7 @@ END
     cat <<END
 Skipped: the part against the original program, since there is no $original/src/postprocess/pipeline.rs.
 To run it, set HEDGEMALLOW_ORIGINAL to a checkout of rust-nes-emu, the folder that holds src/postprocess.
-The number steps and the cards are taken without it.
+The number steps, the cards and the recorded inputs of program \`station\` are taken without it.
 END
     original=
 }
@@ -37,6 +37,16 @@ modules() {
         [ "$name" = mod ] && continue
         printf '#[path = r##"%s"##]\npub mod %s;\n' "$file" "$name"
     done
+}
+
+# Proves program `station` and leaves it in target/bin. What is proved already is not proved again.
+build_station() {
+    mkdir -p target/oracle || return 1
+    if ! rt check station >target/oracle/station.log 2>&1; then
+        echo "The program was not built. \`rt check station\` said:" >&2
+        cat target/oracle/station.log >&2
+        return 1
+    fi
 }
 
 # Proves the library `probe`, writes it for Rust to link, and compiles the program with it and with the original, if there is one.

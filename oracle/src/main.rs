@@ -1,7 +1,8 @@
-//! The comparison of the number steps with Rust's own, of cards with a reading of document 01, and of
-//! the passes with the original's. Two
-//! scripts build and start it from the repository's root: `oracle/compare` and `oracle/bench`. They
-//! set `with_original` where they find the original: without it there are no passes to compare.
+//! The comparison of the number steps with Rust's own, of cards with a reading of document 01, of the
+//! passes with the original's, and of program `station` with recorded answers and with a model of
+//! document 01 over the original's pipeline. Two scripts build and start it from the repository's root:
+//! `oracle/compare` and `oracle/bench`. They set `with_original` where they find the original: without
+//! it there are no passes to compare, and no model.
 #![cfg_attr(not(with_original), allow(dead_code))]
 
 mod bench;
@@ -12,6 +13,7 @@ mod passes;
 mod patterns;
 mod probe;
 mod random;
+mod station;
 mod steps;
 mod tally;
 
@@ -48,10 +50,14 @@ fn compare(mode: Mode, original: Option<&Path>) -> ExitCode {
     }
     steps::run(mode, &mut total);
     cards::compare::run(mode, &mut total);
+    if let Err(what) = station::compare::run(mode, &mut total) {
+        eprintln!("the program was not compared: {what}");
+        return ExitCode::FAILURE;
+    }
     #[cfg(with_original)]
     passes::compare::run(mode, &mut total);
     println!("{total}");
-    if total.different == 0 {
+    if total.different == 0 && total.unmet == 0 {
         ExitCode::SUCCESS
     } else {
         ExitCode::FAILURE

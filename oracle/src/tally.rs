@@ -319,14 +319,124 @@ impl fmt::Display for CardTally {
     }
 }
 
-/// The count over all steps, cards and passes.
+/// How many bytes of a differing input are printed.
+const SHOWN_BYTES: usize = 400;
+
+/// The count of inputs to a program.
+pub struct ProgramTally {
+    name: &'static str,
+    inputs: u64,
+    lines: u64,
+    different: u64,
+    /// The first few differences, each with the place of its input.
+    shown: Vec<(usize, String)>,
+}
+
+impl ProgramTally {
+    pub fn new(name: &'static str) -> Self {
+        ProgramTally {
+            name,
+            inputs: 0,
+            lines: 0,
+            different: 0,
+            shown: Vec::new(),
+        }
+    }
+
+    /// Holds what the program wrote to what is asked. `at` is the place of the input.
+    pub fn check(
+        &mut self,
+        at: usize,
+        input: &[u8],
+        here: &[u8],
+        asked: &[u8],
+        what: impl FnOnce() -> String,
+    ) {
+        self.inputs += 1;
+        self.lines += asked.iter().filter(|&&byte| byte == b'\n').count() as u64;
+        self.compare(at, input, here, asked, what);
+    }
+
+    /// The same, of an input that is counted already.
+    pub fn compare(
+        &mut self,
+        at: usize,
+        input: &[u8],
+        here: &[u8],
+        asked: &[u8],
+        what: impl FnOnce() -> String,
+    ) {
+        if here == asked {
+            return;
+        }
+        self.different += 1;
+        if self.shown.len() < SHOWN {
+            let lines = |text: &[u8]| -> Vec<String> {
+                let text = String::from_utf8_lossy(text).into_owned();
+                text.split_inclusive('\n').map(str::to_string).collect()
+            };
+            let (here, asked) = (lines(here), lines(asked));
+            let line = (0..).find(|&n| here.get(n) != asked.get(n));
+            let line = line.unwrap_or_default();
+            let bytes: Vec<String> = input.iter().map(|byte| format!("{byte:02X}")).collect();
+            let bytes = &bytes[..bytes.len().min(SHOWN_BYTES)];
+            self.shown.push((
+                at,
+                format!(
+                    "{}, line {}: here {:?}, asked {:?}, input of {} bytes {}",
+                    what(),
+                    line + 1,
+                    here.get(line),
+                    asked.get(line),
+                    input.len(),
+                    bytes.join(" ")
+                ),
+            ));
+        }
+    }
+
+    /// Adds the count of another thread.
+    pub fn join(&mut self, other: ProgramTally) {
+        self.inputs += other.inputs;
+        self.lines += other.lines;
+        self.different += other.different;
+        self.shown.extend(other.shown);
+        self.shown.sort_by_key(|&(at, _)| at);
+        self.shown.truncate(SHOWN);
+    }
+}
+
+impl fmt::Display for ProgramTally {
+    fn fmt(&self, f: &mut fmt::Formatter) -> fmt::Result {
+        let ProgramTally {
+            name,
+            inputs,
+            lines,
+            different,
+            shown,
+        } = self;
+        writeln!(
+            f,
+            "{name}: {inputs} inputs, {lines} lines compared, {different} different"
+        )?;
+        for (_, text) in shown {
+            writeln!(f, "    different at {text}")?;
+        }
+        Ok(())
+    }
+}
+
+/// The count over all steps, cards, passes and inputs of the program.
 #[derive(Default)]
 pub struct Total {
     compared: u64,
     cards: u64,
     frames: u64,
     words: u64,
+    inputs: u64,
     pub different: u64,
+    /// What a comparison was to meet and did not.
+    pub unmet: u64,
 }
 
 impl Total {
@@ -341,6 +451,13 @@ impl Total {
     pub fn add_cards(&mut self, tally: &CardTally) {
         print!("{tally}");
         self.cards += tally.cards();
+        self.different += tally.different;
+    }
+
+    /// Prints the count of inputs and adds it.
+    pub fn add_programs(&mut self, tally: &ProgramTally) {
+        print!("{tally}");
+        self.inputs += tally.inputs;
         self.different += tally.different;
     }
 
@@ -360,12 +477,21 @@ impl fmt::Display for Total {
             cards,
             frames,
             words,
+            inputs,
             different,
+            unmet,
         } = self;
         write!(f, "{compared} values, {cards} cards")?;
         if *frames > 0 {
-            write!(f, " and {frames} frames of {words} words")?;
+            write!(f, ", {frames} frames of {words} words")?;
         }
-        write!(f, " compared, {different} different")
+        write!(
+            f,
+            " and {inputs} inputs of the program compared, {different} different"
+        )?;
+        if *unmet > 0 {
+            write!(f, ", {unmet} cases not met")?;
+        }
+        Ok(())
     }
 }

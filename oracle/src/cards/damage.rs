@@ -37,32 +37,61 @@ pub fn card(random: &mut Random) -> Vec<u8> {
     if random.one_in(16) {
         return (0..random.below(80)).map(|_| random.word() as u8).collect();
     }
-    let mut kinds: Vec<u32> = (1..=10).collect();
-    for place in (1..kinds.len()).rev() {
-        kinds.swap(place, random.below(place + 1));
-    }
-    kinds.truncate(random.below(11));
+    let mut kinds = chain(random);
     if !kinds.is_empty() && random.one_in(16) {
         // Any kind number: unknown, or perhaps a second of its kind.
         let place = random.below(kinds.len());
         kinds[place] = random.below(16) as u32;
     }
-    let mut bits = Vec::new();
-    put(&mut bits, 1, 4);
-    put(&mut bits, kinds.len() as u32, 4);
-    for kind in kinds {
-        put(&mut bits, kind, 4);
-        put(&mut bits, random.below(2) as u32, 1);
-        for field in fields(kind).unwrap_or_default() {
-            setting(*field, &mut bits, random);
-        }
-    }
+    // Mostly what a card may hold: else few cards of ten records would be taken.
+    let bits = written(&kinds, random, |random| random.one_in(24));
     damaged(bits, random)
 }
 
-/// Mostly what a card may hold: else few cards of ten records would be taken.
-fn setting(field: Field, bits: &mut Vec<bool>, random: &mut Random) {
-    let odd = random.one_in(24);
+/// A card that is taken, of records of random kinds.
+pub fn good(random: &mut Random) -> Vec<u8> {
+    let kinds = chain(random);
+    let bits = written(&kinds, random, |_| false);
+    bytes(&bits)
+}
+
+/// Kinds in any order, each at most once.
+fn chain(random: &mut Random) -> Vec<u32> {
+    let mut kinds: Vec<u32> = (1..=10).collect();
+    for place in (1..kinds.len()).rev() {
+        kinds.swap(place, random.below(place + 1));
+    }
+    kinds.truncate(random.below(11));
+    kinds
+}
+
+/// The bits of a card of these kinds, up to its padding. `odd` says which settings may be any.
+fn written(kinds: &[u32], random: &mut Random, odd: fn(&mut Random) -> bool) -> Vec<bool> {
+    let mut bits = Vec::new();
+    put(&mut bits, 1, 4);
+    put(&mut bits, kinds.len() as u32, 4);
+    for &kind in kinds {
+        put(&mut bits, kind, 4);
+        put(&mut bits, random.below(2) as u32, 1);
+        for field in fields(kind).unwrap_or_default() {
+            let odd = odd(random);
+            setting(*field, &mut bits, random, odd);
+        }
+    }
+    bits
+}
+
+/// The bits in bytes, with zero bits to the last byte's end.
+fn bytes(bits: &[bool]) -> Vec<u8> {
+    let byte = |eight: &[bool]| {
+        let bits = (0..8).map(|place| eight.get(place).copied().unwrap_or_default());
+        bits.fold(0, |b, bit| b << 1 | u8::from(bit))
+    };
+    bits.chunks(8).map(byte).collect()
+}
+
+/// A setting that a card may hold, or any where it is odd.
+fn setting(field: Field, bits: &mut Vec<bool>, random: &mut Random, odd: bool) {
     match field {
         Field::Byte => put(bits, random.word(), 8),
         Field::Preset => put(bits, random.below(if odd { 8 } else { 7 }) as u32, 3),
@@ -108,8 +137,7 @@ fn damaged(mut bits: Vec<bool>, random: &mut Random) -> Vec<u8> {
         let place = bits.len() - 1 - random.below(padding);
         bits[place] = true;
     }
-    let byte = |eight: &[bool]| eight.iter().fold(0, |b, &bit| b << 1 | u8::from(bit));
-    let mut card: Vec<u8> = bits.chunks(8).map(byte).collect();
+    let mut card = bytes(&bits);
     if random.one_in(16) {
         card.extend((0..random.within(1, 3)).map(|_| random.choose(&[0, 0xff])));
     }

@@ -2,5 +2,5 @@
 //! the paper alone.
 
 pub mod compare;
-mod damage;
-mod paper;
+pub mod damage;
+pub mod paper;

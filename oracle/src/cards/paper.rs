@@ -5,18 +5,18 @@ pub type Number = u32;
 
 /// A card once it is opened.
 pub struct Opened {
-    records: Vec<Record>,
+    pub records: Vec<Record>,
 }
 
-struct Record {
-    kind: u32,
-    on: bool,
-    settings: Vec<Value>,
+pub struct Record {
+    pub kind: u32,
+    pub on: bool,
+    pub settings: Vec<Value>,
 }
 
 /// A setting once it is normalised.
 #[derive(Clone, Copy)]
-enum Value {
+pub enum Value {
     /// With its bits on the card.
     Whole(u32, usize),
     Float(f32),

@@ -3,13 +3,13 @@
 pub mod bench;
 mod cases;
 pub mod compare;
-mod frames;
+pub mod frames;
 // Written by oracle/build.sh: a module for each of the original's files.
 #[allow(dead_code)]
 #[path = "../../../target/oracle/original.rs"]
 #[rustfmt::skip]
-mod original;
+pub mod original;
 mod room;
 mod runs;
 mod settings;
-mod table;
+pub mod table;

@@ -247,7 +247,7 @@ pub static PASSES: &[Pass] = &[
 ];
 
 /// In the order of the enum: a card holds the place.
-const PRESETS: [LutPreset; 7] = [
+pub const PRESETS: [LutPreset; 7] = [
     LutPreset::Identity,
     LutPreset::WarmCrt,
     LutPreset::CoolCrt,
