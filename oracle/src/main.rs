@@ -1,7 +1,7 @@
 //! The comparison of the number steps with Rust's own, of cards with a reading of document 01, of the
 //! passes with the original's, and of program `station` with recorded answers and with a model of
-//! document 01 over the original's pipeline. Two scripts build and start it from the repository's root:
-//! `oracle/compare` and `oracle/bench`. They set `with_original` where they find the original: without
+//! document 01 over the original's pipeline. Three scripts build and start it from the repository's root:
+//! `oracle/compare`, `oracle/bench` and `oracle/record`. They set `with_original` where they find the original: without
 //! it there are no passes to compare, and no model.
 #![cfg_attr(not(with_original), allow(dead_code))]
 
@@ -28,12 +28,14 @@ fn main() -> ExitCode {
     let words: Vec<&str> = words.iter().map(String::as_str).collect();
     match words[..] {
         ["bench"] => measure(),
+        #[cfg(with_original)]
+        ["record", file] => record(Path::new(file)),
         ["quick"] => compare(Mode::Quick, None),
         ["full"] => compare(Mode::Full, None),
         ["quick", original] => compare(Mode::Quick, Some(Path::new(original))),
         ["full", original] => compare(Mode::Full, Some(Path::new(original))),
         _ => {
-            eprintln!("expected: bench, or quick or full and then the original's folder, if any");
+            eprintln!("expected: bench, record and a file, or quick or full and then the original's folder, if any");
             ExitCode::from(2)
         }
     }
@@ -61,6 +63,18 @@ fn compare(mode: Mode, original: Option<&Path>) -> ExitCode {
         ExitCode::SUCCESS
     } else {
         ExitCode::FAILURE
+    }
+}
+
+/// Writes the recorded answers of the original.
+#[cfg(with_original)]
+fn record(file: &Path) -> ExitCode {
+    match std::fs::write(file, station::record::all()) {
+        Ok(()) => ExitCode::SUCCESS,
+        Err(error) => {
+            eprintln!("{}: {error}", file.display());
+            ExitCode::FAILURE
+        }
     }
 }
 

@@ -1,82 +1,10 @@
-// Program `station` of document 01: reads a card and events from standard input, and writes a line for each event. It only reads, calls and writes: how many
-// bytes an event takes, what it does and what is printed is said by crate `events`.
-ghost use mathlib.Core.Path.{_≡_};
-ghost use Prim.Native.Nat.{_+_, _≤_};
+// Program `station` of document 01: reads a card and events from standard input, and writes a line for each event. It only reads, calls and writes: what an
+// event does and what is printed is said by crate `events`.
+ghost use Prim.Native.Nat.{_≤_};
 ghost use lib.ListN.{length};
 use chain::station::Station;
-use events::event;
-use events::play;
 use events::play::Played;
-use libc::STDIN_FILENO;
 use libc::STDOUT_FILENO;
-
-// The buffers that are lent. A long array is made by a function, so that a proof sees its length alone.
-fn framebuffer() -> [u32; 1024]
-    ensures { λ r. ⌜ 1024 ≡ length r ⌝ }
-{
-    [0; 1024]
-}
-
-fn history() -> [u32; 8192]
-    ensures { λ r. ⌜ 8192 ≡ length r ⌝ }
-{
-    [0; 8192]
-}
-
-fn floats() -> [f32; 6144]
-    ensures { λ r. ⌜ 6144 ≡ length r ⌝ }
-{
-    [0.0; 6144]
-}
-
-fn ints() -> [u32; 1024]
-    ensures { λ r. ⌜ 1024 ≡ length r ⌝ }
-{
-    [0; 1024]
-}
-
-fn line() -> [u8; 7170]
-    ensures { λ r. ⌜ 7170 ≡ length r ⌝ }
-{
-    [0; 7170]
-}
-
-// How many bytes the card, or an event, takes that begins with these.
-fn wanted(bytes: &[u8], is_card: bool) -> usize
-    ensures { λ r. ⌜ r ≤ 3075 ⌝ }
-{
-    if is_card {
-        event::head_wanted(bytes)
-    } else {
-        event::event_wanted(bytes)
-    }
-}
-
-// Reads from one place of the buffer to another, as far as the input has bytes, and answers how many there were.
-fn read(input: &mut [u8], from: usize, to: usize) -> usize
-    requires { ⌜ (from ≤ to) × (to ≤ length (now input)) ⌝ }
-    ensures { λ r. ⌜ from + r ≤ to ⌝ }
-{
-    io::read_full(STDIN_FILENO, &mut input[from..to])
-}
-
-// Reads the bytes of the card or of an event, as far as the input has them, and answers how many there are.
-fn fetch(input: &mut [u8], is_card: bool) -> usize
-    requires { ⌜ 4096 ≤ length (now input) ⌝ }
-    ensures { λ r. ⌜ r ≤ length (now (input .exit)) ⌝ }
-{
-    let mut n = 0;
-    let mut end = wanted(&input[..n], is_card);
-    while n < end {
-        let got = read(input, n, end);
-        if got == 0 {
-            return n;
-        }
-        n += got;
-        end = wanted(&input[..n], is_card);
-    }
-    n
-}
 
 // Writes the first n bytes, and answers whether it could.
 fn print(out: &[u8], n: usize) -> bool
@@ -85,48 +13,14 @@ fn print(out: &[u8], n: usize) -> bool
     io::write_all(STDOUT_FILENO, &out[..n])
 }
 
-// Opens the card in the first n bytes of the input.
-fn open(input: &[u8], n: usize, out: &mut [u8; 7170]) -> Played
-    requires { ⌜ n ≤ length (now input) ⌝ }
-    ensures { λ r. ⌜ r .length ≤ length (now (out .exit)) ⌝ }
-{
-    play::begin(&input[..n], out)
-}
-
 // Reads the card, opens it and writes what is printed of it.
 fn begin(input: &mut [u8; 4096], out: &mut [u8; 7170]) -> Played {
-    let n = fetch(input, true);
-    let mut begun = open(input, n, out);
+    let mut begun = player::begin(input, out);
     let length = begun.length;
     if !print(out, length) {
         begun.more = false;
     }
     begun
-}
-
-// Plays the event in the first n bytes of the input.
-fn play(
-    station: Station,
-    input: &[u8],
-    n: usize,
-    framebuffer: &mut [u32; 1024],
-    history: &mut [u32; 8192],
-    floats: &mut [f32; 6144],
-    ints: &mut [u32; 1024],
-    out: &mut [u8; 7170],
-) -> Played
-    requires { ⌜ n ≤ length (now input) ⌝ }
-    ensures { λ r. ⌜ r .length ≤ length (now (out .exit)) ⌝ }
-{
-    play::play(
-        station,
-        &input[..n],
-        framebuffer,
-        history,
-        floats,
-        ints,
-        out,
-    )
 }
 
 // Reads one event, plays it and writes its line.
@@ -139,8 +33,7 @@ fn turn(
     ints: &mut [u32; 1024],
     out: &mut [u8; 7170],
 ) -> Played {
-    let n = fetch(input, false);
-    let mut played = play(station, input, n, framebuffer, history, floats, ints, out);
+    let mut played = player::turn(station, input, framebuffer, history, floats, ints, out);
     let length = played.length;
     if !print(out, length) {
         played.more = false;
@@ -151,11 +44,11 @@ fn turn(
 // A proved loop has to end, and nothing says that an input does: it counts its turns down, from a number that no run uses up.
 fn main() {
     let mut input = io::buffer();
-    let mut framebuffer = framebuffer();
-    let mut history = history();
-    let mut floats = floats();
-    let mut ints = ints();
-    let mut out = line();
+    let mut framebuffer = player::framebuffer();
+    let mut history = player::history();
+    let mut floats = player::floats();
+    let mut ints = player::ints();
+    let mut out = player::line();
     let begun = begin(&mut input, &mut out);
     let mut station = begun.station;
     let mut more = begun.more;

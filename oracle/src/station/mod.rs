@@ -9,4 +9,6 @@ mod inputs;
 #[cfg(with_original)]
 mod model;
 mod process;
+#[cfg(with_original)]
+pub mod record;
 mod recorded;

@@ -27,10 +27,27 @@ const LUT: u32 = 5;
 pub fn run(input: &[u8], met: &mut Met) -> Vec<u8> {
     let mut printed = Printed(String::new());
     // The paper's program prints a line before it ends: that is the error.
-    if let Err(number) = play(input, &mut printed, met) {
+    if let Err(number) = play(input, &mut printed, met, |_, _| {}) {
         printed.refusal(number);
     }
     printed.0.into_bytes()
+}
+
+/// The card and each event that is taken or refused by the station, with what is printed of it. What
+/// ends the reading is left out.
+pub fn answers(input: &[u8]) -> Vec<(Vec<u8>, Vec<u8>)> {
+    let mut printed = Printed(String::new());
+    let mut all = Vec::new();
+    let (mut read, mut wrote) = (0, 0);
+    let each = |left: usize, printed: &Printed| {
+        let end = input.len() - left;
+        let line = printed.0.as_bytes()[wrote..].to_vec();
+        all.push((input[read..end].to_vec(), line));
+        (read, wrote) = (end, printed.0.len());
+    };
+    // Why the reading ended is no answer of the station.
+    let _ = play(input, &mut printed, &mut Met::new(), each);
+    all
 }
 
 struct Printed(String);
@@ -46,8 +63,14 @@ impl Printed {
     }
 }
 
-/// Reads the card and the events. An error is the number that ends the reading.
-fn play(input: &[u8], printed: &mut Printed, met: &mut Met) -> Result<(), u32> {
+/// Reads the card and the events. `each` is told, after each of them, how many bytes are left and what
+/// was printed so far. An error is the number that ends the reading.
+fn play(
+    input: &[u8],
+    printed: &mut Printed,
+    met: &mut Met,
+    mut each: impl FnMut(usize, &Printed),
+) -> Result<(), u32> {
     let Some((&length, rest)) = input.split_first() else {
         met.note(Case::NoLength);
         return Err(1);
@@ -59,6 +82,7 @@ fn play(input: &[u8], printed: &mut Printed, met: &mut Met) -> Result<(), u32> {
     let opened = paper::open(card).inspect_err(|&number| met.note(Case::CardRefused(number)))?;
     met.note(Case::CardTaken);
     let mut station = Station::new(opened.records);
+    each(rest.len(), printed);
     while let Some((&letter, after)) = rest.split_first() {
         rest = match letter {
             b'F' => station.frame(after, printed, met)?,
@@ -76,6 +100,7 @@ fn play(input: &[u8], printed: &mut Printed, met: &mut Met) -> Result<(), u32> {
                 return Err(1);
             }
         };
+        each(rest.len(), printed);
     }
     met.note(Case::End);
     Ok(())

@@ -1,11 +1,11 @@
--- `station::fetch` is safe and ends: each turn reads at least one of at most 3,075 bytes. Assumes nothing.
+-- `player::fetch` is safe and ends: each turn reads at least one of at most 3,075 bytes. Assumes nothing.
 use Prim.Native.Nat.{_+_, _-_, _≤_}
 use mathlib.Core.Path.{_≡_, refl, sym, _∙_}
 use native.Mathlib.Omega.{arith}
 use lib.ListN.{length}
 use lib.Seq.{length-take-le}
-use Rattle.station.proofs.fetch.Statement.{statement}
-use Rattle.station.proofs.fetch.Tie as tie
+use Rattle.player.proofs.fetch.Statement.{statement}
+use Rattle.player.proofs.fetch.Tie as tie
 
 abbrev Inv-loop : tie.InvT-loop
 Inv-loop input₀ is-card n₀ end₀ input n end = (length input ≡ length input₀) × (n ≤ 3075) × (end ≤ 3075)

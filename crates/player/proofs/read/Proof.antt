@@ -1,12 +1,12 @@
--- `station::read` meets its contract: no more is read than is lent. Assumes nothing.
+-- `player::read` meets its contract: no more is read than is lent. Assumes nothing.
 use borrow.Author.Needs.{needs}
 use Prim.Native.Nat.{_-_}
 use mathlib.Core.Path.{_≡_}
 use native.Mathlib.Omega.{arith}
 use lib.ListN.{length, take, drop, length-drop}
 use lib.Seq.{length-take-le}
-use Rattle.station.proofs.read.Statement.{statement}
-use Rattle.station.proofs.read.Tie as tie
+use Rattle.player.proofs.read.Statement.{statement}
+use Rattle.player.proofs.read.Tie as tie
 
 lent : (c : tie.Start) → length (take (c .args .to - c .args .from) (drop (c .args .from) (c .args .input .now))) ≡ c .args .to - c .args .from
 lent c = length-take-le _ (drop (c .args .from) (c .args .input .now)) (simp length-drop (omega arith))

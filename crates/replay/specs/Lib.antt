@@ -1,0 +1,2 @@
+-- The checksum of an answer.
+pub mod Adler
