@@ -37,3 +37,4 @@ pub mod Meets
 pub mod Agreement
 pub mod Made
 pub mod Examples
+pub mod Untouched

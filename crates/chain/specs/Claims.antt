@@ -1,12 +1,15 @@
--- What is proved of cards, as types: the proofs are in proofs/Theorems.antt. Assumes nothing.
-use Prim.Native.Nat.{ℕ, _-_, _≤_}
+-- What is proved of cards and of single calls, as types: the proofs are in proofs/Theorems.antt, Survives.antt, Longest.antt and Untouched.antt. Assumes nothing.
+use Prim.Native.Nat.{ℕ, _*_, _-_, _≤_}
 use mathlib.Core.Bool.{true}
 use mathlib.Core.List.{List}
 use mathlib.Core.Logic.{_↔_}
 use mathlib.Core.Path.{_≡_}
 use lib.ListN.{length, drop, replicate}
 use Rattle.chain.specs.Alike.{Alike, chainOf}
+use Rattle.chain.specs.Calls.{refusal, Framed, framed, frameReply}
 use Rattle.chain.specs.Card.{unused, accepted, openOf}
+use Rattle.chain.specs.Chain.{depth}
+use Rattle.chain.specs.Machine.{Call, State, call, after}
 use Rattle.chain.specs.Normal.{goodStation}
 use Rattle.chain.specs.Typed.{TypedChain}
 use Rattle.chain.specs.Written.{cardOf}
@@ -36,3 +39,20 @@ Survives =
 -- no card is longer than 72 bytes
 abbrev pub Longest : Type 0
 Longest = (s : Station) → goodStation s ≡ true → length (cardOf s) ≤ 72
+
+-- a refused call leaves the station and every word of its history buffer, and a refused frame its framebuffer too
+abbrev pub Refused-keeps : Type 0
+Refused-keeps =
+    ((c : Call) (s : State) (k : ℕ) → call c s .gives .answer ≡ refusal k → after c s ≡ s)
+    × ((w h : ℕ) (s : Station) (words past : List ℕ) (floats ints k : ℕ) → frameReply w h s words past floats ints .answer ≡ refusal k
+    → frameReply w h s words past floats ints ≡ framed (refusal k) s words past)
+
+-- a frame, accepted or not, leaves the framebuffer past count, the history past K times count, and the places of the station past n
+abbrev pub Untouched : Type 0
+Untouched =
+    (w h : ℕ) (s : Station) (words past : List ℕ) (floats ints : ℕ) →
+    let r : Framed = frameReply w h s words past floats ints in
+    let count : ℕ = h * w in
+    (drop count (r .words) ≡ drop count words)
+    × (drop (depth (chainOf s) * count) (r .past) ≡ drop (depth (chainOf s) * count) past)
+    × (r .station .records ≡ s .records)

@@ -1,0 +1,105 @@
+-- What a refusal keeps, and what no frame touches. Assumes nothing.
+use Prim.Native.Nat.{ℕ, zero, suc, _*_, _≤_}
+use native.Mathlib.Omega.{arith}
+use mathlib.Core.Path.{_≡_, refl, ap, subst, _∙_}
+use mathlib.Core.Bool.{Bool, true, false, cond}
+use mathlib.Core.List.{List, [], _++_}
+use lib.Ieee.{Float}
+use lib.ListN.{length, take, drop, take-append-drop}
+use lib.Seq.{length-take-le, drop-at}
+use Rattle.passes.specs.Flow.{Held, sized, sameHeld, Flow, flow}
+use Rattle.passes.specs.Persistence.{persistence, blend, refilled, shifted}
+use Rattle.passes.specs.PersistenceLaws.{refilled-rest, shifted-rest}
+use Rattle.chain.specs.Alike.{chainOf}
+use Rattle.chain.specs.Calls.{Report, refusal, acceptance, reply, unless, stops, lacks, Framed, framed, unlessFramed, incoming, shown, frameReply}
+use Rattle.chain.specs.Chain.{wash, chain, depth}
+use Rattle.chain.specs.Claims.{Refused-keeps, Untouched}
+use Rattle.chain.specs.Machine.{Call, frame, reset, switch, step, State, call, after}
+use Rattle.chain.specs.declared.station.Record.{Record}
+use Rattle.chain.specs.declared.station.Station.{Station}
+use Rattle.chain.proofs.Apart.{Apart, quiet, keeping, apart, frame-length}
+use Rattle.chain.proofs.Good.{good}
+use Rattle.chain.proofs.Goes.{goes}
+
+-- ## A refusal
+
+-- acceptance is no refusal
+accepted-not : {A : Type 0} (ns : List ℕ) (k : ℕ) → Path Report (acceptance ns) (refusal k) → A
+accepted-not ns k e = let z : _≡_ {A = ℕ} 0 1 = cc in absurd (omega arith)
+
+reply-keeps : (n : ℕ) (s t : Station) (ns : List ℕ) (k : ℕ) → unless n s (reply (acceptance ns) t) .answer ≡ refusal k → unless n s (reply (acceptance ns) t) .station ≡ s
+unfolding unless
+reply-keeps zero s t ns k e = accepted-not ns k e
+reply-keeps (suc n) s t ns k e = refl
+
+frame-keeps : (n w h : ℕ) (s : Station) (words past : List ℕ) (k : ℕ) → unlessFramed n s words past (shown w h s words past) .answer ≡ refusal k
+    → unlessFramed n s words past (shown w h s words past) ≡ framed (refusal k) s words past
+unfolding unlessFramed shown
+frame-keeps zero w h s words past k e = accepted-not [] k e
+frame-keeps (suc n) w h s words past k e = ap (λ (r : Report). framed r s words past) e
+
+call-keeps : (c : Call) (s : State) (k : ℕ) → call c s .gives .answer ≡ refusal k → after c s ≡ s
+unfolding call after frameReply
+call-keeps (frame w h words l m i) s k e =
+    let past = take l (s .history) in
+    let kept = frame-keeps (stops (s .station) w h (length words) (length past) m i) w h (s .station) words past k e in
+    ap (λ (r : Framed). record { station = r .station; history = r .past ++ drop l (s .history) }) kept
+    ∙ ap (λ (l : List ℕ). record { station = s .station; history = l }) (take-append-drop l (s .history))
+call-keeps reset s k e = ap (λ (t : Station). record { station = t; history = s .history }) (reply-keeps (lacks (s .station) 4) (s .station) _ _ k e)
+call-keeps (switch kind on) s k e = ap (λ (t : Station). record { station = t; history = s .history }) (reply-keeps (lacks (s .station) kind) (s .station) _ _ k e)
+call-keeps step s k e = ap (λ (t : Station). record { station = t; history = s .history }) (reply-keeps (lacks (s .station) 5) (s .station) _ _ k e)
+
+pub refused-keeps : Refused-keeps
+unfolding frameReply
+refused-keeps = (call-keeps, λ w h s words past floats ints k e. frame-keeps (stops s w h (length words) (length past) floats ints) w h s words past k e)
+
+-- ## What no frame touches
+
+persistence-rest : (amount : Float) (k : ℕ) (size : Held) (x : Flow) → k * length (x .frame) ≤ length (x .past)
+    → drop (k * length (x .frame)) (persistence amount k size x .past) ≡ drop (k * length (x .frame)) (x .past)
+unfolding persistence
+persistence-rest amount k size x fits = of (sameHeld (x .held) size)
+  where
+    of : (b : Bool)
+        → drop (k * length (x .frame))
+        (cond b (flow (blend amount k (x .past) (x .frame)) size (shifted k (x .frame) (x .past))) (flow (x .frame) size (refilled k (x .frame) (x .past))) .past)
+        ≡ drop (k * length (x .frame)) (x .past)
+    of true = shifted-rest k (x .frame) (x .past) fits
+    of false = refilled-rest k (x .frame) (x .past)
+
+-- a chain leaves the history past its places
+chain-rest : (w h : ℕ) (rs : List Record) → Apart rs → (x : Flow) → length (x .frame) ≡ h * w → depth rs * (h * w) ≤ length (x .past)
+    → drop (depth rs * (h * w)) (chain w h rs x .past) ≡ drop (depth rs * (h * w)) (x .past)
+unfolding wash
+chain-rest w h rs (quiet e a) x long fits = ap (λ (y : Flow). drop (depth rs * (h * w)) (y .past)) (a .whole w h x)
+chain-rest w h rs (keeping e a) x long fits =
+    let y : Flow = wash (a .before w h) x in
+    let size : length (a .before w h (x .frame)) ≡ h * w = a .before-keeps w h (x .frame) ∙ long in
+    ap (λ (z : Flow). drop (depth rs * (h * w)) (z .past)) (a .whole w h x)
+    ∙ subst
+    (λ (n : ℕ). depth rs * n ≤ length (x .past) → drop (depth rs * n) (persistence (a .amount) (depth rs) (sized w h) y .past) ≡ drop (depth rs * n) (x .past)) size
+    (persistence-rest (a .amount) (depth rs) (sized w h) y) fits
+
+abbrev Stays : (w h : ℕ) → Station → (words past : List ℕ) → Framed → Type 0
+Stays w h s words past r =
+    (drop (h * w) (r .words) ≡ drop (h * w) words)
+    × (drop (depth (chainOf s) * (h * w)) (r .past) ≡ drop (depth (chainOf s) * (h * w)) past)
+    × (r .station .records ≡ s .records)
+
+stays : (w h : ℕ) (s : Station) (words past : List ℕ) (floats ints n : ℕ) → stops s w h (length words) (length past) floats ints ≡ n
+    → Stays w h s words past (unlessFramed n s words past (shown w h s words past))
+unfolding unlessFramed shown
+stays w h s words past floats ints zero e =
+    let g = goes s w h (length words) (length past) floats ints e in
+    let a = apart (chainOf s) (good s (g .good) .normal) in
+    let x = incoming w h s words past in
+    let long : length (take (h * w) words) ≡ h * w = length-take-le (h * w) words (g .frame-room) in (
+      drop-at (chain w h (chainOf s) x .frame) (drop (h * w) words) (h * w) (frame-length w h (chainOf s) a x ∙ long),
+      chain-rest w h (chainOf s) a x long (g .past-room),
+      refl,
+    )
+stays w h s words past floats ints (suc n) e = (refl, refl, refl)
+
+pub untouched : Untouched
+unfolding frameReply
+untouched w h s words past floats ints = stays w h s words past floats ints (stops s w h (length words) (length past) floats ints) refl
