@@ -5,11 +5,14 @@ ghost use Prim.Native.Nat.{_≤_, _<_};
 ghost use mathlib.Core.Bool.{true};
 ghost use mathlib.Core.List.{[], _∷_};
 ghost use lib.ListN.{take};
+ghost use Rattle.chain.specs.Alike.{chainOf};
+ghost use Rattle.chain.specs.Chain.{depth as depthIn};
 ghost use Rattle.chain.specs.Calls.{heldAfter, next as nextOf, steppedPass, presetOf, resetReply, switchReply, stepReply};
 ghost use Rattle.chain.specs.Lent.{First};
 ghost use Rattle.chain.specs.Passes.{kindOf};
 ghost use Rattle.chain.specs.Answers.{called, cycled, Applies};
 ghost use Rattle.chain.specs.Records.{kinds, among};
+use super::refusals::depth;
 use super::refusals::lacks;
 use super::refusals::stops;
 use super::run::run_chain;
@@ -34,6 +37,18 @@ pub enum Cycle {
 pub struct Cycled {
     pub answer: Cycle,
     pub station: Station,
+}
+
+// Document 01's K: how many older frames the history has places for. No more than ten records are there, whatever n says.
+pub fn places(station: Station) -> usize
+    ensures { λ r. ⌜ (r ≡ depthIn (chainOf station)) × (r ≤ 2550) ⌝ }
+{
+    let records = station.records;
+    let n = station.n;
+    if 10 < n {
+        return depth(records, 10);
+    }
+    depth(records, n)
 }
 
 // A frame: the passes that are on, in the card's order, over the first count words of the framebuffer. The first 6 * count words of `floats` and the first

@@ -1,0 +1,122 @@
+-- A host that passes on what it got has a state: the exports keep states. Assumes nothing.
+use Prim.Native.Nat.{ℕ}
+use mathlib.Core.Path.{_≡_, refl, ap, sym, subst, _∙_}
+use mathlib.Core.Bool.{Bool, true, false}
+use mathlib.Core.List.{List, []}
+use lib.ListN.{length, replicate}
+use lib.Seq.{take-length}
+use Rattle.chain.specs.Bits.{valueAt, fieldAt}
+use Rattle.chain.specs.Calls.{Report, refusal, acceptance, Reply, resetReply, switchReply, stepReply, Framed, frameReply}
+use Rattle.chain.specs.Card.{headerAt, stationAt, accepted, openOf}
+use Rattle.chain.specs.Machine.{frame, reset, switch, step, State, call, after}
+use Rattle.chain.specs.Normal.{goodStation}
+use Rattle.chain.specs.Step.{refuseIf}
+use Rattle.chain.specs.declared.reader.Opened.{Opened}
+use Rattle.chain.specs.declared.station.Answer.{Answer}
+use Rattle.chain.specs.declared.station.Answer.the-variants.{Accepted, Refused}
+use Rattle.chain.specs.declared.station.Station.{Station}
+use Rattle.chain.proofs.Bools.{both, false-true}
+use Rattle.bridge.specs.Claims.{Whole, Closed}
+use Rattle.bridge.specs.Outcomes.{left, opening, onState, frameShown}
+use Rattle.bridge.specs.State.{cardIn, stationIn, encoded, sameBytes, isAccepted, isState}
+use Rattle.bridge.proofs.Bytes.{same-equal}
+use Rattle.bridge.proofs.Lasting.{opened-whole, call-whole}
+use Rattle.bridge.proofs.RoundTrip.{round-trip}
+
+accepted-is : (o : Opened) → isAccepted (o .answer) ≡ true → o ≡ accepted (o .station)
+accepted-is o = go (o .answer)
+  where
+    go : (a : Answer) → isAccepted a ≡ true → record { answer = a; station = o .station } ≡ accepted (o .station)
+    go Accepted e = refl
+    go (Refused k) e = false-true e
+
+-- ## A state is of a whole station
+
+-- no card is empty
+no-card : isAccepted (openOf [] .answer) ≡ false
+unfolding openOf stationAt headerAt fieldAt valueAt refuseIf
+no-card = refl
+
+module _ (b : List ℕ) (card : isAccepted (openOf (cardIn b) .answer) ≡ true) (same : sameBytes (encoded (stationIn b)) b ≡ true) where
+  -- so zeros, as which a bad station is encoded, are no state
+  good-in : goodStation (stationIn b) ≡ true
+  unfolding encoded
+  good-in = go (goodStation (stationIn b)) refl
+    where
+      go : (t : Bool) → goodStation (stationIn b) ≡ t → t ≡ true
+      go true e = refl
+      go false e =
+          let zeros : replicate 80 0 ≡ b = same-equal (replicate 80 0) b (rw e at same) in
+          false-true (sym no-card ∙ ap (λ (l : List ℕ). isAccepted (openOf (cardIn l) .answer)) zeros ∙ card)
+
+  whole-in : Whole (stationIn b)
+  whole-in =
+      let o = openOf (cardIn b) in
+      let w = opened-whole (cardIn b) (o .station) (accepted-is o card) in
+      record { good = good-in; typed = w .typed; ten = w .ten; rest = w .rest }
+
+state-whole : (b : List ℕ) → isState b ≡ true → Whole (stationIn b)
+unfolding isState
+state-whole b e = let d = both (isAccepted (openOf (cardIn b) .answer)) _ e in whole-in b (d .0) (d .1)
+
+-- ## What the exports leave
+
+encoded-state : (s : Station) → Whole s → isState (encoded s) ≡ true
+encoded-state s w = round-trip s w .0
+
+left-state : (r : Report) (b new : List ℕ) → isState b ≡ true → isState new ≡ true → isState (left r b new) ≡ true
+left-state (refusal k) b new e f = e
+left-state (acceptance r) b new e f = f
+
+open-state : (card b : List ℕ) → isAccepted (openOf card .answer) ≡ true → isState (opening card b .state) ≡ true
+unfolding opening
+open-state card b e =
+    let o = openOf card in
+    let is = accepted-is o e in
+    rw (ap (λ (p : Opened). p .answer) is) (encoded-state (o .station) (opened-whole card (o .station) is))
+
+-- a call that keeps the station whole leaves a state
+on-state : (f : Station → Reply) → ((s : Station) → Whole s → Whole (f s .station)) → (b : List ℕ) → isState b ≡ true → isState (onState f b .state) ≡ true
+unfolding onState
+on-state f keeps b e =
+    let s = stationIn b in
+    rw e (left-state (f s .answer) b (encoded (f s .station)) e (encoded-state (f s .station) (keeps s (state-whole b e))))
+
+-- a station with an own history, as the machine has it
+abbrev with-past : Station → List ℕ → State
+with-past s past = record { station = s; history = past }
+
+reset-whole : (s : Station) → Whole s → Whole (resetReply s .station)
+unfolding after call
+reset-whole s w = call-whole reset (with-past s []) w
+
+switch-whole : (kind : ℕ) (on : Bool) (s : Station) → Whole s → Whole (switchReply kind on s .station)
+unfolding after call
+switch-whole kind on s w = call-whole (switch kind on) (with-past s []) w
+
+step-whole : (s : Station) → Whole s → Whole (stepReply s .station)
+unfolding after call
+step-whole s w = call-whole step (with-past s []) w
+
+frame-whole : (w h : ℕ) (words past : List ℕ) (floats ints : ℕ) (s : Station) → Whole s → Whole (frameReply w h s words past floats ints .station)
+unfolding after call
+frame-whole w h words past floats ints s t =
+    subst (λ (l : List ℕ). Whole (frameReply w h s words l floats ints .station)) (take-length past)
+    (call-whole (frame w h words (length past) floats ints) (with-past s past) t)
+
+frame-state : (w h : ℕ) (b words past : List ℕ) (floats ints : ℕ) → isState b ≡ true → isState (frameShown w h b words past floats ints .state) ≡ true
+unfolding frameShown
+frame-state w h b words past floats ints e =
+    let r : Framed = frameReply w h (stationIn b) words past floats ints in
+    rw e (left-state (r .answer) b (encoded (r .station)) e (encoded-state (r .station) (frame-whole w h words past floats ints (stationIn b) (state-whole b e))))
+
+pub closed : Closed
+closed =
+    record {
+      of-station = state-whole;
+      by-open = open-state;
+      by-frame = frame-state;
+      by-reset = on-state resetReply reset-whole;
+      by-switch = λ kind on. on-state (switchReply kind on) (switch-whole kind on);
+      by-step = on-state stepReply step-whole;
+    }

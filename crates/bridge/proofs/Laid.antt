@@ -1,0 +1,103 @@
+-- A station laid down in bytes: what writing leaves in the 72 bytes of the card, and the bytes around it. Assumes nothing.
+use Prim.Native.Nat.{ℕ, _+_, _-_, _≤_}
+use native.Mathlib.Omega.{arith}
+use mathlib.Core.Path.{_≡_, refl, ap, ap₂, sym, _∙_}
+use mathlib.Core.Bool.{Bool, true, false, cond}
+use mathlib.Core.List.{List, _∷_, _++_}
+use borrow.Author.Tests.{le-leb}
+use lib.Dec.{leb}
+use lib.ListN.{length, drop, replicate, length-append, length-replicate, replicate-append-replicate}
+use lib.Seq.{take-at, drop-at, drop-append-add, sets, sets-eq}
+use Rattle.chain.specs.Normal.{goodStation}
+use Rattle.chain.specs.Write.{writeAnswer, writeInto}
+use Rattle.chain.specs.Written.{cardOf}
+use Rattle.chain.specs.declared.station.Station.{Station}
+use Rattle.chain.specs.declared.writer.Written.{Written}
+use Rattle.chain.specs.declared.writer.Written.the-variants.{Length, Refused}
+use Rattle.chain.proofs.Longest.{station-short}
+use Rattle.bridge.specs.State.{padded, heldBytes, laid, encoded}
+
+drop-zeros : (k m : ℕ) → k ≤ m → drop {A = ℕ} k (replicate m 0) ≡ replicate (m - k) 0
+drop-zeros k m h =
+    let e : k + (m - k) ≡ m = omega arith in
+    ap (λ (l : List ℕ). drop k l) (ap (λ (j : ℕ). replicate {A = ℕ} j 0) (sym e) ∙ sym (replicate-append-replicate {A = ℕ} k (m - k) 0))
+    ∙ drop-at {A = ℕ} (replicate k 0) (replicate (m - k) 0) k (length-replicate {A = ℕ} k 0)
+
+pub padded-long : (card : List ℕ) → length card ≤ 72 → length (padded card) ≡ 72
+padded-long card h = omega (arith, length-append card (replicate (72 - length card) 0), length-replicate {A = ℕ} (72 - length card) 0)
+
+-- writing into 72 zeros
+abbrev zeros : List ℕ
+zeros = replicate 72 0
+
+-- of a good station, whose card has room
+pub record Wrote (s : Station) (n : ℕ) (card : List ℕ) : Type 0 where
+  pub good : goodStation s ≡ true
+  pub long : n ≡ length (cardOf s)
+  pub whole : card ≡ padded (cardOf s)
+  pub short : n ≤ 72
+
+not-both : (n k : ℕ) → Path Written (Length n) (Refused k) → ⊥
+not-both n k e = let z : _≡_ {A = ℕ} 0 1 = cc in omega arith
+
+module _ (s : Station) (r : Written) (card : List ℕ) (answer : r ≡ writeAnswer s zeros) (into : card ≡ writeInto s zeros) where
+  good-answer : goodStation s ≡ true → r ≡ Length (length (cardOf s))
+  unfolding writeAnswer
+  good-answer g = answer ∙ rw (g, le-leb (length (cardOf s)) 72 (station-short s g)) refl
+
+  good-into : goodStation s ≡ true → card ≡ padded (cardOf s)
+  unfolding writeInto
+  good-into g =
+      into ∙ rw (g, le-leb (length (cardOf s)) 72 (station-short s g))
+      (ap (λ (l : List ℕ). cardOf s ++ l) (drop-zeros (length (cardOf s)) 72 (station-short s g)))
+
+  bad-answer : goodStation s ≡ false → r ≡ Refused 13
+  unfolding writeAnswer
+  bad-answer g = answer ∙ rw g refl
+
+  bad-into : goodStation s ≡ false → card ≡ zeros
+  unfolding writeInto
+  bad-into g = into ∙ rw g refl
+
+  -- refused: a station that is not good
+  pub unwritten : (k : ℕ) → r ≡ Refused k → 0 ∷ card ++ replicate 7 0 ≡ encoded s
+  unfolding encoded
+  unwritten k e = go (goodStation s) refl
+    where
+      go : (b : Bool) → goodStation s ≡ b → 0 ∷ card ++ replicate 7 0 ≡ cond b (laid s) (replicate 80 0)
+      go true g = absurd (not-both _ k (sym (good-answer g) ∙ e))
+      go false g = ap (λ (l : List ℕ). 0 ∷ l ++ replicate 7 0) (bad-into g)
+
+  pub written : (n : ℕ) → r ≡ Length n → Wrote s n card
+  written n e = go (goodStation s) refl
+    where
+      go : (b : Bool) → goodStation s ≡ b → Wrote s n card
+      go true g =
+          let same : Length n ≡ Length (length (cardOf s)) = sym e ∙ good-answer g in
+          let long : n ≡ length (cardOf s) = cc in
+          record { good = g; long = long; whole = good-into g; short = omega (arith, long, station-short s g) }
+      go false g = absurd (not-both n 13 (sym e ∙ bad-answer g))
+
+-- the length before it and what is held after it
+pub laid-down : (s : Station) (n : ℕ) (card : List ℕ) → Wrote s n card → n ∷ sets (card ++ replicate 7 0) 72 (heldBytes (s .held)) ≡ encoded s
+unfolding encoded
+laid-down s n card w =
+    let long : length card ≡ 72 = ap length (w .whole) ∙ padded-long (cardOf s) (omega (arith, w .long, w .short)) in
+    rw (w .good)
+    (ap₂ (λ (k : ℕ) (l : List ℕ). k ∷ l) (w .long)
+    (sets-eq (heldBytes (s .held)) (card ++ replicate 7 0) 72 (omega (arith, length-append card (replicate 7 0), long))
+    ∙ ap₂ (λ (front back : List ℕ). front ++ heldBytes (s .held) ++ back) (take-at card (replicate 7 0) 72 long ∙ w .whole)
+    (ap (λ (k : ℕ). drop (k + 4) (card ++ replicate 7 0)) (sym long) ∙ drop-append-add card (replicate 7 0) 4)))
+
+-- whatever the buffer, no card that is written is long
+pub card-short : (s : Station) (buf : List ℕ) (r : Written) (n : ℕ) → r ≡ writeAnswer s buf → r ≡ Length n → n ≤ 72
+unfolding writeAnswer
+card-short s buf r n answer e = go (goodStation s) (leb (length (cardOf s)) (length buf)) refl refl
+  where
+    go : (g room : Bool) → goodStation s ≡ g → leb (length (cardOf s)) (length buf) ≡ room → n ≤ 72
+    go false room h k = absurd (not-both n 13 (sym e ∙ answer ∙ rw h refl))
+    go true false h k = absurd (not-both n 14 (sym e ∙ answer ∙ rw (h, k) refl))
+    go true true h k =
+        let same : Length n ≡ Length (length (cardOf s)) = sym e ∙ answer ∙ rw (h, k) refl in
+        let long : n ≡ length (cardOf s) = cc in
+        omega (arith, long, station-short s h)

@@ -1,0 +1,8 @@
+-- Laws that the proofs of several functions cite: Bytes, Laid, Decoding, Replies. The theorems of specs/Claims.antt: RoundTrip, Lasting, Closed.
+pub mod Bytes
+pub mod Laid
+pub mod Decoding
+pub mod Replies
+pub mod RoundTrip
+pub mod Lasting
+pub mod Closed

@@ -1,0 +1,149 @@
+-- What the exports answer, case by case. Assumes nothing.
+use Prim.Native.Nat.{ℕ, _+_, _*_}
+use native.Mathlib.Omega.{arith}
+use mathlib.Core.Path.{_≡_, refl, ap, sym, subst, _∙_}
+use mathlib.Core.Bool.{Bool, true, false}
+use mathlib.Core.List.{List}
+use borrow.Author.Tests.{ne-eqb}
+use lib.Ieee.{Float}
+use lib.ListN.{length, drop}
+use Rattle.chain.specs.Alike.{chainOf}
+use Rattle.chain.specs.Answers.{reported, reportedStep, called, cycled, free, Applies}
+use Rattle.chain.specs.Calls.{Reply, reply, frameReply}
+use Rattle.chain.specs.Card.{accepted, openOf}
+use Rattle.chain.specs.Chain.{depth}
+use Rattle.chain.specs.Write.{writeAnswer, writeInto}
+use Rattle.chain.specs.declared.pipeline.Called.{Called}
+use Rattle.chain.specs.declared.pipeline.Cycle.{Cycle}
+use Rattle.chain.specs.declared.pipeline.Cycle.the-variants as Cycle
+use Rattle.chain.specs.declared.pipeline.Cycled.{Cycled}
+use Rattle.chain.specs.declared.reader.Opened.{Opened}
+use Rattle.chain.specs.declared.station.Answer.{Answer}
+use Rattle.chain.specs.declared.station.Answer.the-variants.{Accepted, Refused}
+use Rattle.chain.specs.declared.station.Station.{Station}
+use Rattle.chain.specs.declared.writer.Written.{Written}
+use Rattle.bridge.specs.Outcomes.{told, Outcome, outcome, answered, damaged, opening, onState, depthTold, wrote, writeTold, writeLeft, shown, framedShown, frameShown, freed, Frames}
+use Rattle.bridge.specs.State.{encoded, stationIn, isState, decoded}
+
+pub opens : (card b : List ℕ) (o : Opened) (x : Outcome) → o ≡ openOf card → x ≡ answered b (reply (reported (o .answer)) (o .station)) → x ≡ opening card b
+unfolding opening
+opens card b o x e h = h ∙ ap (λ (p : Opened). answered b (reply (reported (p .answer)) (p .station))) e
+
+-- ## Bytes that were read
+
+-- they are a state, and this is its station
+pub record Read (b : List ℕ) (s : Station) : Type 0 where
+  pub sound : isState b ≡ true
+  pub station : s ≡ stationIn b
+
+-- they are none
+pub record Unread (b : List ℕ) (k : ℕ) : Type 0 where
+  pub broken : isState b ≡ false
+  pub by-13 : 256 + k ≡ damaged
+
+clash : (k : ℕ) → Path Answer (Refused k) Accepted → ⊥
+clash k e = let z : _≡_ {A = ℕ} 0 1 = cc in omega arith
+
+module _ (b : List ℕ) (o : Opened) (decodes : o ≡ decoded b) where
+  state-is : isState b ≡ true → o ≡ accepted (stationIn b)
+  unfolding decoded
+  state-is h = decodes ∙ rw h refl
+
+  none-is : isState b ≡ false → o .answer ≡ Refused 13
+  unfolding decoded
+  none-is h = ap (λ (p : Opened). p .answer) decodes ∙ rw h refl
+
+  pub read : o .answer ≡ Accepted → Read b (o .station)
+  read e = go (isState b) refl
+    where
+      go : (t : Bool) → isState b ≡ t → Read b (o .station)
+      go true h = record { sound = h; station = ap (λ (p : Opened). p .station) (state-is h) }
+      go false h = absurd (clash 13 (sym (none-is h) ∙ e))
+
+  pub unread : (k : ℕ) → o .answer ≡ Refused k → Unread b k
+  unread k e = go (isState b) refl
+    where
+      go : (t : Bool) → isState b ≡ t → Unread b k
+      go true h = absurd (clash k (sym e ∙ ap (λ (p : Opened). p .answer) (state-is h)))
+      go false h =
+          let y : Path Answer (Refused k) (Refused 13) = sym e ∙ none-is h in
+          let z : k ≡ 13 = cc in
+          record { broken = h; by-13 = ap (λ (j : ℕ). 256 + j) z }
+
+-- ## A call's answer
+
+-- kept, or refused
+pub keeps : (b new : List ℕ) (a : Answer) (s : Station) → a ≡ Accepted → new ≡ encoded s → outcome 0 new ≡ answered b (reply (reported a) s)
+keeps b new a s e f = ap (outcome 0) f ∙ ap (λ (x : Answer). answered b (reply (reported x) s)) (sym e)
+
+pub refuses : (b : List ℕ) (a : Answer) (s : Station) (k n : ℕ) → a ≡ Refused k → n ≡ 256 + k → outcome n b ≡ answered b (reply (reported a) s)
+refuses b a s k n e f = ap (λ (m : ℕ). outcome m b) f ∙ ap (λ (x : Answer). answered b (reply (reported x) s)) (sym e)
+
+-- a preset step
+pub steps : (b new : List ℕ) (r : Cycled) (p : ℕ) → r .answer ≡ Cycle.Preset p → new ≡ encoded (r .station) → outcome p new ≡ answered b (cycled r)
+steps b new r p e f = ap (outcome p) f ∙ ap (λ (x : Cycle). answered b (reply (reportedStep x) (r .station))) (sym e)
+
+pub no-step : (b : List ℕ) (r : Cycled) (k n : ℕ) → r .answer ≡ Cycle.Refused k → n ≡ 256 + k → outcome n b ≡ answered b (cycled r)
+no-step b r k n e f = ap (λ (m : ℕ). outcome m b) f ∙ ap (λ (x : Cycle). answered b (reply (reportedStep x) (r .station))) (sym e)
+
+-- ## Calls that leave the state
+
+module _ (f : Station → Reply) (b : List ℕ) where
+  pub on-none : (k n : ℕ) → Unread b k → n ≡ 256 + k → outcome n b ≡ onState f b
+  unfolding onState
+  on-none k n u e = rw (u .broken) (ap (λ (m : ℕ). outcome m b) (e ∙ u .by-13))
+
+  pub on-station : (s : Station) (a : Reply) (x : Outcome) → Read b s → a ≡ f s → x ≡ answered b a → x ≡ onState f b
+  unfolding onState
+  on-station s a x t e h = rw (t .sound) (h ∙ ap (answered b) (e ∙ ap f (t .station)))
+
+-- ## The depth
+
+pub depth-none : (b : List ℕ) (k n : ℕ) → Unread b k → n ≡ 256 + k → n ≡ depthTold b
+unfolding depthTold
+depth-none b k n u e = rw (u .broken) (e ∙ u .by-13)
+
+pub depth-some : (b : List ℕ) (s : Station) (n : ℕ) → Read b s → n ≡ depth (chainOf s) → n ≡ depthTold b
+unfolding depthTold
+depth-some b s n t e = rw (t .sound) (e ∙ ap (λ (q : Station). depth (chainOf q)) (t .station))
+
+-- ## Writing
+
+pub write-none : (b buf : List ℕ) (k n : ℕ) → Unread b k → n ≡ 256 + k → (n ≡ writeTold b buf) × (buf ≡ writeLeft b buf)
+unfolding writeTold writeLeft
+write-none b buf k n u e = (rw (u .broken) (e ∙ u .by-13), rw (u .broken) refl)
+
+pub write-some : (b buf new : List ℕ) (s : Station) (x : Written) (n : ℕ) → Read b s → x ≡ writeAnswer s buf → new ≡ writeInto s buf → n ≡ wrote x
+    → (n ≡ writeTold b buf) × (new ≡ writeLeft b buf)
+unfolding writeTold writeLeft
+write-some b buf new s x n t e f h = (
+  rw (t .sound) (h ∙ ap wrote (e ∙ ap (λ (q : Station). writeAnswer q buf) (t .station))),
+  rw (t .sound) (f ∙ ap (λ (q : Station). writeInto q buf) (t .station)),
+)
+
+-- ## Frame
+
+freed-is : (a : Answer) (k : ℕ) → freed (told (reported a)) k ≡ free a k
+freed-is Accepted k = refl
+freed-is (Refused e) k = rw (ne-eqb (256 + e) 0 (λ z. omega (arith, z)))
+
+module _ (w h : ℕ) (b words past : List ℕ) (floats : List Float) (ints : List ℕ) where
+  pub frame-none : (k n : ℕ) → Unread b k → n ≡ 256 + k → Frames w h b words past floats ints n b words past floats ints
+  unfolding frameShown
+  frame-none k n u e =
+      record { replies = rw (u .broken) (ap (λ (m : ℕ). shown m b words past) (e ∙ u .by-13)); floats-stay = refl; ints-stay = refl }
+
+  pub frame-some : (s : Station) (r : Called) (n : ℕ) (b′ words′ past′ : List ℕ) (floats′ : List Float) (ints′ : List ℕ) → Read b s
+      → Applies w h s words past floats ints r words′ past′ floats′ ints′ → outcome n b′ ≡ answered b (called r)
+      → Frames w h b words past floats ints n b′ words′ past′ floats′ ints′
+  unfolding frameShown
+  frame-some s r n b′ words′ past′ floats′ ints′ t a e =
+      let same : (k : ℕ) → freed n k ≡ free (r .answer) k = λ k. ap (λ (o : Outcome). freed (o .number) k) e ∙ freed-is (r .answer) k in
+      record {
+        replies =
+            rw (t .sound)
+            (ap (λ (o : Outcome). shown (o .number) (o .state) words′ past′) e
+            ∙ ap (framedShown b) (a .replies ∙ ap (λ (q : Station). frameReply w h q words past (length floats) (length ints)) (t .station)));
+        floats-stay = subst (λ (j : ℕ). drop j floats′ ≡ drop j floats) (sym (same (6 * (h * w)))) (a .floats-stay);
+        ints-stay = subst (λ (j : ℕ). drop j ints′ ≡ drop j ints) (sym (same (h * w))) (a .ints-stay);
+      }

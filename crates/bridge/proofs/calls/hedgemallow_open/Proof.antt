@@ -1,0 +1,10 @@
+-- `bridge::calls::hedgemallow_open` meets its contract. Assumes nothing.
+use Rattle.bridge.proofs.Replies.{opens}
+use Rattle.bridge.proofs.calls.hedgemallow_open.Statement.{statement}
+use Rattle.bridge.proofs.calls.hedgemallow_open.Tie as tie
+
+returns : tie.Need-returns
+returns c = opens _ _ _ _ (c .before .before .before .«open» .ensures) (c .keep .ensures)
+
+pub hedgemallow-open-spec : {M : Type 1} → statement M
+hedgemallow-open-spec = tie.close (tie.spec (λ c κs. tt) (λ c κs. tt) returns)

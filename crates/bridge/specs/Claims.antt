@@ -1,0 +1,42 @@
+-- What is proved of the encoding and of the states that the exports leave, as types: the proofs are in proofs/RoundTrip.antt, Lasting.antt and Closed.antt.
+-- Assumes nothing.
+use Prim.Native.Nat.{ℕ, _-_}
+use mathlib.Core.Bool.{Bool, true}
+use mathlib.Core.List.{List}
+use mathlib.Core.Path.{_≡_}
+use lib.ListN.{length, drop, replicate}
+use Rattle.chain.specs.Alike.{chainOf}
+use Rattle.chain.specs.Calls.{resetReply, switchReply, stepReply}
+use Rattle.chain.specs.Card.{unused, accepted, openOf}
+use Rattle.chain.specs.Machine.{Call, State, after}
+use Rattle.chain.specs.Normal.{goodStation}
+use Rattle.chain.specs.Typed.{TypedChain}
+use Rattle.chain.specs.declared.station.Station.{Station}
+use Rattle.bridge.specs.Outcomes.{opening, onState, frameShown}
+use Rattle.bridge.specs.State.{encoded, stationIn, isAccepted, isState}
+
+-- a good station of ten typed records, whose places past n are filled as at every opening
+pub record Whole (s : Station) : Type 0 where
+  pub good : goodStation s ≡ true
+  pub typed : TypedChain (chainOf s)
+  pub ten : length (s .records) ≡ 10
+  pub rest : drop (s .n) (s .records) ≡ replicate (10 - s .n) unused
+
+-- such a station is read back from its bytes
+abbrev pub RoundTrip : Type 0
+RoundTrip = (s : Station) → Whole s → (isState (encoded s) ≡ true) × (stationIn (encoded s) ≡ s)
+
+-- opening gives such a station, and each call keeps it one: so a host that passes on what it got has a state
+abbrev pub Lasting : Type 0
+Lasting =
+    ((card : List ℕ) (s : Station) → openOf card ≡ accepted s → Whole s)
+    × ((c : Call) (s : State) → Whole (s .station) → Whole (after c s .station))
+
+-- the same of states: each is of such a station, an accepted opening leaves a state, and each call leaves one where it got one
+pub record Closed : Type 0 where
+  pub of-station : (b : List ℕ) → isState b ≡ true → Whole (stationIn b)
+  pub by-open : (card b : List ℕ) → isAccepted (openOf card .answer) ≡ true → isState (opening card b .state) ≡ true
+  pub by-frame : (w h : ℕ) (b words past : List ℕ) (floats ints : ℕ) → isState b ≡ true → isState (frameShown w h b words past floats ints .state) ≡ true
+  pub by-reset : (b : List ℕ) → isState b ≡ true → isState (onState resetReply b .state) ≡ true
+  pub by-switch : (kind : ℕ) (on : Bool) (b : List ℕ) → isState b ≡ true → isState (onState (switchReply kind on) b .state) ≡ true
+  pub by-step : (b : List ℕ) → isState b ≡ true → isState (onState stepReply b .state) ≡ true

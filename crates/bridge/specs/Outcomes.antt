@@ -1,0 +1,95 @@
+-- What the exports answer and leave: each is chain's call on the station of the state, through the one encoding. The number is what the call reports, 0 where it
+-- reports nothing, or 256 and the refusal's number. Assumes nothing.
+use Prim.Native.Nat.{ℕ, _+_, _*_}
+use mathlib.Core.Path.{_≡_}
+use mathlib.Core.Bool.{cond}
+use mathlib.Core.List.{List, [], _∷_}
+use lib.Dec.{eqb}
+use lib.Ieee.{Float}
+use lib.ListN.{length, drop}
+use Rattle.chain.specs.Alike.{chainOf}
+use Rattle.chain.specs.Answers.{reported}
+use Rattle.chain.specs.Calls.{Report, refusal, acceptance, Reply, reply, Framed, frameReply}
+use Rattle.chain.specs.Card.{openOf}
+use Rattle.chain.specs.Chain.{depth}
+use Rattle.chain.specs.Write.{writeAnswer, writeInto}
+use Rattle.chain.specs.declared.station.Station.{Station}
+use Rattle.chain.specs.declared.writer.Written.{Written}
+use Rattle.chain.specs.declared.writer.Written.the-variants.{Length, Refused}
+use Rattle.bridge.specs.State.{encoded, stationIn, isState}
+
+abbrev pub told : Report → ℕ
+told (refusal k) = 256 + k
+told (acceptance []) = 0
+told (acceptance (x ∷ xs)) = x
+
+-- a refusal leaves the old bytes
+abbrev pub left : Report → (old new : List ℕ) → List ℕ
+left (refusal k) old new = old
+left (acceptance r) old new = new
+
+-- the number of a call, and the state that it leaves
+pub record Outcome : Type 0 where
+  pub number : ℕ
+  pub state : List ℕ
+
+abbrev pub outcome : ℕ → List ℕ → Outcome
+outcome number state = record { number = number; state = state }
+
+abbrev pub answered : List ℕ → Reply → Outcome
+answered b r = outcome (told (r .answer)) (left (r .answer) b (encoded (r .station)))
+
+-- refusal 13 of bytes that are no state
+abbrev pub damaged : ℕ
+damaged = 269
+
+unfoldable pub opening : (card b : List ℕ) → Outcome
+opening card b = let o = openOf card in answered b (reply (reported (o .answer)) (o .station))
+
+-- a call on the station of the state
+unfoldable pub onState : (Station → Reply) → List ℕ → Outcome
+onState f b = cond (isState b) (answered b (f (stationIn b))) (outcome damaged b)
+
+-- document 01's K
+unfoldable pub depthTold : List ℕ → ℕ
+depthTold b = cond (isState b) (depth (chainOf (stationIn b))) damaged
+
+-- ## Writing
+
+abbrev pub wrote : Written → ℕ
+wrote (Length n) = n
+wrote (Refused k) = 256 + k
+
+unfoldable pub writeTold : (b buf : List ℕ) → ℕ
+writeTold b buf = cond (isState b) (wrote (writeAnswer (stationIn b) buf)) damaged
+
+unfoldable pub writeLeft : (b buf : List ℕ) → List ℕ
+writeLeft b buf = cond (isState b) (writeInto (stationIn b) buf) buf
+
+-- ## Frame
+
+pub record Shown : Type 0 where
+  pub number : ℕ
+  pub state : List ℕ
+  pub words : List ℕ
+  pub past : List ℕ
+
+abbrev pub shown : ℕ → (state words past : List ℕ) → Shown
+shown number state words past = record { number = number; state = state; words = words; past = past }
+
+abbrev pub framedShown : List ℕ → Framed → Shown
+framedShown b r = shown (told (r .answer)) (left (r .answer) b (encoded (r .station))) (r .words) (r .past)
+
+-- `floats` and `ints` are the lengths of the scratches
+unfoldable pub frameShown : (w h : ℕ) → (b words past : List ℕ) → (floats ints : ℕ) → Shown
+frameShown w h b words past floats ints = cond (isState b) (framedShown b (frameReply w h (stationIn b) words past floats ints)) (shown damaged b words past)
+
+-- the scratch words that a frame may change: k, or none where it is refused
+abbrev pub freed : (number k : ℕ) → ℕ
+freed number k = cond (eqb number 0) k 0
+
+-- what a frame promises: the number, the state, the framebuffer, the history, and the scratch words that stay
+pub record Frames (w h : ℕ) (b words past : List ℕ) (floats : List Float) (ints : List ℕ) (number : ℕ) (b′ words′ past′ : List ℕ) (floats′ : List Float) (ints′ : List ℕ) : Type 0 where
+  pub replies : shown number b′ words′ past′ ≡ frameShown w h b words past (length floats) (length ints)
+  pub floats-stay : drop (freed number (6 * (h * w))) floats′ ≡ drop (freed number (6 * (h * w))) floats
+  pub ints-stay : drop (freed number (h * w)) ints′ ≡ drop (freed number (h * w)) ints

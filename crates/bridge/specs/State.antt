@@ -1,0 +1,61 @@
+-- A station in the 80 bytes that a host lends: the length of its card, the card followed by zeros to 72 bytes, what is held by four bytes, most significant
+-- first, three zeros. Assumes nothing.
+use Prim.Native.Nat.{ℕ, _+_, _-_, _*_, _/_, _%_}
+use mathlib.Core.Bool.{Bool, true, false, _&&_, cond}
+use mathlib.Core.List.{List, [], _∷_, _++_}
+use lib.Dec.{eqb}
+use lib.ListN.{length, getD, take, drop, replicate}
+use Rattle.passes.specs.Flow.{Held}
+use Rattle.chain.specs.Calls.{hold}
+use Rattle.chain.specs.Card.{accepted, openOf}
+use Rattle.chain.specs.Normal.{goodStation}
+use Rattle.chain.specs.Written.{cardOf}
+use Rattle.chain.specs.declared.reader.Opened.{Opened}
+use Rattle.chain.specs.declared.station.Answer.{Answer}
+use Rattle.chain.specs.declared.station.Answer.the-variants.{Accepted, Refused}
+use Rattle.chain.specs.declared.station.Station.{Station}
+
+-- ## From a station to bytes
+
+abbrev pub padded : List ℕ → List ℕ
+padded card = card ++ replicate (72 - length card) 0
+
+abbrev pub heldBytes : Held → List ℕ
+heldBytes held = held / 16777216 % 256 ∷ held / 65536 % 256 ∷ held / 256 % 256 ∷ held % 256 ∷ []
+
+abbrev pub laid : Station → List ℕ
+laid s = length (cardOf s) ∷ padded (cardOf s) ++ heldBytes (s .held) ++ replicate 3 0
+
+-- a bad station is all zeros, which are no state: no card is empty
+unfoldable pub encoded : Station → List ℕ
+encoded s = cond (goodStation s) (laid s) (replicate 80 0)
+
+-- ## From bytes to a station
+
+abbrev pub cardIn : List ℕ → List ℕ
+cardIn b = take (getD b 0 0) (drop 1 b)
+
+abbrev pub heldIn : List ℕ → Held
+heldIn b = ((getD b 73 0 * 256 + getD b 74 0) * 256 + getD b 75 0) * 256 + getD b 76 0
+
+abbrev pub stationIn : List ℕ → Station
+stationIn b = hold (heldIn b) (openOf (cardIn b) .station)
+
+abbrev pub isAccepted : Answer → Bool
+isAccepted Accepted = true
+isAccepted (Refused k) = false
+
+abbrev pub sameBytes : List ℕ → List ℕ → Bool
+sameBytes [] [] = true
+sameBytes [] (y ∷ ys) = false
+sameBytes (x ∷ xs) [] = false
+sameBytes (x ∷ xs) (y ∷ ys) = eqb x y && sameBytes xs ys
+
+-- the card is accepted, and its station with what is held is encoded as these bytes again: so a card that is not normalised, stray bytes and a history that
+-- the chain cannot hold make no state
+unfoldable pub isState : List ℕ → Bool
+isState b = isAccepted (openOf (cardIn b) .answer) && sameBytes (encoded (stationIn b)) b
+
+-- the station of a state, or refusal 13
+unfoldable pub decoded : List ℕ → Opened
+decoded b = cond (isState b) (accepted (stationIn b)) (record { answer = Refused 13; station = stationIn b })

@@ -1,0 +1,159 @@
+// The exported calls. Each answers what the call reports, 0 where it reports nothing, or 256 and the refusal's number.
+ghost use mathlib.Core.Path.{_≡_};
+ghost use Prim.Native.Nat.{_+_};
+ghost use mathlib.Core.Bool.{not};
+ghost use lib.Dec.{eqb};
+ghost use Rattle.chain.specs.Answers.{reported};
+ghost use Rattle.chain.specs.Calls.{reply, resetReply, switchReply, stepReply};
+ghost use Rattle.bridge.specs.Outcomes.{outcome, answered, opening, onState, depthTold, writeTold, writeLeft, Frames};
+use super::state::decode;
+use super::state::encode;
+use chain::pipeline;
+use chain::pipeline::Cycle;
+use chain::reader;
+use chain::station::Answer;
+use chain::station::Station;
+use chain::writer;
+use chain::writer::Written;
+
+// A refusal's number.
+fn refusal(k: u8) -> u32
+    ensures { λ r. ⌜ r ≡ 256 + k ⌝ }
+{
+    256 + k as u32
+}
+
+// Tells the answer, and keeps the station where it is no refusal.
+fn keep(answer: Answer, station: Station, state: &mut [u8; 80]) -> u32
+    ensures { λ r. ⌜ outcome r (now (state .exit)) ≡ answered (now (state .entry)) (reply (reported answer) station) ⌝ }
+{
+    if let Answer::Refused(k) = answer {
+        return refusal(k);
+    }
+    *state = encode(station);
+    0
+}
+
+// The station of a card, written as the state.
+#[no_mangle]
+pub extern "C" fn hedgemallow_open(card: &[u8], state: &mut [u8; 80]) -> u32
+    ensures { λ r. ⌜ outcome r (now (state .exit)) ≡ opening (now (card .entry)) (now (state .entry)) ⌝ }
+{
+    let opened = reader::open(card);
+    let answer = opened.answer;
+    let station = opened.station;
+    keep(answer, station, state)
+}
+
+// The station's card at the start of the buffer, and its length.
+#[no_mangle]
+pub extern "C" fn hedgemallow_write(state: &[u8; 80], buffer: &mut [u8]) -> u32
+    ensures { λ r. ⌜ (r ≡ writeTold (now (state .entry)) (now (buffer .entry))) × (now (buffer .exit) ≡ writeLeft (now (state .entry)) (now (buffer .entry))) ⌝ }
+{
+    let opened = decode(*state);
+    let answer = opened.answer;
+    let station = opened.station;
+    if let Answer::Refused(k) = answer {
+        return refusal(k);
+    }
+    match writer::write(station, buffer) {
+        Written::Length(n) => n as u32,
+        Written::Refused(k) => refusal(k),
+    }
+}
+
+// A frame.
+#[no_mangle]
+pub extern "C" fn hedgemallow_apply(
+    state: &mut [u8; 80],
+    framebuffer: &mut [u32],
+    width: usize,
+    height: usize,
+    history: &mut [u32],
+    floats: &mut [f32],
+    ints: &mut [u32],
+) -> u32
+    ensures { λ r. ⌜ Frames width height (now (state .entry)) (now (framebuffer .entry)) (now (history .entry)) (now (floats .entry)) (now (ints .entry)) r (now (state .exit)) (now (framebuffer .exit)) (now (history .exit)) (now (floats .exit)) (now (ints .exit)) ⌝ }
+{
+    let opened = decode(*state);
+    let answer = opened.answer;
+    let station = opened.station;
+    if let Answer::Refused(k) = answer {
+        return refusal(k);
+    }
+    let called = pipeline::apply(station, framebuffer, width, height, history, floats, ints);
+    let told = called.answer;
+    let after = called.station;
+    keep(told, after, state)
+}
+
+// Forgets what the history holds.
+#[no_mangle]
+pub extern "C" fn hedgemallow_reset(state: &mut [u8; 80]) -> u32
+    ensures { λ r. ⌜ outcome r (now (state .exit)) ≡ onState resetReply (now (state .entry)) ⌝ }
+{
+    let opened = decode(*state);
+    let answer = opened.answer;
+    let station = opened.station;
+    if let Answer::Refused(k) = answer {
+        return refusal(k);
+    }
+    let called = pipeline::reset(station);
+    let told = called.answer;
+    let after = called.station;
+    keep(told, after, state)
+}
+
+// Switches the pass of that kind: 0 is off, any other number on.
+#[no_mangle]
+pub extern "C" fn hedgemallow_set_enabled(state: &mut [u8; 80], kind: u8, on: u8) -> u32
+    ensures { λ r. ⌜ outcome r (now (state .exit)) ≡ onState (switchReply kind (not (eqb on 0))) (now (state .entry)) ⌝ }
+{
+    let opened = decode(*state);
+    let answer = opened.answer;
+    let station = opened.station;
+    if let Answer::Refused(k) = answer {
+        return refusal(k);
+    }
+    let called = pipeline::set_enabled(station, kind, on != 0);
+    let told = called.answer;
+    let after = called.station;
+    keep(told, after, state)
+}
+
+// Steps the LUT to its next preset, and reports it.
+#[no_mangle]
+pub extern "C" fn hedgemallow_cycle_lut(state: &mut [u8; 80]) -> u32
+    ensures { λ r. ⌜ outcome r (now (state .exit)) ≡ onState stepReply (now (state .entry)) ⌝ }
+{
+    let opened = decode(*state);
+    let answer = opened.answer;
+    let station = opened.station;
+    if let Answer::Refused(k) = answer {
+        return refusal(k);
+    }
+    let cycled = pipeline::cycle_lut(station);
+    let told = cycled.answer;
+    let after = cycled.station;
+    match told {
+        Cycle::Preset(p) => {
+            *state = encode(after);
+            p as u32
+        }
+        Cycle::Refused(k) => refusal(k),
+    }
+}
+
+// Document 01's K, for sizing the history.
+#[no_mangle]
+pub extern "C" fn hedgemallow_depth(state: &[u8; 80]) -> u32
+    ensures { λ r. ⌜ r ≡ depthTold (now (state .entry)) ⌝ }
+{
+    let opened = decode(*state);
+    let answer = opened.answer;
+    let station = opened.station;
+    if let Answer::Refused(k) = answer {
+        return refusal(k);
+    }
+    pipeline::places(station) as u32
+}

@@ -1,0 +1,96 @@
+// The station in the 80 bytes that a host lends: written, and read back where they are a state.
+ghost use mathlib.Core.Path.{_≡_};
+ghost use Prim.Native.Nat.{_*_, _+_, _≤_, min};
+ghost use Rattle.bridge.specs.State.{heldIn, encoded, sameBytes, decoded};
+use chain::reader::Opened;
+use chain::reader::open;
+use chain::station::Answer;
+use chain::station::Station;
+use chain::writer::Written;
+use chain::writer::write;
+
+fn wide(byte: u8) -> u32
+    ensures { λ r. ⌜ (r ≡ byte) × (r ≤ 255) ⌝ }
+{
+    byte as u32
+}
+
+// What is held, from its four bytes.
+fn held_in(state: [u8; 80]) -> u32
+    ensures { λ r. ⌜ r ≡ heldIn state ⌝ }
+{
+    let a = wide(state[73]);
+    let b = wide(state[74]);
+    let c = wide(state[75]);
+    let d = wide(state[76]);
+    ((a * 256 + b) * 256 + c) * 256 + d
+}
+
+// The bytes of a station; zeros where the chain does not write it.
+pub(crate) fn encode(station: Station) -> [u8; 80]
+    ensures { λ r. ⌜ r ≡ encoded station ⌝ }
+{
+    let mut state = [0u8; 80];
+    let written = write(station, &mut state[1..73]);
+    let Written::Length(n) = written else {
+        return state;
+    };
+    let held = station.held;
+    state[0] = n as u8;
+    state[73] = (held / 16777216 % 256) as u8;
+    state[74] = (held / 65536 % 256) as u8;
+    state[75] = (held / 256 % 256) as u8;
+    state[76] = (held % 256) as u8;
+    state
+}
+
+fn same(xs: [u8; 80], ys: [u8; 80]) -> bool
+    ensures { λ r. ⌜ r ≡ sameBytes xs ys ⌝ }
+{
+    let mut i: usize = 0;
+    while i < 80 {
+        if xs[i] != ys[i] {
+            return false;
+        }
+        i += 1;
+    }
+    true
+}
+
+// Where the card in the bytes ends: no more than they are, whatever the length byte says.
+fn card_end(length: u8) -> usize
+    ensures { λ r. ⌜ r ≡ 1 + min length 79 ⌝ }
+{
+    if length < 79 {
+        return 1 + length as usize;
+    }
+    80
+}
+
+// The station in the bytes, or refusal 13.
+pub(crate) fn decode(state: [u8; 80]) -> Opened
+    ensures { λ r. ⌜ r ≡ decoded state ⌝ }
+{
+    let end = card_end(state[0]);
+    let opened = open(&state[1..end]);
+    let answer = opened.answer;
+    let inside = opened.station;
+    let records = inside.records;
+    let n = inside.n;
+    let held = held_in(state);
+    let station = Station { records, n, held };
+    let damaged = Opened {
+        answer: Answer::Refused(13),
+        station,
+    };
+    if let Answer::Refused(_) = answer {
+        return damaged;
+    }
+    if !same(encode(station), state) {
+        return damaged;
+    }
+    Opened {
+        answer: Answer::Accepted,
+        station,
+    }
+}
