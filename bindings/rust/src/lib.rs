@@ -1,0 +1,301 @@
+//! Safe calls of the library `bridge`, whose functions include/hedgemallow.h declares and describes.
+//! Nothing here panics, allocates or needs another crate.
+
+use std::fmt;
+
+/// The exports, in a module of their own so that the methods may bear short names.
+mod exports {
+    #[link(name = "bridge", kind = "static")]
+    extern "C" {
+        pub fn hedgemallow_open(card: *const u8, card_len: usize, state: *mut u8) -> u32;
+        pub fn hedgemallow_write(state: *const u8, buffer: *mut u8, buffer_len: usize) -> u32;
+        pub fn hedgemallow_apply(
+            state: *mut u8,
+            framebuffer: *mut u32,
+            framebuffer_len: usize,
+            width: usize,
+            height: usize,
+            history: *mut u32,
+            history_len: usize,
+            floats: *mut f32,
+            floats_len: usize,
+            ints: *mut u32,
+            ints_len: usize,
+        ) -> u32;
+        pub fn hedgemallow_reset(state: *mut u8) -> u32;
+        pub fn hedgemallow_set_enabled(state: *mut u8, kind: u8, on: u8) -> u32;
+        pub fn hedgemallow_cycle_lut(state: *mut u8) -> u32;
+        pub fn hedgemallow_depth(state: *const u8) -> u32;
+    }
+}
+
+/// Why a call was refused, in the words of document 01.
+#[derive(Clone, Copy, Debug, PartialEq, Eq)]
+pub enum Refusal {
+    TornCard,
+    ForeignCard,
+    OverfullCard,
+    UnknownPass,
+    DoubledPass,
+    BadSetting,
+    LongCard,
+    BadSize,
+    ShortFrame,
+    ShortHistory,
+    ShortScratch,
+    NotInChain,
+    BadStation,
+    ShortCardBuffer,
+    /// A number that this library does not give: one of a later table.
+    Other(u32),
+}
+
+use Refusal::*;
+
+/// By number, from 1 on, with the paper's words.
+const REFUSALS: [(Refusal, &str); 14] = [
+    (TornCard, "torn card"),
+    (ForeignCard, "foreign card"),
+    (OverfullCard, "overfull card"),
+    (UnknownPass, "unknown pass"),
+    (DoubledPass, "doubled pass"),
+    (BadSetting, "bad setting"),
+    (LongCard, "long card"),
+    (BadSize, "bad size"),
+    (ShortFrame, "short frame"),
+    (ShortHistory, "short history"),
+    (ShortScratch, "short scratch"),
+    (NotInChain, "not in chain"),
+    (BadStation, "bad station"),
+    (ShortCardBuffer, "short card buffer"),
+];
+
+impl Refusal {
+    fn from_number(number: u32) -> Refusal {
+        let place = (number as usize).wrapping_sub(1);
+        REFUSALS.get(place).map_or(Other(number), |r| r.0)
+    }
+
+    /// The number of document 01's table.
+    pub fn number(self) -> u32 {
+        match self {
+            Other(number) => number,
+            known => REFUSALS.iter().position(|r| r.0 == known).map_or(0, |place| place as u32 + 1),
+        }
+    }
+}
+
+impl fmt::Display for Refusal {
+    fn fmt(&self, f: &mut fmt::Formatter) -> fmt::Result {
+        match REFUSALS.iter().find(|r| r.0 == *self) {
+            Some(known) => f.write_str(known.1),
+            None => write!(f, "refusal {}", self.number()),
+        }
+    }
+}
+
+impl std::error::Error for Refusal {}
+
+/// What an answer reports, or why it is a refusal.
+fn report(answer: u32) -> Result<u32, Refusal> {
+    match answer.checked_sub(256) {
+        Some(number) => Err(Refusal::from_number(number)),
+        None => Ok(answer),
+    }
+}
+
+/// A station, as the 80 bytes of its state.
+#[derive(Clone, Copy, Debug, PartialEq, Eq, Hash)]
+pub struct Station {
+    state: [u8; 80],
+}
+
+// The calls below hand out pointers of references, so each is valid for its length, aligned, not
+// null, and no two overlap where one of them is written through: all that the exports ask for.
+impl Station {
+    /// The station of a card.
+    pub fn open(card: &[u8]) -> Result<Station, Refusal> {
+        let mut state = [0; 80];
+        report(unsafe { exports::hedgemallow_open(card.as_ptr(), card.len(), state.as_mut_ptr()) })?;
+        Ok(Station { state })
+    }
+
+    /// The station of bytes that were stored.
+    pub fn from_bytes(state: [u8; 80]) -> Result<Station, Refusal> {
+        let station = Station { state };
+        station.depth().map(|_| station)
+    }
+
+    pub fn as_bytes(&self) -> &[u8; 80] {
+        &self.state
+    }
+
+    /// The normalised card at the start of the buffer, and its length: 72 bytes at most.
+    pub fn write(&self, buffer: &mut [u8]) -> Result<usize, Refusal> {
+        let (to, len) = (buffer.as_mut_ptr(), buffer.len());
+        report(unsafe { exports::hedgemallow_write(self.state.as_ptr(), to, len) }).map(|n| n as usize)
+    }
+
+    /// A frame: the passes that are on, over the first width * height words of the framebuffer.
+    pub fn apply(
+        &mut self,
+        framebuffer: &mut [u32],
+        width: usize,
+        height: usize,
+        history: &mut [u32],
+        floats: &mut [f32],
+        ints: &mut [u32],
+    ) -> Result<(), Refusal> {
+        let answer = unsafe {
+            exports::hedgemallow_apply(
+                self.state.as_mut_ptr(),
+                framebuffer.as_mut_ptr(),
+                framebuffer.len(),
+                width,
+                height,
+                history.as_mut_ptr(),
+                history.len(),
+                floats.as_mut_ptr(),
+                floats.len(),
+                ints.as_mut_ptr(),
+                ints.len(),
+            )
+        };
+        report(answer).map(|_| ())
+    }
+
+    /// Forgets what the history holds.
+    pub fn reset(&mut self) -> Result<(), Refusal> {
+        report(unsafe { exports::hedgemallow_reset(self.state.as_mut_ptr()) }).map(|_| ())
+    }
+
+    /// Switches the pass of that kind.
+    pub fn set_enabled(&mut self, kind: u8, on: bool) -> Result<(), Refusal> {
+        let state = self.state.as_mut_ptr();
+        report(unsafe { exports::hedgemallow_set_enabled(state, kind, on as u8) }).map(|_| ())
+    }
+
+    /// Steps the LUT to its next preset, and reports it.
+    pub fn cycle_lut(&mut self) -> Result<u8, Refusal> {
+        report(unsafe { exports::hedgemallow_cycle_lut(self.state.as_mut_ptr()) }).map(|p| p as u8)
+    }
+
+    /// How many older frames the history has room for.
+    pub fn depth(&self) -> Result<usize, Refusal> {
+        report(unsafe { exports::hedgemallow_depth(self.state.as_ptr()) }).map(|k| k as usize)
+    }
+}
+
+/// The words of a frame; a side of 0 or above 1024 is a bad size.
+fn count(width: usize, height: usize) -> Result<usize, Refusal> {
+    let side = 1..=1024;
+    if side.contains(&width) && side.contains(&height) { Ok(width * height) } else { Err(BadSize) }
+}
+
+/// How many words of history a frame of that size takes.
+pub fn history_words(station: &Station, width: usize, height: usize) -> Result<usize, Refusal> {
+    Ok(station.depth()? * count(width, height)?)
+}
+
+/// How many words of scratch a frame of that size takes.
+#[derive(Clone, Copy, Debug, PartialEq, Eq)]
+pub struct Scratch {
+    pub floats: usize,
+    pub ints: usize,
+}
+
+pub fn scratch_words(width: usize, height: usize) -> Result<Scratch, Refusal> {
+    let ints = count(width, height)?;
+    Ok(Scratch { floats: 6 * ints, ints })
+}
+
+#[cfg(test)]
+mod tests {
+    use super::*;
+
+    /// Persistence 0.5 over 3 frames, LUT preset 1 at 0.75, scanlines 0.5, all on.
+    const CARD: [u8; 17] = [
+        0x13, 0x49, 0xF8, 0x00, 0x00, 0x00, 0x1A, 0xC9, 0xFA, 0x00, 0x00, 0x05, 0x4F, 0xC0, 0x00, 0x00, 0x00,
+    ];
+
+    fn opened() -> Station {
+        Station::open(&CARD).unwrap()
+    }
+
+    #[test]
+    fn refusals_have_the_numbers_and_words_of_the_table() {
+        for (place, (refusal, words)) in (1..).zip(REFUSALS) {
+            assert_eq!((refusal.number(), refusal.to_string()), (place, words.to_string()));
+            assert_eq!(report(256 + place), Err(refusal));
+        }
+        assert_eq!(report(256), Err(Other(0)));
+        assert_eq!(report(u32::MAX), Err(Other(u32::MAX - 256)));
+        assert_eq!(report(255), Ok(255));
+    }
+
+    #[test]
+    fn the_layout_is_the_documented_one() {
+        let mut station = opened();
+        let mut bytes = [0; 80];
+        bytes[0] = 17;
+        bytes[1..18].copy_from_slice(&CARD);
+        assert_eq!(station.as_bytes(), &bytes);
+        station.apply(&mut [0; 600], 30, 20, &mut [0; 1800], &mut [0.0; 3600], &mut [0; 600]).unwrap();
+        bytes[75..77].copy_from_slice(&[2, 88]);
+        assert_eq!(station.as_bytes(), &bytes);
+        station.reset().unwrap();
+        assert_eq!(station, opened());
+    }
+
+    #[test]
+    fn sizes_are_refused_and_never_overflow() {
+        let station = opened();
+        assert_eq!(history_words(&station, 1024, 1024), Ok(3 << 20));
+        assert_eq!(scratch_words(1024, 1), Ok(Scratch { floats: 6144, ints: 1024 }));
+        for (width, height) in [(0, 1), (1, 0), (1025, 1), (1, 1025), (usize::MAX, usize::MAX)] {
+            assert_eq!(history_words(&station, width, height), Err(BadSize));
+            assert_eq!(scratch_words(width, height), Err(BadSize));
+            assert_eq!(opened().apply(&mut [], width, height, &mut [], &mut [], &mut []), Err(BadSize));
+        }
+    }
+
+    #[test]
+    fn an_empty_card_and_an_empty_buffer_are_refused() {
+        assert_eq!(Station::open(&[]), Err(TornCard));
+        assert_eq!(opened().write(&mut []), Err(ShortCardBuffer));
+        assert_eq!(opened().apply(&mut [], 1, 1, &mut [], &mut [], &mut []), Err(ShortFrame));
+    }
+
+    /// Each byte changed to each other value: refused by 13 and left alone by every call, or a state
+    /// that is written as itself again.
+    #[test]
+    fn damaged_states_are_refused_and_stay() {
+        let (good, mut refused) = (*opened().as_bytes(), 0);
+        for place in 0..80 {
+            for change in 1..=255 {
+                let mut bytes = good;
+                bytes[place] ^= change;
+                match Station::from_bytes(bytes) {
+                    Ok(station) => {
+                        let mut card = [0; 72];
+                        let length = station.write(&mut card).unwrap();
+                        assert_eq!((length, &card[..]), (bytes[0] as usize, &bytes[1..73]));
+                    }
+                    Err(refusal) => {
+                        let mut station = Station { state: bytes };
+                        assert_eq!(refusal, BadStation);
+                        assert_eq!(station.write(&mut [0; 72]), Err(BadStation));
+                        assert_eq!(station.reset(), Err(BadStation));
+                        assert_eq!(station.set_enabled(10, false), Err(BadStation));
+                        assert_eq!(station.cycle_lut(), Err(BadStation));
+                        let (mut frame, mut history) = ([7], [7; 3]);
+                        assert_eq!(station.apply(&mut frame, 1, 1, &mut history, &mut [0.0; 6], &mut [0]), Err(BadStation));
+                        assert_eq!((station.state, frame, history), (bytes, [7], [7; 3]));
+                        refused += 1;
+                    }
+                }
+            }
+        }
+        assert!(refused > 10_000, "{refused}");
+    }
+}

@@ -1,0 +1,51 @@
+/* A host in C: opens a card, runs frames and prints a checksum of the last picture. */
+#include <stdio.h>
+#include "hedgemallow.h"
+
+enum { WIDTH = 64, HEIGHT = 48, COUNT = WIDTH * HEIGHT, DEPTH = 8, FRAMES = 6 };
+
+/* Persistence 0.5 over 3 frames, LUT preset 1 at 0.75, scanlines 0.5, all on. */
+static const uint8_t card[] = {0x13, 0x49, 0xF8, 0x00, 0x00, 0x00, 0x1A, 0xC9, 0xFA,
+                               0x00, 0x00, 0x05, 0x4F, 0xC0, 0x00, 0x00, 0x00};
+static uint32_t frame[COUNT], history[DEPTH * COUNT], ints[COUNT];
+static float floats[6 * COUNT];
+
+static void paint(uint32_t number) {
+    for (uint32_t y = 0; y < HEIGHT; y++)
+        for (uint32_t x = 0; x < WIDTH; x++)
+            frame[y * WIDTH + x] = (x * 4) << 16 | (y * 5) << 8 | ((number * 40 + x + y) & 255);
+}
+
+/* FNV-1a over the words' bytes, least significant first. */
+static uint32_t checksum(void) {
+    uint32_t sum = 2166136261u;
+    for (size_t i = 0; i < COUNT; i++)
+        for (int shift = 0; shift < 32; shift += 8)
+            sum = (sum ^ (frame[i] >> shift & 255)) * 16777619u;
+    return sum;
+}
+
+int main(void) {
+    uint8_t state[HEDGEMALLOW_STATE];
+    uint32_t answer = hedgemallow_open(card, sizeof card, state);
+    if (answer >= HEDGEMALLOW_REFUSED) {
+        printf("the card is refused: %u\n", (unsigned)(answer - HEDGEMALLOW_REFUSED));
+        return 1;
+    }
+    uint32_t preset = 0;
+    for (uint32_t number = 0; number < FRAMES; number++) {
+        paint(number);
+        if (number == 3) preset = hedgemallow_cycle_lut(state);
+        if (number == 4) hedgemallow_set_enabled(state, 10, 0);
+        answer = hedgemallow_apply(state, frame, COUNT, WIDTH, HEIGHT, history, hedgemallow_depth(state) * (size_t)COUNT,
+                                   floats, 6 * COUNT, ints, COUNT);
+        if (answer >= HEDGEMALLOW_REFUSED) {
+            printf("the frame is refused: %u\n", (unsigned)(answer - HEDGEMALLOW_REFUSED));
+            return 1;
+        }
+    }
+    uint8_t again[HEDGEMALLOW_CARD];
+    uint32_t length = hedgemallow_write(state, again, sizeof again);
+    printf("frames %d, preset %u, card %u bytes, picture %08X\n", FRAMES, (unsigned)preset, (unsigned)length, (unsigned)checksum());
+    return 0;
+}

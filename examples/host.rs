@@ -1,0 +1,55 @@
+//! A host in Rust: opens a card, runs frames and prints a checksum of the last picture.
+
+use hedgemallow::{history_words, scratch_words, Refusal, Station};
+
+const WIDTH: usize = 64;
+const HEIGHT: usize = 48;
+const FRAMES: u32 = 6;
+
+/// Persistence 0.5 over 3 frames, LUT preset 1 at 0.75, scanlines 0.5, all on.
+const CARD: [u8; 17] = [
+    0x13, 0x49, 0xF8, 0x00, 0x00, 0x00, 0x1A, 0xC9, 0xFA, 0x00, 0x00, 0x05, 0x4F, 0xC0, 0x00, 0x00, 0x00,
+];
+
+fn paint(frame: &mut [u32], number: u32) {
+    for (y, row) in (0..).zip(frame.chunks_mut(WIDTH)) {
+        for (x, word) in (0..).zip(row) {
+            *word = (x * 4) << 16 | (y * 5) << 8 | ((number * 40 + x + y) & 255);
+        }
+    }
+}
+
+/// FNV-1a over the words' bytes, least significant first.
+fn checksum(frame: &[u32]) -> u32 {
+    let bytes = frame.iter().flat_map(|word| word.to_le_bytes());
+    bytes.fold(2166136261, |sum, byte| (sum ^ u32::from(byte)).wrapping_mul(16777619))
+}
+
+fn run() -> Result<(), Refusal> {
+    let mut station = Station::open(&CARD)?;
+    let scratch = scratch_words(WIDTH, HEIGHT)?;
+    let mut floats = vec![0.0; scratch.floats];
+    let mut ints = vec![0; scratch.ints];
+    let mut history = vec![0; history_words(&station, WIDTH, HEIGHT)?];
+    let mut frame = vec![0; WIDTH * HEIGHT];
+    let mut preset = 0;
+    for number in 0..FRAMES {
+        paint(&mut frame, number);
+        match number {
+            3 => preset = station.cycle_lut()?,
+            4 => station.set_enabled(10, false)?,
+            _ => {}
+        }
+        station.apply(&mut frame, WIDTH, HEIGHT, &mut history, &mut floats, &mut ints)?;
+    }
+    let length = station.write(&mut [0; 72])?;
+    println!("frames {FRAMES}, preset {preset}, card {length} bytes, picture {:08X}", checksum(&frame));
+    Ok(())
+}
+
+fn main() {
+    if let Err(refusal) = run() {
+        eprintln!("refused: {refusal}");
+        std::process::exit(1);
+    }
+}

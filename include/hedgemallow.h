@@ -1,0 +1,97 @@
+/*
+ * Hedgemallow: a picture chain set by a card. The functions of libbridge.a, for C and C++.
+ *
+ * A station is the chain of passes of one card with their switches and settings, and how much of a
+ * history of older frames it holds. It lives in 80 bytes that the caller owns, the state. Copy
+ * them, store them, compare them: two stations are equal exactly when their states are.
+ *
+ *     byte  0        L, the length of the normalised card, 1 to 72
+ *     bytes 1 to 72  the card, followed by zeros
+ *     bytes 73 to 76 the words of one frame in the history, 0 for none; most significant byte first
+ *     bytes 77 to 79 zero
+ *
+ * Every state is checked on the way in. Bytes that are no state, damaged ones too, are refused by
+ * 13 and never followed. A state that a call returned is never refused by 13.
+ *
+ * Answers: below 256 the call is accepted, and the number is what it reports, or 0. From 256 on it
+ * is refused by the number answer - 256, and every byte and word is as it was before the call.
+ *
+ * Sizes. count is width * height, each side 1 to 1024. A frame takes
+ *     framebuffer  count words, one pixel each, 0x00RRGGBB, row after row
+ *     history      hedgemallow_depth(state) * count words: the same ones at each frame
+ *     floats       6 * count words of scratch, whatever they hold
+ *     ints         count words of scratch, whatever they hold
+ * Longer ones are taken: the words past these are neither read nor changed, except that the length
+ * decides a refusal. The history's words belong to the station between its frames.
+ *
+ * The caller promises, as always in C: a pointer is aligned and not null, as many elements as
+ * its length says are there (80 bytes for a state), and no two arguments of a call overlap. No
+ * function keeps a pointer, allocates, or has state of its own, so calls on different buffers
+ * may run at the same time.
+ */
+#ifndef HEDGEMALLOW_H
+#define HEDGEMALLOW_H
+
+#include <stddef.h>
+#include <stdint.h>
+
+#ifdef __cplusplus
+extern "C" {
+#endif
+
+/* The bytes of a state, and the most that a card has. */
+#define HEDGEMALLOW_STATE 80
+#define HEDGEMALLOW_CARD 72
+
+/* The answer of a refusal is this and the refusal's number. */
+#define HEDGEMALLOW_REFUSED 256
+
+/* The refusals, in the words of document 01. */
+enum hedgemallow_refusal {
+    HEDGEMALLOW_TORN_CARD = 257,         /* 1: a field's bits run past the end */
+    HEDGEMALLOW_FOREIGN_CARD = 258,      /* 2: version not 1 */
+    HEDGEMALLOW_OVERFULL_CARD = 259,     /* 3: more than 10 passes */
+    HEDGEMALLOW_UNKNOWN_PASS = 260,      /* 4: kind 0 or 11 to 15 */
+    HEDGEMALLOW_DOUBLED_PASS = 261,      /* 5: kind already read */
+    HEDGEMALLOW_BAD_SETTING = 262,       /* 6: a setting out of range */
+    HEDGEMALLOW_LONG_CARD = 263,         /* 7: a padding bit set, or a byte left over */
+    HEDGEMALLOW_BAD_SIZE = 264,          /* 8: width or height 0 or above 1024 */
+    HEDGEMALLOW_SHORT_FRAME = 265,       /* 9: framebuffer below count */
+    HEDGEMALLOW_SHORT_HISTORY = 266,     /* 10: history below depth * count, persistence on or off */
+    HEDGEMALLOW_SHORT_SCRATCH = 267,     /* 11: floats below 6 * count, or ints below count */
+    HEDGEMALLOW_NOT_IN_CHAIN = 268,      /* 12: the pass of the call is not in the chain */
+    HEDGEMALLOW_BAD_STATION = 269,       /* 13: the bytes are no state */
+    HEDGEMALLOW_SHORT_CARD_BUFFER = 270  /* 14: fewer bytes than the card */
+};
+
+/* Opens a card: writes the state where the card is accepted. Refusals 1 to 7. */
+uint32_t hedgemallow_open(const uint8_t *card, size_t card_len, uint8_t state[HEDGEMALLOW_STATE]);
+
+/* Writes the normalised card to the start of the buffer, and reports its length, 1 to 72.
+   Refusals 13, 14. */
+uint32_t hedgemallow_write(const uint8_t state[HEDGEMALLOW_STATE], uint8_t *buffer, size_t buffer_len);
+
+/* A frame: the passes that are on, in the card's order, over the first count words of the
+   framebuffer. Refusals 13, 8, 9, 10, 11, in that order. */
+uint32_t hedgemallow_apply(uint8_t state[HEDGEMALLOW_STATE], uint32_t *framebuffer, size_t framebuffer_len,
+                           size_t width, size_t height, uint32_t *history, size_t history_len,
+                           float *floats, size_t floats_len, uint32_t *ints, size_t ints_len);
+
+/* Forgets what the history holds; its words stay. Refusals 13, 12. */
+uint32_t hedgemallow_reset(uint8_t state[HEDGEMALLOW_STATE]);
+
+/* Switches the pass of that kind, 1 to 10: on 0 is off, any other number on. Persistence that is
+   switched off holds nothing. Refusals 13, 12. */
+uint32_t hedgemallow_set_enabled(uint8_t state[HEDGEMALLOW_STATE], uint8_t kind, uint8_t on);
+
+/* Steps the LUT to its next preset, and reports it, 0 to 6. Refusals 13, 12. */
+uint32_t hedgemallow_cycle_lut(uint8_t state[HEDGEMALLOW_STATE]);
+
+/* Reports how many frames of count words the history must have room for, 0 to 8. Refusal 13. */
+uint32_t hedgemallow_depth(const uint8_t state[HEDGEMALLOW_STATE]);
+
+#ifdef __cplusplus
+}
+#endif
+
+#endif
