@@ -49,14 +49,17 @@ build_station() {
     fi
 }
 
-# Proves the library `probe`, writes it for Rust to link, and compiles the program with it and with the original, if there is one.
+# Proves the libraries `probe` and `bridge`, writes them for Rust to link, and compiles the program with them and with the original, if
+# there is one.
 build() {
     mkdir -p target/oracle || return 1
-    if ! rt staticlib probe >target/oracle/staticlib.log 2>&1; then
-        echo "The library was not built. \`rt staticlib probe\` said:" >&2
-        cat target/oracle/staticlib.log >&2
-        return 1
-    fi
+    for library in probe bridge; do
+        if ! rt staticlib "$library" >target/oracle/staticlib.log 2>&1; then
+            echo "The library was not built. \`rt staticlib $library\` said:" >&2
+            cat target/oracle/staticlib.log >&2
+            return 1
+        fi
+    done
     if [ -n "$original" ]; then
         modules >target/oracle/original.rs || return 1
     fi

@@ -1,18 +1,23 @@
 //! The comparison of the number steps with Rust's own, of cards with a reading of document 01, of the
-//! passes with the original's, and of program `station` with recorded answers and with a model of
-//! document 01 over the original's pipeline. Three scripts build and start it from the repository's root:
-//! `oracle/compare`, `oracle/bench` and `oracle/record`. They set `with_original` where they find the original: without
-//! it there are no passes to compare, and no model.
+//! passes with the original's, of program `station` with recorded answers and with a model of document
+//! 01 over the original's pipeline, and of runs of calls with such a model. Three scripts build and start
+//! it from the repository's root: `oracle/compare`, `oracle/bench` and `oracle/record`. They set
+//! `with_original` where they find the original: without it there are no passes to compare, and no model.
 #![cfg_attr(not(with_original), allow(dead_code))]
 
 mod bench;
+#[cfg(with_original)]
+mod bridge;
 mod cards;
 mod constants;
+mod met;
 #[cfg(with_original)]
 mod passes;
 mod patterns;
 mod probe;
 mod random;
+#[cfg(with_original)]
+mod runs;
 mod station;
 mod steps;
 mod tally;
@@ -30,12 +35,16 @@ fn main() -> ExitCode {
         ["bench"] => measure(),
         #[cfg(with_original)]
         ["record", file] => record(Path::new(file)),
+        #[cfg(with_original)]
+        ["runs", "quick"] => only_runs(Mode::Quick),
+        #[cfg(with_original)]
+        ["runs", "full"] => only_runs(Mode::Full),
         ["quick"] => compare(Mode::Quick, None),
         ["full"] => compare(Mode::Full, None),
         ["quick", original] => compare(Mode::Quick, Some(Path::new(original))),
         ["full", original] => compare(Mode::Full, Some(Path::new(original))),
         _ => {
-            eprintln!("expected: bench, record and a file, or quick or full and then the original's folder, if any");
+            eprintln!("expected: bench, record and a file, runs and quick or full, or quick or full and then the original's folder, if any");
             ExitCode::from(2)
         }
     }
@@ -57,7 +66,22 @@ fn compare(mode: Mode, original: Option<&Path>) -> ExitCode {
         return ExitCode::FAILURE;
     }
     #[cfg(with_original)]
-    passes::compare::run(mode, &mut total);
+    {
+        passes::compare::run(mode, &mut total);
+        runs::compare::run(mode, &mut total);
+    }
+    verdict(&total)
+}
+
+/// The runs of calls by themselves.
+#[cfg(with_original)]
+fn only_runs(mode: Mode) -> ExitCode {
+    let mut total = Total::default();
+    runs::compare::run(mode, &mut total);
+    verdict(&total)
+}
+
+fn verdict(total: &Total) -> ExitCode {
     println!("{total}");
     if total.different == 0 && total.unmet == 0 {
         ExitCode::SUCCESS

@@ -426,6 +426,116 @@ impl fmt::Display for ProgramTally {
     }
 }
 
+/// The count of runs of calls on stations.
+pub struct RunTally {
+    name: &'static str,
+    runs: u64,
+    calls: u64,
+    frames: u64,
+    /// Of the pictures, and of the history buffers after each call.
+    words: u64,
+    history: u64,
+    /// By the refusal's number.
+    refused: [u64; 15],
+    different: u64,
+    /// The first few differences, each with the place of its run.
+    shown: Vec<(usize, String)>,
+}
+
+impl RunTally {
+    pub fn new(name: &'static str) -> Self {
+        RunTally {
+            name,
+            runs: 0,
+            calls: 0,
+            frames: 0,
+            words: 0,
+            history: 0,
+            refused: [0; 15],
+            different: 0,
+            shown: Vec::new(),
+        }
+    }
+
+    /// Counts a run.
+    pub fn begin(&mut self) {
+        self.runs += 1;
+    }
+
+    /// Counts a call with what it had to answer, after which so many history words were compared.
+    pub fn called(&mut self, asked: Result<u32, u32>, history: usize) {
+        self.calls += 1;
+        self.history += history as u64;
+        if let Err(number) = asked {
+            self.refused[number as usize] += 1;
+        }
+    }
+
+    /// Counts the picture of an accepted frame.
+    pub fn frame(&mut self, words: usize) {
+        self.frames += 1;
+        self.words += words as u64;
+    }
+
+    /// Counts a difference, which ends its run.
+    #[cold]
+    pub fn differ(&mut self, at: usize, text: impl FnOnce() -> String) {
+        self.different += 1;
+        if self.shown.len() < SHOWN {
+            self.shown.push((at, text()));
+        }
+    }
+
+    /// Adds the count of another thread.
+    pub fn join(&mut self, other: RunTally) {
+        self.runs += other.runs;
+        self.calls += other.calls;
+        self.frames += other.frames;
+        self.words += other.words;
+        self.history += other.history;
+        for (count, more) in self.refused.iter_mut().zip(other.refused) {
+            *count += more;
+        }
+        self.different += other.different;
+        self.shown.extend(other.shown);
+        self.shown.sort_by_key(|&(at, _)| at);
+        self.shown.truncate(SHOWN);
+    }
+}
+
+impl fmt::Display for RunTally {
+    fn fmt(&self, f: &mut fmt::Formatter) -> fmt::Result {
+        let RunTally {
+            name,
+            runs,
+            calls,
+            frames,
+            words,
+            history,
+            refused,
+            different,
+            shown,
+        } = self;
+        write!(
+            f,
+            "{name}: {runs} runs of {calls} calls, {frames} frames of {words} words"
+        )?;
+        if *history > 0 {
+            write!(f, " and {history} history words")?;
+        }
+        writeln!(f, " compared, {different} different")?;
+        write!(f, "    refused")?;
+        for (number, count) in refused.iter().enumerate().filter(|(_, &count)| count > 0) {
+            write!(f, " {number}: {count}")?;
+        }
+        writeln!(f)?;
+        for (_, text) in shown {
+            writeln!(f, "    different at {text}")?;
+        }
+        Ok(())
+    }
+}
+
 /// The count over all steps, cards, passes and inputs of the program.
 #[derive(Default)]
 pub struct Total {
@@ -434,6 +544,7 @@ pub struct Total {
     frames: u64,
     words: u64,
     inputs: u64,
+    calls: u64,
     pub different: u64,
     /// What a comparison was to meet and did not.
     pub unmet: u64,
@@ -461,6 +572,15 @@ impl Total {
         self.different += tally.different;
     }
 
+    /// Prints the count of runs and adds it.
+    pub fn add_runs(&mut self, tally: &RunTally) {
+        print!("{tally}");
+        self.calls += tally.calls;
+        self.frames += tally.frames;
+        self.words += tally.words;
+        self.different += tally.different;
+    }
+
     /// Prints a pass's count and adds it.
     pub fn add_frames(&mut self, tally: &FrameTally) {
         print!("{tally}");
@@ -478,12 +598,13 @@ impl fmt::Display for Total {
             frames,
             words,
             inputs,
+            calls,
             different,
             unmet,
         } = self;
         write!(f, "{compared} values, {cards} cards")?;
         if *frames > 0 {
-            write!(f, ", {frames} frames of {words} words")?;
+            write!(f, ", {frames} frames of {words} words, {calls} calls")?;
         }
         write!(
             f,

@@ -56,7 +56,7 @@ pub fn good(random: &mut Random) -> Vec<u8> {
 }
 
 /// Kinds in any order, each at most once.
-fn chain(random: &mut Random) -> Vec<u32> {
+pub fn chain(random: &mut Random) -> Vec<u32> {
     let mut kinds: Vec<u32> = (1..=10).collect();
     for place in (1..kinds.len()).rev() {
         kinds.swap(place, random.below(place + 1));
@@ -82,7 +82,7 @@ fn written(kinds: &[u32], random: &mut Random, odd: fn(&mut Random) -> bool) -> 
 }
 
 /// The bits in bytes, with zero bits to the last byte's end.
-fn bytes(bits: &[bool]) -> Vec<u8> {
+pub fn bytes(bits: &[bool]) -> Vec<u8> {
     let byte = |eight: &[bool]| {
         let bits = (0..8).map(|place| eight.get(place).copied().unwrap_or_default());
         bits.fold(0, |b, bit| b << 1 | u8::from(bit))

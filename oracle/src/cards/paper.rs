@@ -4,10 +4,12 @@
 pub type Number = u32;
 
 /// A card once it is opened.
+#[derive(Clone)]
 pub struct Opened {
     pub records: Vec<Record>,
 }
 
+#[derive(Clone)]
 pub struct Record {
     pub kind: u32,
     pub on: bool,

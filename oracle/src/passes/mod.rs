@@ -2,6 +2,7 @@
 
 pub mod bench;
 mod cases;
+pub mod chain;
 pub mod compare;
 pub mod frames;
 // Written by oracle/build.sh: a module for each of the original's files.
@@ -11,5 +12,5 @@ pub mod frames;
 pub mod original;
 mod room;
 mod runs;
-mod settings;
+pub mod settings;
 pub mod table;

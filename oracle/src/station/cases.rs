@@ -1,7 +1,7 @@
 //! What may happen at the card or at an event of an input. A comparison that does not meet all of it
 //! has failed.
 
-use std::fmt;
+use crate::met::Listed;
 
 #[derive(Clone, Copy, PartialEq, Debug)]
 pub enum Case {
@@ -46,81 +46,45 @@ pub enum Case {
     StepAbsent,
 }
 
-/// All that the program can meet. Refusals 9, 10, 11 and 13 are not among them: each frame is lent its own
-/// words and 8 x 1,024 history words, 6 x 1,024 and 1,024 scratch words, which are enough for every frame
-/// of up to 32 by 32, and a station comes from a card and from calls alone. Nor is 14: no card is written.
-pub const ALL: [Case; 35] = [
-    Case::NoLength,
-    Case::CutCard,
-    Case::CardRefused(1),
-    Case::CardRefused(2),
-    Case::CardRefused(3),
-    Case::CardRefused(4),
-    Case::CardRefused(5),
-    Case::CardRefused(6),
-    Case::CardRefused(7),
-    Case::CardTaken,
-    Case::End,
-    Case::UnknownLetter,
-    Case::CutSize,
-    Case::CutSizeBadWidth,
-    Case::CutPixels,
-    Case::CutSwitch,
-    Case::BadSize,
-    Case::SwitchByte,
-    Case::Frame,
-    Case::Refill,
-    Case::Blend,
-    Case::BlendTurned,
-    Case::Reset,
-    Case::ResetHeld,
-    Case::ResetAbsent,
-    Case::Switch(false, false),
-    Case::Switch(false, true),
-    Case::Switch(true, false),
-    Case::Switch(true, true),
-    Case::Forget,
-    Case::SwitchAbsent,
-    Case::SwitchUnknown,
-    Case::Step,
-    Case::StepRound,
-    Case::StepAbsent,
-];
-
-/// How often each was met.
-pub struct Met([u64; ALL.len()]);
-
-impl Met {
-    pub fn new() -> Self {
-        Met([0; ALL.len()])
-    }
-
-    pub fn note(&mut self, case: Case) {
-        let place = ALL.iter().position(|&other| other == case);
-        self.0[place.unwrap_or_else(|| panic!("{case:?} is not listed"))] += 1;
-    }
-
-    pub fn join(&mut self, other: &Met) {
-        for (count, more) in self.0.iter_mut().zip(other.0) {
-            *count += more;
-        }
-    }
-
-    /// Those that were not met.
-    pub fn missing(&self) -> impl Iterator<Item = Case> + '_ {
-        let counts = ALL.into_iter().zip(self.0);
-        counts
-            .filter(|&(_, count)| count == 0)
-            .map(|(case, _)| case)
-    }
-}
-
-impl fmt::Display for Met {
-    fn fmt(&self, f: &mut fmt::Formatter) -> fmt::Result {
-        for (place, (case, count)) in ALL.iter().zip(self.0).enumerate() {
-            let before = if place == 0 { "" } else { ", " };
-            write!(f, "{before}{case:?} {count}")?;
-        }
-        Ok(())
-    }
+impl Listed for Case {
+    /// All that the program can meet. Refusals 9, 10, 11 and 13 are not among them: each frame is lent its own
+    /// words and 8 x 1,024 history words, 6 x 1,024 and 1,024 scratch words, which are enough for every frame
+    /// of up to 32 by 32, and a station comes from a card and from calls alone. Nor is 14: no card is written.
+    const ALL: &'static [Case] = &[
+        Case::NoLength,
+        Case::CutCard,
+        Case::CardRefused(1),
+        Case::CardRefused(2),
+        Case::CardRefused(3),
+        Case::CardRefused(4),
+        Case::CardRefused(5),
+        Case::CardRefused(6),
+        Case::CardRefused(7),
+        Case::CardTaken,
+        Case::End,
+        Case::UnknownLetter,
+        Case::CutSize,
+        Case::CutSizeBadWidth,
+        Case::CutPixels,
+        Case::CutSwitch,
+        Case::BadSize,
+        Case::SwitchByte,
+        Case::Frame,
+        Case::Refill,
+        Case::Blend,
+        Case::BlendTurned,
+        Case::Reset,
+        Case::ResetHeld,
+        Case::ResetAbsent,
+        Case::Switch(false, false),
+        Case::Switch(false, true),
+        Case::Switch(true, false),
+        Case::Switch(true, true),
+        Case::Forget,
+        Case::SwitchAbsent,
+        Case::SwitchUnknown,
+        Case::Step,
+        Case::StepRound,
+        Case::StepAbsent,
+    ];
 }

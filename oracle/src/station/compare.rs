@@ -16,7 +16,7 @@ pub fn run(mode: Mode, total: &mut Total) -> Result<(), String> {
         // The model is held to the same answers.
         #[cfg(with_original)]
         {
-            let model = super::model::run(&case.input, &mut super::cases::Met::new());
+            let model = super::model::run(&case.input, &mut crate::met::Met::new());
             let what = || format!("'{}', by the model", case.title);
             tally.compare(at, &case.input, &model, &case.output, what);
         }
@@ -35,8 +35,9 @@ mod generated {
     use std::sync::atomic::{AtomicUsize, Ordering};
     use std::thread;
 
-    use super::super::cases::Met;
+    use super::super::cases::Case;
     use super::super::{inputs, model, process};
+    use crate::met::Met;
     use crate::random::Random;
     use crate::steps::{Mode, THREADS};
     use crate::tally::{ProgramTally, Total};
@@ -66,16 +67,12 @@ mod generated {
             met.join(&more);
         }
         total.add_programs(&tally);
-        println!("    met: {met}");
-        for case in met.missing() {
-            println!("    not met: {case:?}");
-            total.unmet += 1;
-        }
+        total.unmet += met.report();
         Ok(())
     }
 
     /// Takes input after input.
-    fn share(seeds: &[u64], next: &AtomicUsize) -> io::Result<(ProgramTally, Met)> {
+    fn share(seeds: &[u64], next: &AtomicUsize) -> io::Result<(ProgramTally, Met<Case>)> {
         let mut tally = ProgramTally::new("station");
         let mut met = Met::new();
         loop {

@@ -3,28 +3,14 @@
 //! refused; the card's on bit decides, also for the CRT; a reset, which the original's pipeline cannot
 //! reach, builds the effects anew, with their present switches and preset.
 
-use super::cases::{Case, Met};
+use super::cases::Case;
 use crate::cards::paper::{self, Record, Value};
-use crate::passes::original::auto_gradient::AutoGradient;
-use crate::passes::original::bloom::Bloom;
-use crate::passes::original::color_correction::ColorCorrection;
-use crate::passes::original::crt::Crt;
-use crate::passes::original::curvature::Curvature;
-use crate::passes::original::effect::PostProcessEffect;
-use crate::passes::original::lut::Lut;
-use crate::passes::original::ntsc::Ntsc;
-use crate::passes::original::persistence::Persistence;
+use crate::met::Met;
+use crate::passes::chain::{built, name, preset, LUT, PERSISTENCE};
 use crate::passes::original::pipeline::PostProcessPipeline;
-use crate::passes::original::scanlines::Scanlines;
-use crate::passes::original::vignette::Vignette;
-use crate::passes::table::PRESETS;
-
-/// The kinds that calls look for.
-const PERSISTENCE: u32 = 4;
-const LUT: u32 = 5;
 
 /// What is printed for an input. `met` is told what happened.
-pub fn run(input: &[u8], met: &mut Met) -> Vec<u8> {
+pub fn run(input: &[u8], met: &mut Met<Case>) -> Vec<u8> {
     let mut printed = Printed(String::new());
     // The paper's program prints a line before it ends: that is the error.
     if let Err(number) = play(input, &mut printed, met, |_, _| {}) {
@@ -68,7 +54,7 @@ impl Printed {
 fn play(
     input: &[u8],
     printed: &mut Printed,
-    met: &mut Met,
+    met: &mut Met<Case>,
     mut each: impl FnMut(usize, &Printed),
 ) -> Result<(), u32> {
     let Some((&length, rest)) = input.split_first() else {
@@ -132,7 +118,7 @@ impl Station {
         &mut self,
         bytes: &'a [u8],
         printed: &mut Printed,
-        met: &mut Met,
+        met: &mut Met<Case>,
     ) -> Result<&'a [u8], u32> {
         let fine = |side: u8| (1..=32).contains(&side);
         let [width, height, rest @ ..] = bytes else {
@@ -178,7 +164,7 @@ impl Station {
         }
     }
 
-    fn reset(&mut self, printed: &mut Printed, met: &mut Met) {
+    fn reset(&mut self, printed: &mut Printed, met: &mut Met<Case>) {
         if self.place(PERSISTENCE).is_none() {
             met.note(Case::ResetAbsent);
             return printed.refusal(12);
@@ -198,7 +184,7 @@ impl Station {
         &mut self,
         bytes: &'a [u8],
         printed: &mut Printed,
-        met: &mut Met,
+        met: &mut Met<Case>,
     ) -> Result<&'a [u8], u32> {
         let [kind, position, rest @ ..] = bytes else {
             met.note(Case::CutSwitch);
@@ -231,16 +217,13 @@ impl Station {
         Ok(rest)
     }
 
-    fn step(&mut self, printed: &mut Printed, met: &mut Met) {
+    fn step(&mut self, printed: &mut Printed, met: &mut Met<Case>) {
         let Some(place) = self.place(LUT) else {
             met.note(Case::StepAbsent);
             return printed.refusal(12);
         };
         self.pipeline.cycle_lut();
-        // The original tells its preset by a label alone.
-        let label = self.pipeline.lut_label();
-        let preset = LABELS.iter().position(|&other| Some(other) == label);
-        let preset = preset.expect("the original has a label for each preset") as u32;
+        let preset = preset(&self.pipeline);
         met.note(if preset == 0 {
             Case::StepRound
         } else {
@@ -249,75 +232,4 @@ impl Station {
         self.records[place].settings[0] = Value::Whole(preset, 3);
         printed.line(&format!("L {preset}"));
     }
-}
-
-/// What the original calls an effect.
-fn name(kind: u32) -> &'static str {
-    match kind {
-        1 => "ntsc",
-        2 => "bloom",
-        3 => "auto_gradient",
-        4 => "persistence",
-        5 => "lut",
-        6 => "curvature",
-        7 => "color_correction",
-        8 => "crt",
-        9 => "vignette",
-        10 => "scanlines",
-        _ => panic!("there is no kind {kind}"),
-    }
-}
-
-/// In the order of the enum.
-const LABELS: [&str; 7] = [
-    "IDENTITY",
-    "WARM CRT",
-    "COOL CRT",
-    "COMPOSITE",
-    "GAME BOY",
-    "AMBER",
-    "HIGH CONTRAST",
-];
-
-/// The original's effects, each by its `new` and switched as its record says.
-fn built(records: &[Record]) -> PostProcessPipeline {
-    let mut pipeline = PostProcessPipeline::new();
-    for record in records {
-        let float = |place: usize| match record.settings[place] {
-            Value::Float(x) => x,
-            Value::Whole(..) => panic!("setting {place} is no float"),
-        };
-        let whole = |place: usize| match record.settings[place] {
-            Value::Whole(n, _) => n as usize,
-            Value::Float(_) => panic!("setting {place} is a float"),
-        };
-        let on = record.on;
-        let to = &mut pipeline;
-        match record.kind {
-            1 => add(to, Ntsc::new(float(0), whole(1)), on),
-            2 => add(to, Bloom::new(whole(0) as u8, float(1), whole(2)), on),
-            3 => add(to, AutoGradient::new(float(0), float(1), float(2)), on),
-            4 => add(to, Persistence::new(float(0), whole(1)), on),
-            5 => add(to, Lut::new(PRESETS[whole(0)], float(1)), on),
-            6 => add(to, Curvature::new(float(0)), on),
-            7 => {
-                let effect = ColorCorrection::new(float(0), float(1), float(2), float(3));
-                add(to, effect, on);
-            }
-            8 => add(to, Crt::new(float(0)), on),
-            9 => add(to, Vignette::new(float(0)), on),
-            10 => add(to, Scanlines::new(float(0)), on),
-            kind => panic!("there is no kind {kind}"),
-        }
-    }
-    pipeline
-}
-
-fn add<E: PostProcessEffect + 'static>(
-    pipeline: &mut PostProcessPipeline,
-    mut effect: E,
-    on: bool,
-) {
-    effect.set_enabled(on);
-    pipeline.add(effect);
 }

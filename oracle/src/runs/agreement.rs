@@ -1,0 +1,284 @@
+//! Agreement by trial: two stations from cards that normalise alike, each with its own past and its own
+//! buffers, then one shared list of calls. From the point that document 01 gives, answers, states and pictures
+//! have to be equal; before it they are looked at, since a trial in which nothing can differ shows nothing.
+
+use super::calls::{self, Call, Frame, Sizes};
+use super::cards;
+use super::cases::Point;
+use super::noise::Noise;
+use super::sides::Held;
+use super::station::Station;
+use crate::bridge::{self, Answer, Lent, State};
+use crate::met::Met;
+use crate::passes::chain::PERSISTENCE;
+use crate::random::Random;
+use crate::tally::RunTally;
+
+/// One station of a pair.
+struct Own {
+    state: State,
+    history: Vec<u32>,
+    /// What it has to be: this decides the point.
+    station: Station,
+    sizes: Sizes,
+}
+
+/// What a call gave. The picture is empty where there is none.
+#[derive(PartialEq, Debug)]
+struct Seen {
+    answer: Answer,
+    state: State,
+    picture: Vec<u32>,
+}
+
+/// Whether some picture before the point differed.
+pub fn compare(seed: u64, at: usize, tally: &mut RunTally, met: &mut Met<Point>) -> bool {
+    let random = &mut Random::new(seed);
+    tally.begin();
+    let trial = trial(random, tally, met);
+    trial.unwrap_or_else(|text| {
+        tally.differ(at, || format!("trial {at}, seed {seed:#018x}: {text}"));
+        false
+    })
+}
+
+fn trial(random: &mut Random, tally: &mut RunTally, met: &mut Met<Point>) -> Held<bool> {
+    let (mut a, mut b) = pair(random, met)?;
+    own_list(&mut a, random, tally)?;
+    own_list(&mut b, random, tally)?;
+    if random.one_in(2) {
+        std::mem::swap(&mut a, &mut b);
+    }
+    equalise(&a, &mut b, random, tally)?;
+    if a.station.held != b.station.held {
+        met.note(Point::HeldDiffers);
+    }
+    shared_list(&mut a, &mut b, random, tally, met)
+}
+
+/// Two stations from the same card, spelt differently or alike.
+fn pair(random: &mut Random, met: &mut Met<Point>) -> Held<(Own, Own)> {
+    let card = if random.one_in(8) {
+        cards::card(random)
+    } else {
+        cards::remembering(random)
+    };
+    let station = Station::open(&card).expect("the card is a good one");
+    let other = if random.one_in(4) {
+        card.clone()
+    } else {
+        cards::respelt(&station.opened, random)
+    };
+    if card != other {
+        met.note(Point::Respelt);
+    }
+    let longest = random.choose(&[2, 4, 4, 8, 8, 16, 32]);
+    Ok((
+        own(&card, &station, longest, random)?,
+        own(&other, &station, longest, random)?,
+    ))
+}
+
+fn own(card: &[u8], station: &Station, longest: usize, random: &mut Random) -> Held<Own> {
+    let mut state = [0xa5; 80];
+    let answer = bridge::open(card, &mut state);
+    if (answer, state) != (Ok(0), station.state()) {
+        return Err(format!(
+            "opening {card:02x?}: here {answer:?} and {state:02x?}"
+        ));
+    }
+    // Room for every frame in most cases, and in some not.
+    let most = station.depth().unwrap_or(1) * longest * longest;
+    let words = if random.one_in(8) {
+        random.below(most + 1)
+    } else {
+        most + random.below(100)
+    };
+    Ok(Own {
+        state,
+        history: Noise::any(random.next()).words(words),
+        station: station.clone(),
+        sizes: Sizes::new(longest, &[], random),
+    })
+}
+
+/// Any past, none included.
+fn own_list(own: &mut Own, random: &mut Random, tally: &mut RunTally) -> Held {
+    for _ in 0..random.below(20) {
+        let call = calls::next(&own.station, &mut own.sizes, own.history.len(), random);
+        own.call(&call, random, tally)?;
+    }
+    Ok(())
+}
+
+/// Makes the switches and the preset of `b` those of `a`, in any order of kinds.
+fn equalise(a: &Own, b: &mut Own, random: &mut Random, tally: &mut RunTally) -> Held {
+    for record in a.station.records() {
+        if b.station.is_on(record.kind) != record.on {
+            b.call(
+                &Call::Switch(record.kind as u8, record.on.into()),
+                random,
+                tally,
+            )?;
+        }
+    }
+    while a.station.preset() != b.station.preset() {
+        b.call(&Call::Step, random, tally)?;
+    }
+    Ok(())
+}
+
+/// Where a shared list stands.
+struct Course {
+    /// How many frames persistence has still to take.
+    left: usize,
+    agreed: bool,
+}
+
+impl Course {
+    /// At the start: with persistence off or absent there is nothing to wait for.
+    fn new(station: &Station, met: &mut Met<Point>) -> Self {
+        if !station.has(PERSISTENCE) {
+            met.note(Point::Absent);
+        } else if !station.remembers() {
+            met.note(Point::Off);
+        }
+        Course {
+            left: station.depth().unwrap_or_default(),
+            agreed: !station.remembers(),
+        }
+    }
+
+    /// Before a call on this station: whether the point is reached by it.
+    fn reach(&mut self, station: &Station, call: &Call, met: &mut Met<Point>) {
+        if self.agreed {
+            return;
+        }
+        let point = match call {
+            _ if self.left == 0 => Point::Frames,
+            Call::Reset => Point::Reset,
+            // Persistence is on: this is a switching-off.
+            Call::Switch(kind, 0) if u32::from(*kind) == PERSISTENCE => Point::SwitchedOff,
+            _ => return,
+        };
+        assert!(station.remembers());
+        self.agreed = true;
+        met.note(point);
+    }
+
+    /// After a call, with the station as it was before.
+    fn went(&mut self, station: &Station, call: &Call, answer: Answer, met: &mut Met<Point>) {
+        if self.agreed {
+            return;
+        }
+        match (call, answer) {
+            (Call::Frame(frame), Ok(_)) => {
+                self.left -= 1;
+                if station.held as usize != frame.size.0 * frame.size.1 {
+                    met.note(Point::RefillBefore);
+                }
+            }
+            (_, Err(_)) => met.note(Point::RefusedBefore),
+            _ => {}
+        }
+    }
+}
+
+/// Whether some picture before the point differed.
+fn shared_list(
+    a: &mut Own,
+    b: &mut Own,
+    random: &mut Random,
+    tally: &mut RunTally,
+    met: &mut Met<Point>,
+) -> Held<bool> {
+    let room = a.history.len().min(b.history.len());
+    let mut course = Course::new(&a.station, met);
+    let mut differed = false;
+    for number in 0..random.within(4, 28) {
+        let call = shared_call(a, room, random);
+        course.reach(&a.station, &call, met);
+        let before = a.station.clone();
+        let here = a.call(&call, random, tally)?;
+        let there = b.call(&call, random, tally)?;
+        if course.agreed && here != there {
+            return Err(format!(
+                "call {number} of the shared list, {call}: {here:08x?} and {there:08x?}"
+            ));
+        }
+        differed |= here.picture != there.picture;
+        course.went(&before, &call, here.answer, met);
+    }
+    if !course.agreed {
+        met.note(Point::Never);
+    }
+    Ok(differed)
+}
+
+/// Frames above all: a reset or a switching-off brings the point at once.
+fn shared_call(a: &mut Own, room: usize, random: &mut Random) -> Call {
+    if random.one_in(4) {
+        calls::next(&a.station, &mut a.sizes, room, random)
+    } else {
+        calls::good(&a.station, &mut a.sizes, room, random)
+    }
+}
+
+impl Own {
+    /// Makes a call and holds the answer and the state to the paper's station. What is not the call's own, noise
+    /// in the scratch and past the picture, is another each time.
+    fn call(&mut self, call: &Call, random: &mut Random, tally: &mut RunTally) -> Held<Seen> {
+        let mut picture = Vec::new();
+        let (here, asked) = match call {
+            Call::Frame(frame) => {
+                let asked = self.station.frame(frame.size.0, frame.size.1, &frame.lent);
+                let here = self.frame(frame, random, &mut picture);
+                if asked.is_ok() {
+                    self.station.take(frame.size.0 * frame.size.1);
+                    tally.frame(picture.len());
+                }
+                (here, asked)
+            }
+            Call::Reset => (bridge::reset(&mut self.state), self.station.reset()),
+            Call::Switch(kind, on) => {
+                let asked = self.station.switch(*kind, *on != 0);
+                (bridge::set_enabled(&mut self.state, *kind, *on), asked)
+            }
+            Call::Step => (bridge::cycle_lut(&mut self.state), self.station.step()),
+            Call::Write(_) | Call::Depth => {
+                let asked = self.station.depth().unwrap_or_default() as u32;
+                (bridge::depth(&self.state), Ok(asked))
+            }
+        };
+        tally.called(asked, 0);
+        if (here, self.state) != (asked, self.station.state()) {
+            let Own { state, station, .. } = self;
+            return Err(format!(
+                "{call}: here {here:?} and {state:02x?}, by the model {asked:?} and {:02x?}",
+                station.state()
+            ));
+        }
+        Ok(Seen {
+            answer: here,
+            state: self.state,
+            picture,
+        })
+    }
+
+    fn frame(&mut self, frame: &Frame, random: &mut Random, picture: &mut Vec<u32>) -> Answer {
+        let Frame { size, lent, .. } = frame;
+        let mut words = frame.words(random.next());
+        let buffers = Lent {
+            framebuffer: &mut words,
+            history: &mut self.history[..lent.history],
+            floats: &mut Noise::of(random.next()).floats(lent.floats),
+            ints: &mut Noise::of(random.next()).words(lent.ints),
+        };
+        let answer = bridge::apply(&mut self.state, size.0, size.1, buffers);
+        if answer.is_ok() {
+            words.truncate(size.0 * size.1);
+            *picture = words;
+        }
+        answer
+    }
+}

@@ -1,0 +1,240 @@
+//! The calls of a run, drawn for a station: most of them accepted, with refused ones between.
+
+use std::fmt;
+
+use super::noise::Noise;
+use super::station::{Lengths, Station};
+use crate::passes::chain::PERSISTENCE;
+use crate::passes::frames::Picture;
+use crate::random::Random;
+
+#[derive(Clone)]
+pub enum Call {
+    Frame(Frame),
+    Reset,
+    /// A kind, and a position: 0 is off, any other byte on.
+    Switch(u8, u8),
+    Step,
+    /// Into a buffer of this length.
+    Write(usize),
+    Depth,
+}
+
+#[derive(Clone)]
+pub struct Frame {
+    pub size: (usize, usize),
+    pub picture: Picture,
+    pub lent: Lengths,
+}
+
+impl Frame {
+    /// The framebuffer's words: the picture where it has room for one, and noise.
+    pub fn words(&self, noise: u64) -> Vec<u32> {
+        let (width, height) = self.size;
+        let mut words = Noise::any(noise).words(self.lent.framebuffer);
+        let count = width.checked_mul(height).filter(|&count| count > 0);
+        if let Some(front) = count.and_then(|count| words.get_mut(..count)) {
+            front.copy_from_slice(&self.picture.draw(width, height));
+        }
+        words
+    }
+}
+
+impl fmt::Display for Call {
+    fn fmt(&self, f: &mut fmt::Formatter) -> fmt::Result {
+        match self {
+            Call::Frame(Frame {
+                size,
+                lent,
+                picture,
+            }) => {
+                write!(f, "frame {}x{} {picture}, {lent:?}", size.0, size.1)
+            }
+            Call::Reset => write!(f, "reset"),
+            Call::Switch(kind, on) => write!(f, "switch {kind} {on}"),
+            Call::Step => write!(f, "step"),
+            Call::Write(room) => write!(f, "write {room}"),
+            Call::Depth => write!(f, "depth"),
+        }
+    }
+}
+
+/// Which sizes the frames of a list have.
+pub struct Sizes {
+    /// The longest side of a frame.
+    pub longest: usize,
+    /// Sizes that are taken in place of random ones.
+    pub given: &'static [(usize, usize)],
+    pub last: (usize, usize),
+}
+
+impl Sizes {
+    pub fn new(longest: usize, given: &'static [(usize, usize)], random: &mut Random) -> Self {
+        let mut sizes = Sizes {
+            longest,
+            given,
+            last: (1, 1),
+        };
+        sizes.last = sizes.any(random);
+        sizes
+    }
+
+    /// Mostly that of the last frame, so that a history is met; often turned, or of the same count.
+    pub fn next(&mut self, random: &mut Random) -> (usize, usize) {
+        let (width, height) = self.last;
+        self.last = match random.below(16) {
+            0..9 => self.last,
+            9..11 => (height, width),
+            11..13 => {
+                let count = width * height;
+                let other = random.within(1, self.longest);
+                if count % other == 0 && count / other <= self.longest {
+                    (other, count / other)
+                } else {
+                    self.last
+                }
+            }
+            _ => self.any(random),
+        };
+        self.last
+    }
+
+    fn any(&self, random: &mut Random) -> (usize, usize) {
+        if !self.given.is_empty() {
+            return random.choose(self.given);
+        }
+        let side = |random: &mut Random| match random.below(16) {
+            0 => 1,
+            1 => self.longest,
+            _ => random.within(1, self.longest),
+        };
+        (side(random), side(random))
+    }
+}
+
+/// How many words at most are lent past a limit.
+const PAST: usize = 16;
+
+/// The next call on a station whose own history buffer has `room` words.
+pub fn next(station: &Station, sizes: &mut Sizes, room: usize, random: &mut Random) -> Call {
+    match random.below(64) {
+        0..40 => good(station, sizes, room, random),
+        40..46 => faulty(station, sizes, room, random),
+        46..48 => Call::Reset,
+        48..55 => switch(station, random),
+        55..59 => Call::Step,
+        59..62 => write(station, random),
+        _ => Call::Depth,
+    }
+}
+
+/// A frame with enough of everything, as far as the own history buffer goes.
+pub fn good(station: &Station, sizes: &mut Sizes, room: usize, random: &mut Random) -> Call {
+    let size = sizes.next(random);
+    Call::Frame(Frame {
+        size,
+        picture: Picture::random(random),
+        lent: enough(station, size.0 * size.1, room, random),
+    })
+}
+
+/// By turns not a word more than is needed, and some more.
+fn enough(station: &Station, count: usize, room: usize, random: &mut Random) -> Lengths {
+    let exact = random.one_in(3);
+    let mut more = |needed: usize| {
+        if exact {
+            return needed;
+        }
+        needed + random.choose(&[0, 1, PAST, 3 * PAST])
+    };
+    let framebuffer = more(count);
+    let history = more(station.depth().unwrap_or_default() * count);
+    let floats = more(6 * count);
+    let ints = more(count);
+    let all = !exact && random.one_in(2);
+    Lengths {
+        framebuffer,
+        history: if all { room } else { history.min(room) },
+        floats,
+        ints,
+    }
+}
+
+/// A frame with a fault or several: a bad size, or a buffer that is too short.
+fn faulty(station: &Station, sizes: &mut Sizes, room: usize, random: &mut Random) -> Call {
+    let mut size = sizes.last;
+    let count = size.0 * size.1;
+    let mut lent = enough(station, count, room, random);
+    // One fault in most cases; else any, to see which is told first.
+    let one = random.below(5);
+    let several = random.one_in(4);
+    let mut has = |fault: usize| fault == one || several && random.one_in(2);
+    let faults = [0, 1, 2, 3, 4].map(&mut has);
+    let short = |needed: usize, random: &mut Random| {
+        if random.one_in(4) {
+            random.below(needed + 1).min(needed.saturating_sub(1))
+        } else {
+            needed.saturating_sub(1)
+        }
+    };
+    if faults[0] {
+        size = bad_size(size, random);
+    }
+    if faults[1] {
+        lent.framebuffer = short(count, random);
+    }
+    if faults[2] {
+        lent.history = short(station.depth().unwrap_or_default() * count, random).min(room);
+    }
+    if faults[3] {
+        lent.floats = short(6 * count, random);
+    }
+    if faults[4] {
+        lent.ints = short(count, random);
+    }
+    Call::Frame(Frame {
+        size,
+        picture: Picture::random(random),
+        lent,
+    })
+}
+
+/// A side of 0, one above the limit, or so long that a product of two passes all numbers.
+fn bad_size((width, height): (usize, usize), random: &mut Random) -> (usize, usize) {
+    let bad = random.choose(&[
+        0,
+        0,
+        1025,
+        1025,
+        2048,
+        1 << 16,
+        1 << 32,
+        1 << 63,
+        usize::MAX,
+    ]);
+    random.choose(&[(bad, height), (width, bad), (bad, bad)])
+}
+
+/// Mostly of a kind in the chain. Persistence is switched on more often than off, so that a history is met.
+fn switch(station: &Station, random: &mut Random) -> Call {
+    let any = random.word() as u8;
+    let kinds: Vec<u8> = station.records().iter().map(|r| r.kind as u8).collect();
+    let known = random.within(1, 10) as u8;
+    let kind = match random.below(16) {
+        0 => random.choose(&[0, 11, 15, 16, 255, any]),
+        1..4 => known,
+        4..7 => PERSISTENCE as u8,
+        _ if kinds.is_empty() => known,
+        _ => random.choose(&kinds),
+    };
+    let off = random.one_in(if u32::from(kind) == PERSISTENCE { 4 } else { 2 });
+    let on = random.choose(&[1, 1, 2, 128, 255]);
+    Call::Switch(kind, if off { 0 } else { on })
+}
+
+/// Into a buffer with room for the card, in most cases, or one byte short of it.
+fn write(station: &Station, random: &mut Random) -> Call {
+    let length = station.opened.written().len();
+    let any = random.below(80);
+    Call::Write(random.choose(&[length, length - 1, length + 1, 72, any]))
+}

@@ -1,0 +1,160 @@
+//! What may happen in a run or in a trial.
+
+use crate::met::Listed;
+
+/// A buffer that is lent one word, or one byte, short of its limit.
+#[derive(Clone, Copy, PartialEq, Debug)]
+pub enum Short {
+    Framebuffer,
+    /// While persistence is on, and while it is off.
+    History,
+    HistoryOff,
+    Floats,
+    Ints,
+    Card,
+}
+
+#[derive(Clone, Copy, PartialEq, Debug)]
+pub enum Case {
+    /// A frame through a chain without persistence, with persistence off, one that fills the history, one that
+    /// meets it, and one that meets it in another shape.
+    FrameAbsent,
+    FrameOff,
+    Refill,
+    Blend,
+    BlendTurned,
+    /// A frame that is lent not a word more than it needs.
+    Exact,
+    /// An accepted frame of this width and height.
+    Size(usize, usize),
+    /// A refused call: what was called, and the number.
+    Open(u32),
+    Frame(u32),
+    ResetRefused(u32),
+    SwitchRefused(u32),
+    StepRefused(u32),
+    WriteRefused(u32),
+    DepthRefused(u32),
+    /// The only fault of a frame or of a writing.
+    OneShort(Short),
+    SideZero,
+    Side1025,
+    /// A side whose product with the other passes all numbers.
+    SideHuge,
+    Reset,
+    /// A reset while something is held.
+    ResetHeld,
+    /// A switch from one position to another.
+    Switch(bool, bool),
+    /// Persistence that is switched off while something is held.
+    Forget,
+    /// A kind byte that is no kind.
+    SwitchUnknown,
+    Step,
+    /// From preset 6 to 0.
+    StepRound,
+    StepOff,
+    Written,
+    Depth,
+    /// A state with a bit changed: a bad one, and one that is another good station's.
+    Bad,
+    Another,
+}
+
+impl Listed for Case {
+    const ALL: &'static [Case] = &[
+        Case::FrameAbsent,
+        Case::FrameOff,
+        Case::Refill,
+        Case::Blend,
+        Case::BlendTurned,
+        Case::Exact,
+        Case::Size(1, 1),
+        Case::Size(1024, 1),
+        Case::Size(1, 1024),
+        Case::Size(640, 480),
+        Case::Size(1024, 1024),
+        Case::Open(1),
+        Case::Open(2),
+        Case::Open(3),
+        Case::Open(4),
+        Case::Open(5),
+        Case::Open(6),
+        Case::Open(7),
+        Case::Frame(8),
+        Case::Frame(9),
+        Case::Frame(10),
+        Case::Frame(11),
+        Case::Frame(13),
+        Case::ResetRefused(12),
+        Case::ResetRefused(13),
+        Case::SwitchRefused(12),
+        Case::SwitchRefused(13),
+        Case::StepRefused(12),
+        Case::StepRefused(13),
+        Case::WriteRefused(13),
+        Case::WriteRefused(14),
+        Case::DepthRefused(13),
+        Case::OneShort(Short::Framebuffer),
+        Case::OneShort(Short::History),
+        Case::OneShort(Short::HistoryOff),
+        Case::OneShort(Short::Floats),
+        Case::OneShort(Short::Ints),
+        Case::OneShort(Short::Card),
+        Case::SideZero,
+        Case::Side1025,
+        Case::SideHuge,
+        Case::Reset,
+        Case::ResetHeld,
+        Case::Switch(false, false),
+        Case::Switch(false, true),
+        Case::Switch(true, false),
+        Case::Switch(true, true),
+        Case::Forget,
+        Case::SwitchUnknown,
+        Case::Step,
+        Case::StepRound,
+        Case::StepOff,
+        Case::Written,
+        Case::Depth,
+        Case::Bad,
+        Case::Another,
+    ];
+}
+
+/// How two stations come to agree, and what a trial can meet beside it.
+#[derive(Clone, Copy, PartialEq, Debug)]
+pub enum Point {
+    /// From the first call on: no persistence in the chain, or it is off.
+    Absent,
+    Off,
+    /// After the K-th frame that persistence takes.
+    Frames,
+    Reset,
+    SwitchedOff,
+    /// The list ends before the point.
+    Never,
+    /// The cards differ, and normalise alike.
+    Respelt,
+    /// One station holds words and the other none, or words of another count.
+    HeldDiffers,
+    /// A refused call before the point.
+    RefusedBefore,
+    /// A frame of another count before the point.
+    RefillBefore,
+}
+
+impl Listed for Point {
+    const ALL: &'static [Point] = &[
+        Point::Absent,
+        Point::Off,
+        Point::Frames,
+        Point::Reset,
+        Point::SwitchedOff,
+        Point::Never,
+        Point::Respelt,
+        Point::HeldDiffers,
+        Point::RefusedBefore,
+        Point::RefillBefore,
+    ];
+}

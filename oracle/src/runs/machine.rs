@@ -1,0 +1,138 @@
+//! Document 01's plain machine over the original: a station, the words of its history buffer, and the
+//! original's pipeline, which runs from call to call. The history's words are made apart from it, of the frames
+//! as the original's effects before persistence leave them.
+
+use super::station::{Lengths, Station};
+use crate::bridge::{Answer, State};
+use crate::passes::chain::{built, name, preset, PERSISTENCE};
+use crate::passes::original::pipeline::PostProcessPipeline;
+
+pub struct Machine {
+    /// None where the bytes are no good station's.
+    station: Option<Station>,
+    /// The bytes that it was given.
+    given: State,
+    pipeline: PostProcessPipeline,
+    pub history: Vec<u32>,
+}
+
+impl Machine {
+    /// A machine that goes on from these bytes and these words.
+    pub fn resumed(state: &State, history: Vec<u32>) -> Self {
+        let station = Station::read(state);
+        let pipeline = station.as_ref().map(|station| refilled(station, &history));
+        Machine {
+            station,
+            given: *state,
+            pipeline: pipeline.unwrap_or_default(),
+            history,
+        }
+    }
+
+    pub fn station(&self) -> Option<&Station> {
+        self.station.as_ref()
+    }
+
+    pub fn state(&self) -> State {
+        self.station.as_ref().map_or(self.given, Station::state)
+    }
+
+    /// A frame: the picture takes the place of the first words.
+    pub fn frame(&mut self, words: &mut [u32], size: (usize, usize), lent: &Lengths) -> Answer {
+        let (width, height) = size;
+        let station = self.station.as_mut().ok_or(13u32)?;
+        let answer = station.frame(width, height, lent)?;
+        let words = &mut words[..width * height];
+        if station.remembers() {
+            let incoming = before_persistence(station, words, size);
+            remember(station, &mut self.history, &incoming);
+            station.take(incoming.len());
+        }
+        self.pipeline.apply(words, width, height);
+        Ok(answer)
+    }
+
+    /// The original's pipeline cannot reach a reset: its effects are built anew.
+    pub fn reset(&mut self) -> Answer {
+        let station = self.station.as_mut().ok_or(13u32)?;
+        let answer = station.reset()?;
+        self.pipeline = built(station.records());
+        Ok(answer)
+    }
+
+    pub fn switch(&mut self, kind: u8, on: bool) -> Answer {
+        let station = self.station.as_mut().ok_or(13u32)?;
+        let answer = station.switch(kind, on)?;
+        self.pipeline.set_enabled(name(kind.into()), on);
+        Ok(answer)
+    }
+
+    /// The preset is the original's; that of the station is counted apart from it.
+    pub fn step(&mut self) -> Answer {
+        let station = self.station.as_mut().ok_or(13u32)?;
+        station.step()?;
+        self.pipeline.cycle_lut();
+        Ok(preset(&self.pipeline))
+    }
+
+    pub fn write(&self, buffer: &mut [u8]) -> Answer {
+        let card = self.station.as_ref().ok_or(13u32)?.opened.written();
+        let front = buffer.get_mut(..card.len()).ok_or(14u32)?;
+        front.copy_from_slice(&card);
+        Ok(card.len() as u32)
+    }
+
+    pub fn depth(&self) -> Answer {
+        let station = self.station.as_ref().ok_or(13u32)?;
+        Ok(station.depth().unwrap_or_default() as u32)
+    }
+}
+
+/// The frame as it comes to persistence.
+fn before_persistence(
+    station: &Station,
+    words: &[u32],
+    (width, height): (usize, usize),
+) -> Vec<u32> {
+    let place = station.place(PERSISTENCE).unwrap_or_default();
+    let mut words = words.to_vec();
+    built(&station.records()[..place]).apply(&mut words, width, height);
+    words
+}
+
+/// Fills all places, or shifts them by one and puts the frame first.
+fn remember(station: &Station, history: &mut [u32], incoming: &[u32]) {
+    let count = incoming.len();
+    let depth = station.depth().unwrap_or_default();
+    let places = &mut history[..depth * count];
+    if station.held as usize == count {
+        places.copy_within(..(depth - 1) * count, count);
+        places[..count].copy_from_slice(incoming);
+    } else {
+        for place in places.chunks_exact_mut(count) {
+            place.copy_from_slice(incoming);
+        }
+    }
+}
+
+/// The original's pipeline of a station, with what is held given to its persistence frame by frame, oldest
+/// first, while all else is off.
+fn refilled(station: &Station, history: &[u32]) -> PostProcessPipeline {
+    let mut pipeline = built(station.records());
+    let (held, depth) = (station.held as usize, station.depth().unwrap_or_default());
+    // More than the buffer has room for meets no frame: the next one fills all places.
+    if held == 0 || depth * held > history.len() {
+        return pipeline;
+    }
+    let others = || station.records().iter().filter(|r| r.kind != PERSISTENCE);
+    for record in others() {
+        pipeline.set_enabled(name(record.kind), false);
+    }
+    for place in history[..depth * held].chunks_exact(held).rev() {
+        pipeline.apply(&mut place.to_vec(), held, 1);
+    }
+    for record in others() {
+        pipeline.set_enabled(name(record.kind), record.on);
+    }
+    pipeline
+}

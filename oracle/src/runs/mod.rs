@@ -1,0 +1,13 @@
+//! Long runs of calls on stations, through the library `bridge`: beside the original's pipeline and a model
+//! of document 01, and in pairs of stations that have to agree.
+
+mod agreement;
+mod calls;
+mod cards;
+mod cases;
+pub mod compare;
+mod machine;
+mod noise;
+mod run;
+mod sides;
+mod station;

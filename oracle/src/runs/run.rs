@@ -1,0 +1,257 @@
+//! Runs: one card and many calls, on the library and on the machine.
+
+use super::calls::{self, Sizes};
+use super::cards;
+use super::cases::Case;
+use super::noise::Noise;
+use super::sides::{Held, Sides};
+use super::station::Station;
+use crate::bridge::{self, State};
+use crate::cards::damage;
+use crate::met::Met;
+use crate::random::Random;
+use crate::steps::Mode;
+use crate::tally::RunTally;
+
+pub struct Run {
+    card: Vec<u8>,
+    seed: u64,
+    calls: usize,
+    /// The longest side of its frames.
+    longest: usize,
+    /// The sizes of its frames, where they are not random.
+    sizes: &'static [(usize, usize)],
+}
+
+/// Words of the history buffer past the most that a run needs.
+const PAST: usize = 64;
+
+/// Sizes that no budget leaves out: the longest sides, and those of an ordinary picture.
+const LARGE: [(usize, usize); 5] = [
+    (1024, 1024),
+    (640, 480),
+    (480, 640),
+    (1023, 1024),
+    (1024, 768),
+];
+
+/// A row and a column.
+const THIN: [(usize, usize); 4] = [(1024, 1), (1, 1024), (512, 2), (1, 1)];
+
+/// Nanoseconds, as the rows of the passes estimate them.
+struct Effort {
+    /// For a run of the largest frames, and for all of these.
+    large: usize,
+    all_large: usize,
+    /// For all others.
+    others: usize,
+}
+
+impl Effort {
+    fn of(mode: Mode) -> Self {
+        match mode {
+            Mode::Quick => Effort {
+                large: 3_000_000_000,
+                all_large: 40_000_000_000,
+                others: 60_000_000_000,
+            },
+            Mode::Full => Effort {
+                large: 20_000_000_000,
+                all_large: 2_000_000_000_000,
+                others: 3_000_000_000_000,
+            },
+        }
+    }
+}
+
+/// The runs of a comparison: those of the largest frames first, since they take long.
+pub fn all(mode: Mode) -> Vec<Run> {
+    let random = &mut Random::named("runs");
+    let effort = Effort::of(mode);
+    let mut runs = Vec::new();
+    let mut spent = 0;
+    while spent < effort.all_large {
+        spent += large(&effort, random, &mut runs);
+    }
+    spent = 0;
+    while spent < effort.others {
+        spent += other(random, &mut runs);
+    }
+    runs
+}
+
+/// As many frames as a run's part of the time allows, and at least a few. Gives the time.
+fn large(effort: &Effort, random: &mut Random, runs: &mut Vec<Run>) -> usize {
+    let card = cards::card(random);
+    let cost = cost(&card) * 700_000;
+    let calls = (effort.large / cost).clamp(3, 40);
+    runs.push(Run {
+        card,
+        seed: random.next(),
+        calls,
+        longest: 1024,
+        sizes: &LARGE,
+    });
+    calls * cost
+}
+
+/// A run of frames that are small in most cases. Gives the time.
+fn other(random: &mut Random, runs: &mut Vec<Run>) -> usize {
+    let card = cards::card(random);
+    let (longest, calls, sizes): (_, _, &[_]) = match random.below(32) {
+        0..12 => (8, random.within(64, 512), &[]),
+        12..22 => (32, random.within(64, 512), &[]),
+        22..26 => (100, random.within(32, 128), &[]),
+        26..29 => (1024, random.within(32, 128), &THIN),
+        29..31 => (256, random.within(16, 32), &[]),
+        _ => (1024, random.within(4, 8), &[]),
+    };
+    let words = if sizes.is_empty() {
+        longest * longest / 4
+    } else {
+        1024
+    };
+    let time = calls * (cost(&card) * words + 10_000);
+    runs.push(Run {
+        card,
+        seed: random.next(),
+        calls,
+        longest,
+        sizes,
+    });
+    time
+}
+
+fn cost(card: &[u8]) -> usize {
+    let station = Station::open(card).expect("the card is a good one");
+    cards::cost(station.records())
+}
+
+/// Feeds one run to both sides.
+pub fn compare(run: &Run, at: usize, tally: &mut RunTally, met: &mut Met<Case>) {
+    let random = &mut Random::new(run.seed);
+    tally.begin();
+    let mut called = Vec::new();
+    let held = play(run, random, tally, met, &mut called);
+    if let Err(text) = held {
+        tally.differ(at, || {
+            let Run { card, seed, .. } = run;
+            let last = called.len().saturating_sub(12);
+            let called = called[last..].join(", ");
+            format!("run {at}, seed {seed:#018x}, card {card:02x?}, after {called}: {text}")
+        });
+    }
+}
+
+/// Plays a run up to its first difference: from there on every picture may differ.
+fn play(
+    run: &Run,
+    random: &mut Random,
+    tally: &mut RunTally,
+    met: &mut Met<Case>,
+    called: &mut Vec<String>,
+) -> Held {
+    for _ in 0..8 {
+        open_damaged(random, met)?;
+    }
+    let mut sides = opened(run, random)?;
+    let mut sizes = Sizes::new(run.longest, run.sizes, random);
+    for _ in 0..run.calls {
+        let station = sides.machine.station().expect("a good station stays good");
+        let call = calls::next(station, &mut sizes, sides.history.len(), random);
+        if random.one_in(8) {
+            let state = damaged(&sides.state, random);
+            let mut other = sides.damaged(state);
+            called.push(format!("with a damaged state {call}"));
+            other.call(&call, random, tally, met)?;
+            let good = other.machine.station().is_some();
+            met.note(if good { Case::Another } else { Case::Bad });
+            called.pop();
+        }
+        called.push(call.to_string());
+        sides.call(&call, random, tally, met)?;
+    }
+    every_bit(&sides.state, tally)
+}
+
+/// Opens the run's card on both sides, with any words in the history buffer.
+fn opened(run: &Run, random: &mut Random) -> Held<Sides> {
+    let station = Station::open(&run.card).expect("the card is a good one");
+    // Whatever stands there before is overwritten.
+    let mut state = noise_state(random);
+    let answer = bridge::open(&run.card, &mut state);
+    if (answer, state) != (Ok(0), station.state()) {
+        return Err(format!("opening: here {answer:?} and {state:02x?}"));
+    }
+    let depth = station.depth().unwrap_or(1);
+    let largest = run.sizes.iter().map(|(width, height)| width * height).max();
+    let largest = largest.unwrap_or(run.longest * run.longest);
+    let history = Noise::any(random.next()).words(depth * largest + PAST);
+    Ok(Sides::new(state, history))
+}
+
+fn noise_state(random: &mut Random) -> State {
+    [(); 80].map(|()| random.word() as u8)
+}
+
+/// Opens a card that is damaged in most cases: its number, and a state that stays as it was.
+fn open_damaged(random: &mut Random, met: &mut Met<Case>) -> Held {
+    let card = damage::card(random);
+    let before = noise_state(random);
+    let mut state = before;
+    let answer = bridge::open(&card, &mut state);
+    let asked = match Station::open(&card) {
+        Ok(station) => (Ok(0), station.state()),
+        Err(number) => {
+            met.note(Case::Open(number));
+            (Err(number), before)
+        }
+    };
+    if (answer, state) == asked {
+        return Ok(());
+    }
+    Err(format!(
+        "opening {card:02x?}: here {answer:?} and {state:02x?}, by the model {asked:02x?}"
+    ))
+}
+
+/// The state with one bit changed; or with another byte; or with another count held.
+fn damaged(state: &State, random: &mut Random) -> State {
+    let mut state = *state;
+    let place = random.below(state.len());
+    match random.below(4) {
+        0 => state[place] = random.word() as u8,
+        1 => {
+            let held: u32 = random.choose(&[0, 1, 1_048_576, 1_048_577, u32::MAX]);
+            state[73..77].copy_from_slice(&held.to_be_bytes());
+        }
+        _ => state[place] ^= 1 << random.below(8),
+    }
+    state
+}
+
+/// Each of the 640 bits changed in turn: the state is a bad one, or another good station's, whose card is
+/// written.
+fn every_bit(state: &State, tally: &mut RunTally) -> Held {
+    for bit in 0..8 * state.len() {
+        let mut state = *state;
+        state[bit / 8] ^= 0x80 >> (bit % 8);
+        let (mut here, mut asked) = ([0; 72], [0; 72]);
+        let number = match Station::read(&state) {
+            None => Err(13),
+            Some(station) => {
+                let card = station.opened.written();
+                asked[..card.len()].copy_from_slice(&card);
+                Ok(card.len() as u32)
+            }
+        };
+        let answer = bridge::write(&state, &mut here);
+        if (answer, here) != (number, asked) {
+            return Err(format!(
+                "writing with bit {bit} of the state changed: here {answer:?}, by the model {number:?}"
+            ));
+        }
+        tally.called(number, 0);
+    }
+    Ok(())
+}

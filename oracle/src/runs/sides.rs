@@ -1,0 +1,307 @@
+//! One station on both sides, from call to call: the library's 80 bytes and lent buffers, and the machine.
+
+use super::calls::{Call, Frame};
+use super::cases::{Case, Short};
+use super::machine::Machine;
+use super::noise::Noise;
+use super::station::{Lengths, Station};
+use crate::bridge::{self, Answer, Lent, State};
+use crate::met::Met;
+use crate::passes::chain::{LUT, PERSISTENCE};
+use crate::random::Random;
+use crate::tally::RunTally;
+
+pub struct Sides {
+    pub machine: Machine,
+    pub state: State,
+    pub history: Vec<u32>,
+    /// The size of the frame that was taken last: for the cases alone.
+    last: (usize, usize),
+}
+
+/// What a difference is: told in words.
+pub type Held<T = ()> = Result<T, String>;
+
+/// What stands in a card buffer before a card is written.
+const MARK: u8 = 0xa5;
+
+impl Sides {
+    /// Both sides at this state, with these words in the history buffer.
+    pub fn new(state: State, history: Vec<u32>) -> Self {
+        Sides {
+            machine: Machine::resumed(&state, history.clone()),
+            state,
+            history,
+            last: (0, 0),
+        }
+    }
+
+    /// The same with another state.
+    pub fn damaged(&self, state: State) -> Self {
+        Sides {
+            last: self.last,
+            ..Sides::new(state, self.history.clone())
+        }
+    }
+
+    /// Makes one call on both sides and holds all that it gives to the machine's.
+    pub fn call(
+        &mut self,
+        call: &Call,
+        random: &mut Random,
+        tally: &mut RunTally,
+        met: &mut Met<Case>,
+    ) -> Held {
+        let before = self.machine.station().cloned();
+        let asked = match call {
+            Call::Frame(frame) => self.frame(frame, random, tally)?,
+            Call::Reset => {
+                let asked = self.machine.reset();
+                answered(bridge::reset(&mut self.state), asked)?
+            }
+            Call::Switch(kind, on) => {
+                let asked = self.machine.switch(*kind, *on != 0);
+                let here = bridge::set_enabled(&mut self.state, *kind, *on);
+                answered(here, asked)?
+            }
+            Call::Step => {
+                let asked = self.machine.step();
+                answered(bridge::cycle_lut(&mut self.state), asked)?
+            }
+            Call::Write(room) => self.write(*room)?,
+            Call::Depth => {
+                let here = bridge::depth(&self.state);
+                answered(here, self.machine.depth())?
+            }
+        };
+        same("state", self.state, self.machine.state())?;
+        same_words("history", &self.history, &self.machine.history)?;
+        tally.called(asked, self.history.len());
+        self.note(call, before.as_ref(), asked, met);
+        Ok(())
+    }
+
+    fn write(&self, room: usize) -> Held<Answer> {
+        let (mut here, mut asked) = (vec![MARK; room], vec![MARK; room]);
+        let answer = self.machine.write(&mut asked);
+        let given = answered(bridge::write(&self.state, &mut here), answer)?;
+        same("card buffer", here, asked)?;
+        Ok(given)
+    }
+
+    fn frame(&mut self, frame: &Frame, random: &mut Random, tally: &mut RunTally) -> Held<Answer> {
+        let Frame { size, lent, .. } = frame;
+        let mut here = frame.words(random.next());
+        let mut asked = here.clone();
+        let answer = self.machine.frame(&mut asked, *size, lent);
+
+        let mut scratch = Scratch::new(lent, random);
+        let buffers = Lent {
+            framebuffer: &mut here,
+            history: &mut self.history[..lent.history],
+            floats: &mut scratch.floats,
+            ints: &mut scratch.ints,
+        };
+        let given = bridge::apply(&mut self.state, size.0, size.1, buffers);
+        let answer = answered(given, answer)?;
+        same_words("framebuffer", &here, &asked)?;
+        // Only the first words of the scratch are free, and only after an accepted frame.
+        let free = answer.map_or(0, |_| size.0 * size.1);
+        scratch.unchanged_past(free)?;
+        if answer.is_ok() {
+            tally.frame(free);
+        }
+        Ok(answer)
+    }
+
+    /// Tells the list of cases what this was.
+    fn note(&mut self, call: &Call, before: Option<&Station>, asked: Answer, met: &mut Met<Case>) {
+        match (call, asked, before) {
+            (Call::Frame(frame), Ok(_), Some(before)) => self.note_taken(frame, before, met),
+            (Call::Frame(frame), Err(number), _) => {
+                met.note(Case::Frame(number));
+                if let Some(fault) = before.and_then(|before| fault(before, frame)) {
+                    met.note(fault);
+                }
+            }
+            (Call::Switch(kind, on), Ok(_), Some(before)) => {
+                note_switch((*kind).into(), *on != 0, before, met);
+            }
+            (Call::Switch(kind, _), Err(number), _) => {
+                met.note(Case::SwitchRefused(number));
+                if number == 12 && !(1..=10).contains(kind) {
+                    met.note(Case::SwitchUnknown);
+                }
+            }
+            (Call::Reset, Ok(_), Some(before)) if before.held > 0 => met.note(Case::ResetHeld),
+            (Call::Reset, Ok(_), _) => met.note(Case::Reset),
+            (Call::Reset, Err(number), _) => met.note(Case::ResetRefused(number)),
+            (Call::Step, Ok(preset), Some(before)) => note_step(preset, before, met),
+            (Call::Step, Err(number), _) => met.note(Case::StepRefused(number)),
+            (Call::Write(_), Ok(_), _) => met.note(Case::Written),
+            (Call::Write(room), Err(number), _) => {
+                met.note(Case::WriteRefused(number));
+                if before.is_some_and(|before| before.opened.written().len() == room + 1) {
+                    met.note(Case::OneShort(Short::Card));
+                }
+            }
+            (Call::Depth, Ok(_), _) => met.note(Case::Depth),
+            (Call::Depth, Err(number), _) => met.note(Case::DepthRefused(number)),
+            (_, Ok(_), None) => panic!("a bad station takes no call"),
+        }
+    }
+
+    fn note_taken(&mut self, frame: &Frame, before: &Station, met: &mut Met<Case>) {
+        met.note(self.taken(frame.size, before));
+        if frame.lent == needed(before, frame.size) {
+            met.note(Case::Exact);
+        }
+        let size = Case::Size(frame.size.0, frame.size.1);
+        if met.listed(size) {
+            met.note(size);
+        }
+    }
+
+    /// Which case an accepted frame is.
+    fn taken(&mut self, size: (usize, usize), before: &Station) -> Case {
+        if !before.has(PERSISTENCE) {
+            return Case::FrameAbsent;
+        }
+        if !before.remembers() {
+            return Case::FrameOff;
+        }
+        let last = std::mem::replace(&mut self.last, size);
+        if before.held as usize != size.0 * size.1 {
+            Case::Refill
+        } else if last == size {
+            Case::Blend
+        } else {
+            Case::BlendTurned
+        }
+    }
+}
+
+fn note_switch(kind: u32, on: bool, before: &Station, met: &mut Met<Case>) {
+    let was = before.is_on(kind);
+    met.note(Case::Switch(was, on));
+    if kind == PERSISTENCE && was && !on && before.held > 0 {
+        met.note(Case::Forget);
+    }
+}
+
+fn note_step(preset: u32, before: &Station, met: &mut Met<Case>) {
+    met.note(if preset == 0 {
+        Case::StepRound
+    } else {
+        Case::Step
+    });
+    if !before.is_on(LUT) {
+        met.note(Case::StepOff);
+    }
+}
+
+/// Exactly what a frame needs.
+fn needed(station: &Station, (width, height): (usize, usize)) -> Lengths {
+    let count = width * height;
+    Lengths {
+        framebuffer: count,
+        history: station.depth().unwrap_or_default() * count,
+        floats: 6 * count,
+        ints: count,
+    }
+}
+
+/// Which fault of a refused frame is looked for among the cases: a side, or one word less than the limit of one
+/// buffer where all else is enough.
+fn fault(station: &Station, frame: &Frame) -> Option<Case> {
+    let (width, height) = frame.size;
+    if width == 0 || height == 0 {
+        return Some(Case::SideZero);
+    }
+    if width.checked_mul(height).is_none() {
+        return Some(Case::SideHuge);
+    }
+    if width > 1024 || height > 1024 {
+        return (width == 1025 || height == 1025).then_some(Case::Side1025);
+    }
+    let (lent, needed) = (&frame.lent, needed(station, frame.size));
+    let history = if station.remembers() {
+        Short::History
+    } else {
+        Short::HistoryOff
+    };
+    let lengths = [
+        (lent.framebuffer, needed.framebuffer, Short::Framebuffer),
+        (lent.history, needed.history, history),
+        (lent.floats, needed.floats, Short::Floats),
+        (lent.ints, needed.ints, Short::Ints),
+    ];
+    let short: Vec<_> = lengths
+        .iter()
+        .filter(|(lent, needed, _)| lent < needed)
+        .collect();
+    match short[..] {
+        [&(lent, needed, which)] if lent + 1 == needed => Some(Case::OneShort(which)),
+        _ => None,
+    }
+}
+
+/// The two scratch buffers of a call.
+struct Scratch {
+    floats: Vec<f32>,
+    ints: Vec<u32>,
+    noise: [Noise; 2],
+}
+
+impl Scratch {
+    fn new(lent: &Lengths, random: &mut Random) -> Self {
+        let noise = [Noise::of(random.next()), Noise::of(random.next())];
+        Scratch {
+            floats: noise[0].floats(lent.floats),
+            ints: noise[1].words(lent.ints),
+            noise,
+        }
+    }
+
+    /// That no word past those that a frame of `count` words may use was written.
+    fn unchanged_past(&self, count: usize) -> Held {
+        let floats = self.floats[6 * count..].iter().map(|x| x.to_bits());
+        let ints = self.ints[count..].iter().copied();
+        if let Some(place) = self.noise[0].changed(6 * count, floats) {
+            return Err(format!("f32 word {place} of the scratch written"));
+        }
+        if let Some(place) = self.noise[1].changed(count, ints) {
+            return Err(format!("u32 word {place} of the scratch written"));
+        }
+        Ok(())
+    }
+}
+
+/// Gives what had to be answered, if it was.
+fn answered(here: Answer, asked: Answer) -> Held<Answer> {
+    same("answer", here, asked)?;
+    Ok(asked)
+}
+
+fn same<T: PartialEq + std::fmt::Debug>(what: &str, here: T, asked: T) -> Held {
+    if here == asked {
+        return Ok(());
+    }
+    Err(format!(
+        "{what}: here {here:02x?}, by the model {asked:02x?}"
+    ))
+}
+
+fn same_words(what: &str, here: &[u32], asked: &[u32]) -> Held {
+    if here == asked {
+        return Ok(());
+    }
+    let place = (0..).find(|&place| here.get(place) != asked.get(place));
+    let place = place.unwrap_or_default();
+    let different = here.iter().zip(asked).filter(|(a, b)| a != b).count();
+    Err(format!(
+        "{different} words of the {what}, the first at {place}: here {:08x?}, by the model {:08x?}",
+        here.get(place),
+        asked.get(place)
+    ))
+}

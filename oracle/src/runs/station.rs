@@ -1,0 +1,145 @@
+//! Document 01's station as the library lends it, in 80 bytes, with nothing of the library: what it says, and
+//! what each call on it answers.
+
+use crate::bridge::{Answer, State};
+use crate::cards::paper::{self, Opened, Record, Value};
+use crate::passes::chain::{LUT, PERSISTENCE};
+
+/// Where the parts of the 80 bytes end: a length, the card's room, what is held.
+const CARD_END: usize = 73;
+const HELD_END: usize = 77;
+
+#[derive(Clone)]
+pub struct Station {
+    pub opened: Opened,
+    pub held: u32,
+}
+
+/// The words that are lent to a frame.
+#[derive(Clone, Copy, PartialEq, Debug)]
+pub struct Lengths {
+    pub framebuffer: usize,
+    pub history: usize,
+    pub floats: usize,
+    pub ints: usize,
+}
+
+impl Station {
+    pub fn open(card: &[u8]) -> Result<Station, u32> {
+        let opened = paper::open(card)?;
+        Ok(Station { opened, held: 0 })
+    }
+
+    /// What these bytes say, if they are a good station's.
+    pub fn read(state: &State) -> Option<Station> {
+        let card = state[1..CARD_END].get(..state[0].into())?;
+        let after = &state[1 + card.len()..CARD_END];
+        let zero = |bytes: &[u8]| bytes.iter().all(|&byte| byte == 0);
+        if !zero(after) || !zero(&state[HELD_END..]) {
+            return None;
+        }
+        let held = state[CARD_END..HELD_END]
+            .iter()
+            .fold(0, |held, &byte| held << 8 | u32::from(byte));
+        let opened = paper::open(card).ok()?;
+        // A card that is not normalised is no station's.
+        (opened.written() == card && opened.may_hold(held)).then_some(Station { opened, held })
+    }
+
+    pub fn state(&self) -> State {
+        let card = self.opened.written();
+        let mut state = [0; 80];
+        state[0] = card.len() as u8;
+        state[1..][..card.len()].copy_from_slice(&card);
+        state[CARD_END..HELD_END].copy_from_slice(&self.held.to_be_bytes());
+        state
+    }
+
+    pub fn records(&self) -> &[Record] {
+        &self.opened.records
+    }
+
+    pub fn place(&self, kind: u32) -> Option<usize> {
+        self.records().iter().position(|r| r.kind == kind)
+    }
+
+    pub fn has(&self, kind: u32) -> bool {
+        self.place(kind).is_some()
+    }
+
+    pub fn is_on(&self, kind: u32) -> bool {
+        self.records().iter().any(|r| r.kind == kind && r.on)
+    }
+
+    /// Whether persistence is in the chain and on.
+    pub fn remembers(&self) -> bool {
+        self.is_on(PERSISTENCE)
+    }
+
+    /// Of persistence, on or off.
+    pub fn depth(&self) -> Option<usize> {
+        let record = &self.records()[self.place(PERSISTENCE)?];
+        match record.settings[1] {
+            Value::Whole(depth, _) => Some(depth as usize),
+            Value::Float(_) => panic!("a depth is no float"),
+        }
+    }
+
+    /// The answer to a frame, by the paper's table.
+    pub fn frame(&self, width: usize, height: usize, lent: &Lengths) -> Answer {
+        let fine = |side: usize| (1..=1024).contains(&side);
+        if !fine(width) || !fine(height) {
+            return Err(8);
+        }
+        let count = width * height;
+        if lent.framebuffer < count {
+            Err(9)
+        } else if self
+            .depth()
+            .is_some_and(|depth| lent.history < depth * count)
+        {
+            Err(10)
+        } else if lent.floats < 6 * count || lent.ints < count {
+            Err(11)
+        } else {
+            Ok(0)
+        }
+    }
+
+    /// What persistence keeps of an accepted frame, beside the words.
+    pub fn take(&mut self, count: usize) {
+        if self.remembers() {
+            self.held = count as u32;
+        }
+    }
+
+    pub fn reset(&mut self) -> Answer {
+        self.place(PERSISTENCE).ok_or(12u32)?;
+        self.held = 0;
+        Ok(0)
+    }
+
+    pub fn switch(&mut self, kind: u8, on: bool) -> Answer {
+        let place = self.place(kind.into()).ok_or(12u32)?;
+        let record = &mut self.opened.records[place];
+        if record.kind == PERSISTENCE && record.on && !on {
+            self.held = 0;
+        }
+        record.on = on;
+        Ok(0)
+    }
+
+    pub fn step(&mut self) -> Answer {
+        let place = self.place(LUT).ok_or(12u32)?;
+        let preset = (self.preset().unwrap_or_default() + 1) % 7;
+        self.opened.records[place].settings[0] = Value::Whole(preset, 3);
+        Ok(preset)
+    }
+
+    pub fn preset(&self) -> Option<u32> {
+        match self.records()[self.place(LUT)?].settings[0] {
+            Value::Whole(preset, _) => Some(preset),
+            Value::Float(_) => panic!("a preset is no float"),
+        }
+    }
+}
