@@ -2,7 +2,9 @@
 // it is said by crate `events`.
 ghost use mathlib.Core.Path.{_≡_};
 ghost use Prim.Native.Nat.{_+_, _≤_};
+ghost use mathlib.Core.Bool.{cond};
 ghost use lib.ListN.{length};
+ghost use Rattle.events.specs.Events.{headWanted, eventWanted};
 use chain::station::Station;
 use events::event;
 use events::play;
@@ -42,7 +44,7 @@ pub fn line() -> [u8; 7170]
 
 // How many bytes the card, or an event, takes that begins with these.
 fn wanted(bytes: &[u8], is_card: bool) -> usize
-    ensures { λ r. ⌜ r ≤ 3075 ⌝ }
+    ensures { λ r. ⌜ (r ≡ cond «is_card» (headWanted (now (bytes .entry))) (eventWanted (now (bytes .entry)))) × (r ≤ 3075) ⌝ }
 {
     if is_card {
         event::head_wanted(bytes)

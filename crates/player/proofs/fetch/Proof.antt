@@ -33,10 +33,10 @@ module _ (c : tie.After-read Inv-loop μ-loop) where
 pub fetch-spec : {M : Type 1} → statement M
 fetch-spec =
     tie.close
-    (tie.spec Inv-loop μ-loop (λ c. omega arith) (λ c. refl) (λ c κs. tt) (λ c. (refl, omega arith, c .wanted .ensures))
+    (tie.spec Inv-loop μ-loop (λ c. omega arith) (λ c. refl) (λ c κs. tt) (λ c. (refl, omega arith, c .wanted .ensures .1))
     (λ c κs. (omega arith, omega (arith, c .before .before .loop .inv .0))) (λ c. long (c .before .before .before))
     (λ c. omega (arith, room (c .before .before .before))) (λ c. omega (arith, within (c .before .before .before))) (λ c. room (c .before .before .before))
     (λ c. sym (length-take-le _ _ (room (c .before .before .before .before)))) (λ c κs. tt)
     (λ c. omega (arith, within (c .before .before .before .before .before), c .before .before .if1 .left))
-    (λ c. (long (c .before .before .before .before .before), within (c .before .before .before .before .before), c .wanted2 .ensures))
+    (λ c. (long (c .before .before .before .before .before), within (c .before .before .before .before .before), c .wanted2 .ensures .1))
     (λ c. c .before .loop .inv .0) (λ c. omega (arith, c .before .loop .inv .0)))
