@@ -1,5 +1,4 @@
-//! The calls under comparison, from the static library `bridge`, as safe functions. Beside probe.rs the only
-//! file with `unsafe`: a change of the exports in crates/bridge/src must be made here too.
+//! The calls under comparison, from the static library `bridge`, as safe functions.
 
 /// A station as the library lends it.
 pub type State = [u8; 80];
@@ -7,32 +6,14 @@ pub type State = [u8; 80];
 /// What a call reports, or a refusal's number.
 pub type Answer = Result<u32, u32>;
 
-mod exports {
-    use super::State;
+// The declarations are those of the bindings, which oracle/hosts compares with the exports. The bindings' own types cannot
+// say what is asked here: a damaged state, a buffer that is too short.
+#[allow(dead_code)]
+#[path = "../../bindings/rust/src/lib.rs"]
+#[rustfmt::skip]
+mod hedgemallow;
 
-    #[link(name = "bridge", kind = "static")]
-    extern "C" {
-        pub fn hedgemallow_open(card: *const u8, card_len: usize, state: *mut State) -> u32;
-        pub fn hedgemallow_write(state: *const State, buffer: *mut u8, buffer_len: usize) -> u32;
-        pub fn hedgemallow_apply(
-            state: *mut State,
-            framebuffer: *mut u32,
-            framebuffer_len: usize,
-            width: usize,
-            height: usize,
-            history: *mut u32,
-            history_len: usize,
-            floats: *mut f32,
-            floats_len: usize,
-            ints: *mut u32,
-            ints_len: usize,
-        ) -> u32;
-        pub fn hedgemallow_reset(state: *mut State) -> u32;
-        pub fn hedgemallow_set_enabled(state: *mut State, kind: u8, on: u8) -> u32;
-        pub fn hedgemallow_cycle_lut(state: *mut State) -> u32;
-        pub fn hedgemallow_depth(state: *const State) -> u32;
-    }
-}
+use hedgemallow::exports;
 
 /// What is added to a refusal's number: no call reports so much.
 const REFUSED: u32 = 256;
@@ -57,19 +38,19 @@ pub struct Lent<'a> {
 
 pub fn open(card: &[u8], state: &mut State) -> Answer {
     // SAFETY: as above.
-    answer(unsafe { exports::hedgemallow_open(card.as_ptr(), card.len(), state) })
+    answer(unsafe { exports::hedgemallow_open(card.as_ptr(), card.len(), state.as_mut_ptr()) })
 }
 
 pub fn write(state: &State, buffer: &mut [u8]) -> Answer {
     // SAFETY: as above.
-    answer(unsafe { exports::hedgemallow_write(state, buffer.as_mut_ptr(), buffer.len()) })
+    answer(unsafe { exports::hedgemallow_write(state.as_ptr(), buffer.as_mut_ptr(), buffer.len()) })
 }
 
 pub fn apply(state: &mut State, width: usize, height: usize, lent: Lent) -> Answer {
     // SAFETY: as above.
     answer(unsafe {
         exports::hedgemallow_apply(
-            state,
+            state.as_mut_ptr(),
             lent.framebuffer.as_mut_ptr(),
             lent.framebuffer.len(),
             width,
@@ -86,20 +67,20 @@ pub fn apply(state: &mut State, width: usize, height: usize, lent: Lent) -> Answ
 
 pub fn reset(state: &mut State) -> Answer {
     // SAFETY: as above.
-    answer(unsafe { exports::hedgemallow_reset(state) })
+    answer(unsafe { exports::hedgemallow_reset(state.as_mut_ptr()) })
 }
 
 pub fn set_enabled(state: &mut State, kind: u8, on: u8) -> Answer {
     // SAFETY: as above.
-    answer(unsafe { exports::hedgemallow_set_enabled(state, kind, on) })
+    answer(unsafe { exports::hedgemallow_set_enabled(state.as_mut_ptr(), kind, on) })
 }
 
 pub fn cycle_lut(state: &mut State) -> Answer {
     // SAFETY: as above.
-    answer(unsafe { exports::hedgemallow_cycle_lut(state) })
+    answer(unsafe { exports::hedgemallow_cycle_lut(state.as_mut_ptr()) })
 }
 
 pub fn depth(state: &State) -> Answer {
     // SAFETY: as above.
-    answer(unsafe { exports::hedgemallow_depth(state) })
+    answer(unsafe { exports::hedgemallow_depth(state.as_ptr()) })
 }

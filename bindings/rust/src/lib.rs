@@ -3,8 +3,9 @@
 
 use std::fmt;
 
-/// The exports, in a module of their own so that the methods may bear short names.
-mod exports {
+/// The exports, in a module of their own so that the methods may bear short names. The comparison in
+/// oracle/ includes this file and calls them itself.
+pub(crate) mod exports {
     #[link(name = "bridge", kind = "static")]
     extern "C" {
         pub fn hedgemallow_open(card: *const u8, card_len: usize, state: *mut u8) -> u32;
