@@ -1,4 +1,4 @@
-# Sourced by compare, bench and record, from the repository's root: how the comparison program is built.
+# Sourced by compare, bench, record and fuzz, from the repository's root: how the comparison program is built.
 
 # Sets `original` to the folder of the original program, or to nothing where it is not there. A relative HEDGEMALLOW_ORIGINAL is
 # meant from the folder $1, where the caller stands.
@@ -63,6 +63,6 @@ build() {
     if [ -n "$original" ]; then
         modules >target/oracle/original.rs || return 1
     fi
-    rustc -O --edition 2021 --check-cfg 'cfg(with_original)' ${original:+--cfg with_original} \
+    rustc -O --edition 2021 --check-cfg 'cfg(with_original, fuzz, test)' ${original:+--cfg with_original} \
         -L native=target/staticlib -o target/oracle/compare oracle/src/main.rs
 }

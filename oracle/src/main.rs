@@ -3,13 +3,17 @@
 //! 01 over the original's pipeline, and of runs of calls with such a model. Three scripts build and start
 //! it from the repository's root: `oracle/compare`, `oracle/bench` and `oracle/record`. They set
 //! `with_original` where they find the original: without it there are no passes to compare, and no model.
-#![cfg_attr(not(with_original), allow(dead_code))]
+//! `oracle/fuzz` compiles it once more, with `fuzz` set, as a library that libFuzzer calls.
+#![cfg_attr(any(fuzz, not(with_original)), allow(dead_code))]
 
 mod bench;
 #[cfg(with_original)]
+#[cfg_attr(fuzz, path = "guarded.rs")]
 mod bridge;
 mod cards;
 mod constants;
+#[cfg(fuzz)]
+mod fuzz;
 mod met;
 #[cfg(with_original)]
 mod passes;
@@ -18,6 +22,8 @@ mod probe;
 mod random;
 #[cfg(with_original)]
 mod runs;
+#[cfg(with_original)]
+mod seeds;
 mod station;
 mod steps;
 mod tally;
@@ -34,7 +40,11 @@ fn main() -> ExitCode {
     match words[..] {
         ["bench"] => measure(),
         #[cfg(with_original)]
-        ["record", file] => record(Path::new(file)),
+        ["record", file] => told(std::fs::write(file, station::record::all())),
+        #[cfg(with_original)]
+        ["seeds", "station", folder] => told(seeds::station(Path::new(folder))),
+        #[cfg(with_original)]
+        ["seeds", "bridge", folder] => told(seeds::bridge(Path::new(folder))),
         #[cfg(with_original)]
         ["runs", "quick"] => only_runs(Mode::Quick),
         #[cfg(with_original)]
@@ -44,7 +54,7 @@ fn main() -> ExitCode {
         ["quick", original] => compare(Mode::Quick, Some(Path::new(original))),
         ["full", original] => compare(Mode::Full, Some(Path::new(original))),
         _ => {
-            eprintln!("expected: bench, record and a file, runs and quick or full, or quick or full and then the original's folder, if any");
+            eprintln!("expected: bench, record and a file, seeds and station or bridge and a folder, runs and quick or full, or quick or full and then the original's folder, if any");
             ExitCode::from(2)
         }
     }
@@ -90,13 +100,13 @@ fn verdict(total: &Total) -> ExitCode {
     }
 }
 
-/// Writes the recorded answers of the original.
+/// Whether the files could be written.
 #[cfg(with_original)]
-fn record(file: &Path) -> ExitCode {
-    match std::fs::write(file, station::record::all()) {
+fn told(written: std::io::Result<()>) -> ExitCode {
+    match written {
         Ok(()) => ExitCode::SUCCESS,
         Err(error) => {
-            eprintln!("{}: {error}", file.display());
+            eprintln!("the files were not written: {error}");
             ExitCode::FAILURE
         }
     }

@@ -30,6 +30,11 @@ impl<C: Listed> Met<C> {
         self.counts[place.unwrap_or_else(|| panic!("{case:?} is not listed"))] += 1;
     }
 
+    #[cfg(fuzz)]
+    pub fn counts(&self) -> &[u64] {
+        &self.counts
+    }
+
     pub fn join(&mut self, other: &Met<C>) {
         for (count, more) in self.counts.iter_mut().zip(&other.counts) {
             *count += more;

@@ -3,11 +3,13 @@
 
 mod agreement;
 mod calls;
-mod cards;
+pub mod cards;
 mod cases;
 pub mod compare;
+#[cfg(fuzz)]
+mod fuzz;
 mod machine;
 mod noise;
 mod run;
 mod sides;
-mod station;
+pub mod station;

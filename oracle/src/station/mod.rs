@@ -4,11 +4,13 @@
 #[cfg(with_original)]
 mod cases;
 pub mod compare;
+#[cfg(fuzz)]
+mod fuzz;
 #[cfg(with_original)]
-mod inputs;
+pub mod inputs;
 #[cfg(with_original)]
 mod model;
 mod process;
 #[cfg(with_original)]
 pub mod record;
-mod recorded;
+pub mod recorded;

@@ -1,0 +1,197 @@
+//! The calls under comparison, as the fuzzer makes them: each twice, on copies of all that it is lent. The first copies end,
+//! the second begin at a page that nobody may touch, so an access past what was lent ends the process at once.
+//! Both calls have to give the same, in every byte and word that was lent.
+
+#[path = "bridge.rs"]
+mod plain;
+
+use std::ffi::c_void;
+
+pub use plain::{Answer, Lent, State};
+
+const PAGE: usize = 4096;
+
+/// Bytes for the longest buffer that the fuzzer lends: history and floats.
+const BYTES: usize = 16 * PAGE;
+
+extern "C" {
+    fn mmap(
+        at: *mut c_void,
+        len: usize,
+        access: i32,
+        flags: i32,
+        file: i32,
+        from: i64,
+    ) -> *mut c_void;
+    fn mprotect(at: *mut c_void, len: usize, access: i32) -> i32;
+}
+
+/// Of Linux on x86-64: no access, reading and writing; a mapping of one's own, of no file.
+const NONE: i32 = 0;
+const READ_WRITE: i32 = 3;
+const PRIVATE_ANONYMOUS: i32 = 0x22;
+
+/// Which end of a copy touches the guarded page.
+#[derive(Clone, Copy)]
+enum Guard {
+    After,
+    Before,
+}
+
+/// Pages for one copy, between two that nobody may touch.
+struct Room(*mut u8);
+
+impl Room {
+    fn new() -> Self {
+        // SAFETY: new pages, of which those between the first and the last are opened.
+        unsafe {
+            let all = BYTES + 2 * PAGE;
+            let start = mmap(std::ptr::null_mut(), all, NONE, PRIVATE_ANONYMOUS, -1, 0);
+            assert_ne!(start as isize, -1, "no pages");
+            let inner = start.byte_add(PAGE);
+            assert_eq!(mprotect(inner, BYTES, READ_WRITE), 0, "no pages to write");
+            Room(inner.cast())
+        }
+    }
+
+    /// A copy of these, laid against a guarded page.
+    fn lay<T: Copy>(&mut self, from: &[T], guard: Guard) -> &mut [T] {
+        let bytes = size_of_val(from);
+        assert!(bytes <= BYTES, "{bytes} bytes are too many for the pages");
+        let skipped = match guard {
+            Guard::After => BYTES - bytes,
+            Guard::Before => 0,
+        };
+        // SAFETY: inside the pages, which are this room's own; a page's ends are aligned for all that is lent.
+        unsafe {
+            let start: *mut T = self.0.add(skipped).cast();
+            std::ptr::copy_nonoverlapping(from.as_ptr(), start, from.len());
+            std::slice::from_raw_parts_mut(start, from.len())
+        }
+    }
+}
+
+/// A room for each argument of a call.
+struct Rooms {
+    state: Room,
+    bytes: Room,
+    framebuffer: Room,
+    history: Room,
+    floats: Room,
+    ints: Room,
+}
+
+thread_local! {
+    static ROOMS: std::cell::RefCell<Rooms> = std::cell::RefCell::new(Rooms {
+        state: Room::new(),
+        bytes: Room::new(),
+        framebuffer: Room::new(),
+        history: Room::new(),
+        floats: Room::new(),
+        ints: Room::new(),
+    });
+}
+
+/// Makes a call with each guard. It gives all that it left.
+fn twice<T: PartialEq>(call: impl Fn(&mut Rooms, Guard) -> T) -> T {
+    ROOMS.with_borrow_mut(|rooms| {
+        let first = call(rooms, Guard::After);
+        let second = call(rooms, Guard::Before);
+        assert!(first == second, "the same call twice gave different things");
+        first
+    })
+}
+
+fn array(bytes: &mut [u8]) -> &mut State {
+    bytes.try_into().expect("a state has 80 bytes")
+}
+
+/// A call on a state alone.
+fn on_state(state: &mut State, call: impl Fn(&mut State) -> Answer) -> Answer {
+    let (answer, after) = twice(|rooms, guard| {
+        let copy = array(rooms.state.lay(&*state, guard));
+        (call(copy), *copy)
+    });
+    *state = after;
+    answer
+}
+
+pub fn open(card: &[u8], state: &mut State) -> Answer {
+    let (answer, after) = twice(|rooms, guard| {
+        let copy = array(rooms.state.lay(&*state, guard));
+        let laid = rooms.bytes.lay(card, guard);
+        let answer = plain::open(laid, copy);
+        assert!(laid == card, "the card was written");
+        (answer, *copy)
+    });
+    *state = after;
+    answer
+}
+
+pub fn write(state: &State, buffer: &mut [u8]) -> Answer {
+    let (answer, after) = twice(|rooms, guard| {
+        let copy = array(rooms.state.lay(state, guard));
+        let laid = rooms.bytes.lay(buffer, guard);
+        let answer = plain::write(copy, laid);
+        assert!(copy == state, "the state was written");
+        (answer, laid.to_vec())
+    });
+    buffer.copy_from_slice(&after);
+    answer
+}
+
+/// As words, since no NaN is equal to itself.
+fn bits(floats: &[f32]) -> Vec<u32> {
+    floats.iter().map(|x| x.to_bits()).collect()
+}
+
+pub fn apply(state: &mut State, width: usize, height: usize, lent: Lent) -> Answer {
+    let (answer, after, [framebuffer, history, floats, ints]) = twice(|rooms, guard| {
+        let copy = array(rooms.state.lay(&*state, guard));
+        let framebuffer = rooms.framebuffer.lay(lent.framebuffer, guard);
+        let history = rooms.history.lay(lent.history, guard);
+        let floats = rooms.floats.lay(lent.floats, guard);
+        let ints = rooms.ints.lay(lent.ints, guard);
+        let laid = Lent {
+            framebuffer: &mut *framebuffer,
+            history: &mut *history,
+            floats: &mut *floats,
+            ints: &mut *ints,
+        };
+        let answer = plain::apply(copy, width, height, laid);
+        let left = [
+            framebuffer.to_vec(),
+            history.to_vec(),
+            bits(floats),
+            ints.to_vec(),
+        ];
+        (answer, *copy, left)
+    });
+    *state = after;
+    lent.framebuffer.copy_from_slice(&framebuffer);
+    lent.history.copy_from_slice(&history);
+    for (x, word) in lent.floats.iter_mut().zip(floats) {
+        *x = f32::from_bits(word);
+    }
+    lent.ints.copy_from_slice(&ints);
+    answer
+}
+
+pub fn reset(state: &mut State) -> Answer {
+    on_state(state, plain::reset)
+}
+
+pub fn set_enabled(state: &mut State, kind: u8, on: u8) -> Answer {
+    on_state(state, |state| plain::set_enabled(state, kind, on))
+}
+
+pub fn cycle_lut(state: &mut State) -> Answer {
+    on_state(state, plain::cycle_lut)
+}
+
+pub fn depth(state: &State) -> Answer {
+    let mut copy = *state;
+    let answer = on_state(&mut copy, |state| plain::depth(state));
+    assert!(copy == *state, "the state was written");
+    answer
+}

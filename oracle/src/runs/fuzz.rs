@@ -1,0 +1,193 @@
+//! The library `bridge` inside the fuzzer. Its bytes are read as a card or a state and a list of calls, good and bad, which
+//! are made on both sides, as those of a run are. Buffers are lent through guarded.rs.
+
+use super::calls::{Call, Frame};
+use super::cases::Case;
+use super::noise::Noise;
+use super::sides::{Held, Sides};
+use super::station::{Lengths, Station};
+use crate::bridge::{self, State};
+use crate::fuzz;
+use crate::met::Met;
+use crate::passes::frames::{Picture, KINDS};
+use crate::random::Random;
+use crate::seeds::STATE;
+use crate::tally::RunTally;
+
+/// The words of the longest frame that is accepted, and those that an input takes in all: more would make it slow.
+const FRAME: usize = 1024;
+const ALL: usize = 4 * FRAME;
+
+/// Words of the history buffer: past those of the deepest frames too.
+const HISTORY: usize = 8 * FRAME + 64;
+
+/// Sides that the highest bytes stand for.
+const SIDES: [usize; 12] = [
+    256,
+    512,
+    1023,
+    1024,
+    1024,
+    1025,
+    1 << 16,
+    1 << 31,
+    1 << 32,
+    1 << 62,
+    1 << 63,
+    usize::MAX,
+];
+
+/// The fuzzer's bytes in turn, and zeros after the last.
+struct Tape<'a> {
+    rest: &'a [u8],
+    /// The size of the last frame.
+    size: (usize, usize),
+}
+
+impl Tape<'_> {
+    fn byte(&mut self) -> u8 {
+        let Some((&byte, rest)) = self.rest.split_first() else {
+            return 0;
+        };
+        self.rest = rest;
+        byte
+    }
+
+    fn bytes(&mut self, count: usize) -> Vec<u8> {
+        (0..count).map(|_| self.byte()).collect()
+    }
+
+    /// A side of a frame: mostly a short one.
+    fn side(&mut self) -> usize {
+        let byte = usize::from(self.byte());
+        match byte {
+            0..160 => 1 + byte % 16,
+            160..244 => byte - 160,
+            _ => SIDES[byte - 244],
+        }
+    }
+
+    /// Up to 128 more than this, or less.
+    fn near(&mut self, needed: usize) -> usize {
+        let more = self.byte() as i8;
+        needed.saturating_add_signed(more.into())
+    }
+}
+
+#[no_mangle]
+extern "C" fn fuzz_bridge(data: *const u8, len: usize) -> i32 {
+    // SAFETY: libFuzzer calls this.
+    let input = unsafe { fuzz::input(data, len) };
+    let met = &mut Met::new();
+    if let Err(text) = play(input, met) {
+        panic!("different: {text}");
+    }
+    fuzz::guide(met);
+    0
+}
+
+fn play(input: &[u8], met: &mut Met<Case>) -> Held {
+    let tape = &mut Tape {
+        rest: input,
+        size: (1, 1),
+    };
+    let random = &mut Random::new(tape.byte().into());
+    let Some(state) = begin(tape, random, met)? else {
+        return Ok(());
+    };
+    let mut sides = Sides::new(state, Noise::any(random.next()).words(HISTORY));
+    let tally = &mut RunTally::new("fuzz");
+    let mut words = 0;
+    while !tape.rest.is_empty() && words < ALL {
+        if tape.byte() % 16 == 15 {
+            // Another state, for good: calls on a bad one are refused from here on.
+            sides = sides.damaged(damaged(sides.state, tape));
+            let good = sides.machine.station().is_some();
+            met.note(if good { Case::Another } else { Case::Bad });
+        }
+        let call = call(tape, &sides);
+        if let Call::Frame(frame) = &call {
+            words += frame.lent.framebuffer;
+        }
+        sides
+            .call(&call, random, tally, met)
+            .map_err(|text| format!("{call}: {text}"))?;
+    }
+    Ok(())
+}
+
+/// The state that the bytes begin with, or that of their card; none where the card is refused.
+fn begin(tape: &mut Tape, random: &mut Random, met: &mut Met<Case>) -> Held<Option<State>> {
+    let length = tape.byte();
+    let mut state = [(); 80].map(|()| random.word() as u8);
+    if length >= STATE {
+        state.copy_from_slice(&tape.bytes(80));
+        return Ok(Some(state));
+    }
+    let card = tape.bytes(length.into());
+    let before = state;
+    let answer = bridge::open(&card, &mut state);
+    let asked = match Station::open(&card) {
+        Ok(station) => (Ok(0), station.state()),
+        Err(number) => {
+            met.note(Case::Open(number));
+            (Err(number), before)
+        }
+    };
+    if (answer, state) != asked {
+        return Err(format!(
+            "opening {card:02x?}: here {answer:?} and {state:02x?}"
+        ));
+    }
+    Ok(answer.is_ok().then_some(state))
+}
+
+/// The state with some bits of one byte changed.
+fn damaged(mut state: State, tape: &mut Tape) -> State {
+    let place = usize::from(tape.byte()) % state.len();
+    state[place] ^= tape.byte();
+    state
+}
+
+fn call(tape: &mut Tape, sides: &Sides) -> Call {
+    match tape.byte() % 16 {
+        0..4 => Call::Frame(frame(tape, sides)),
+        4 => {
+            tape.size = (tape.size.1, tape.size.0);
+            Call::Frame(frame(tape, sides))
+        }
+        5..9 => {
+            tape.size = (tape.side(), tape.side());
+            Call::Frame(frame(tape, sides))
+        }
+        9 => Call::Reset,
+        10..12 => Call::Switch(tape.byte(), tape.byte()),
+        12 | 13 => Call::Step,
+        14 => Call::Write(tape.byte().into()),
+        _ => Call::Depth,
+    }
+}
+
+/// A frame with exactly what it needs, or with lengths near it. One that is too large is lent too little.
+fn frame(tape: &mut Tape, sides: &Sides) -> Frame {
+    let size = tape.size;
+    let count = size.0.saturating_mul(size.1).min(FRAME);
+    let depth = sides.machine.station().and_then(Station::depth);
+    let needed = [count, depth.unwrap_or_default() * count, 6 * count, count];
+    let exact = tape.byte() % 2 == 0;
+    let [framebuffer, history, floats, ints] =
+        needed.map(|needed| if exact { needed } else { tape.near(needed) });
+    Frame {
+        size,
+        picture: Picture {
+            kind: KINDS[usize::from(tape.byte()) % KINDS.len()],
+            seed: tape.byte().into(),
+        },
+        lent: Lengths {
+            framebuffer,
+            history: history.min(HISTORY),
+            floats,
+            ints,
+        },
+    }
+}
