@@ -1,0 +1,136 @@
+/* A host for oracle/memory: plays inputs of program `station`, one for each file that is named, through the library `bridge`, and
+   prints what the program prints. Each lent buffer is a block of its own, as long as is needed and with nothing in it: valgrind
+   tells an access past it, and a printed digit that comes from a word which nobody wrote. */
+#include <stdio.h>
+#include <stdlib.h>
+#include <string.h>
+#include "hedgemallow.h"
+
+enum { LONGEST = 1 << 16 };
+
+static uint8_t input[LONGEST];
+static size_t left; /* bytes that are still to be read: the last ones of the input */
+static const uint8_t *next;
+
+static uint8_t *state;
+static uint32_t *history; /* for frames of `count` words; a frame of another count fills it anew */
+static size_t count;
+
+static void *room(size_t bytes) {
+    void *block = malloc(bytes);
+    if (!block) exit(2);
+    return block;
+}
+
+static const uint8_t *take(size_t bytes) {
+    const uint8_t *taken = next;
+    if (bytes > left) return 0;
+    next += bytes;
+    left -= bytes;
+    return taken;
+}
+
+/* Prints a refusal, and gives 0: for an event that ends the reading. */
+static int refused(uint32_t number) {
+    printf("E %u\n", (unsigned)number);
+    return 0;
+}
+
+/* Prints a line of the letter, or the refusal. */
+static int told(char letter, uint32_t answer) {
+    if (answer >= HEDGEMALLOW_REFUSED)
+        refused(answer - HEDGEMALLOW_REFUSED);
+    else if (letter == 'L')
+        printf("L %u\n", (unsigned)answer);
+    else
+        printf("%c\n", letter);
+    return 1;
+}
+
+static int frame(void) {
+    const uint8_t *size = take(2), *pixels;
+    if (!size) return refused(1);
+    size_t width = size[0], height = size[1], words = width * height;
+    if (!words || width > 32 || height > 32) return refused(8);
+    if (!(pixels = take(3 * words))) return refused(1);
+
+    size_t places = hedgemallow_depth(state) * words;
+    if (words != count) {
+        free(history);
+        history = room(places * sizeof *history);
+        count = words;
+    }
+    uint32_t *picture = room(words * sizeof *picture), *ints = room(words * sizeof *ints);
+    float *floats = room(6 * words * sizeof *floats);
+    for (size_t i = 0; i < words; i++)
+        picture[i] = (uint32_t)pixels[3 * i] << 16 | (uint32_t)pixels[3 * i + 1] << 8 | pixels[3 * i + 2];
+    uint32_t answer = hedgemallow_apply(state, picture, words, width, height, history, places, floats, 6 * words, ints, words);
+    printf("F");
+    for (size_t i = 0; i < words; i++) printf(" %06X", (unsigned)picture[i]);
+    printf("\n");
+    free(picture);
+    free(ints);
+    free(floats);
+    return answer == 0;
+}
+
+static int change(void) {
+    const uint8_t *bytes = take(2);
+    if (!bytes || bytes[1] > 1) return refused(1);
+    return told('S', hedgemallow_set_enabled(state, bytes[0], bytes[1]));
+}
+
+/* Whether to go on after it. */
+static int event(uint8_t letter) {
+    switch (letter) {
+    case 'F': return frame();
+    case 'R': return told('R', hedgemallow_reset(state));
+    case 'S': return change();
+    case 'L': return told('L', hedgemallow_cycle_lut(state));
+    default: return refused(1);
+    }
+}
+
+/* Into blocks of the card's length and of one byte less. The states hold the card from byte 1 on. */
+static void write_card(void) {
+    size_t length = state[0];
+    uint8_t *card = room(length), *short_card = room(length - 1);
+    if (hedgemallow_write(state, card, length) != length || memcmp(card, state + 1, length)) printf("another card\n");
+    if (hedgemallow_write(state, short_card, length - 1) != HEDGEMALLOW_SHORT_CARD_BUFFER) printf("no refusal 14\n");
+    free(card);
+    free(short_card);
+}
+
+static void play(void) {
+    const uint8_t *length = take(1), *bytes = length ? take(*length) : 0, *letter;
+    if (!bytes) {
+        refused(1);
+        return;
+    }
+    uint8_t *card = memcpy(room(*length), bytes, *length);
+    state = room(HEDGEMALLOW_STATE);
+    history = 0;
+    count = 0;
+    uint32_t answer = hedgemallow_open(card, *length, state);
+    free(card);
+    if (answer) {
+        refused(answer - HEDGEMALLOW_REFUSED);
+    } else {
+        while ((letter = take(1)) && event(*letter)) continue;
+        write_card();
+    }
+    free(history);
+    free(state);
+}
+
+int main(int number, char **names) {
+    for (int i = 1; i < number; i++) {
+        FILE *file = fopen(names[i], "rb");
+        if (!file) return 2;
+        left = fread(input, 1, LONGEST, file);
+        next = input;
+        fclose(file);
+        play();
+    }
+    return 0;
+}
