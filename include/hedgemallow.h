@@ -25,9 +25,11 @@
  * decides a refusal. The history's words belong to the station between its frames.
  *
  * The caller promises, as always in C: a pointer is aligned and not null, as many elements as
- * its length says are there (80 bytes for a state), and no two arguments of a call overlap. No
- * function keeps a pointer, allocates, or has state of its own, so calls on different buffers
- * may run at the same time.
+ * its length says are there (80 bytes for a state), no two arguments of a call overlap, and no
+ * other thread writes them during it. The thread's control word for floats (MXCSR) rounds to nearest
+ * and keeps subnormal numbers, as it does unless a program changes it. A call takes about 40 KiB of
+ * stack. No function keeps a pointer, allocates, or has state of its own, so calls on different
+ * buffers may run at the same time.
  */
 #ifndef HEDGEMALLOW_H
 #define HEDGEMALLOW_H
