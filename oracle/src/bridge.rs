@@ -1,5 +1,6 @@
-//! The calls under comparison, from the static library `bridge`, as safe functions. Beside probe.rs the only
-//! file with `unsafe`: a change of the exports in crates/bridge/src must be made here too.
+//! The calls under comparison, from the static library `bridge`, as safe functions. A change of the exports in
+//! crates/bridge/src must be made here too. `unsafe` is here, in probe.rs, in race.rs, and in measure/heap.rs and
+//! stack.rs.
 
 /// A station as the library lends it.
 pub type State = [u8; 80];

@@ -1,8 +1,9 @@
 //! The comparison of the number steps with Rust's own, of cards with a reading of document 01, of the
 //! passes with the original's, of program `station` with recorded answers and with a model of document
-//! 01 over the original's pipeline, and of runs of calls with such a model. Three scripts build and start
-//! it from the repository's root: `oracle/compare`, `oracle/bench` and `oracle/record`. They set
-//! `with_original` where they find the original: without it there are no passes to compare, and no model.
+//! 01 over the original's pipeline, and of runs of calls with such a model. Beside it the measurement of both.
+//! Four scripts build and start it from the repository's root: `oracle/compare`, `oracle/bench`, `oracle/counts`
+//! and `oracle/record`. They set `with_original` where they find the original: without it there are no passes
+//! to compare, and no model.
 #![cfg_attr(not(with_original), allow(dead_code))]
 
 mod bench;
@@ -10,11 +11,14 @@ mod bench;
 mod bridge;
 mod cards;
 mod constants;
+#[cfg(with_original)]
+mod measure;
 mod met;
 #[cfg(with_original)]
 mod passes;
 mod patterns;
 mod probe;
+mod race;
 mod random;
 #[cfg(with_original)]
 mod runs;
@@ -32,7 +36,9 @@ fn main() -> ExitCode {
     let words: Vec<String> = std::env::args().skip(1).collect();
     let words: Vec<&str> = words.iter().map(String::as_str).collect();
     match words[..] {
-        ["bench"] => measure(),
+        ["bench"] => time(),
+        #[cfg(with_original)]
+        ["measure", ref rest @ ..] => measure::run(rest),
         #[cfg(with_original)]
         ["record", file] => record(Path::new(file)),
         #[cfg(with_original)]
@@ -44,7 +50,7 @@ fn main() -> ExitCode {
         ["quick", original] => compare(Mode::Quick, Some(Path::new(original))),
         ["full", original] => compare(Mode::Full, Some(Path::new(original))),
         _ => {
-            eprintln!("expected: bench, record and a file, runs and quick or full, or quick or full and then the original's folder, if any");
+            eprintln!("expected: bench, measure and what, record and a file, runs and quick or full, or quick or full and then the original's folder, if any");
             ExitCode::from(2)
         }
     }
@@ -102,10 +108,11 @@ fn record(file: &Path) -> ExitCode {
     }
 }
 
-fn measure() -> ExitCode {
+/// The time of the steps and of the passes.
+fn time() -> ExitCode {
     let steps = bench::run();
     #[cfg(with_original)]
-    let passes = passes::bench::run();
+    let passes = measure::time();
     #[cfg(not(with_original))]
     let passes = ExitCode::SUCCESS;
     if steps == ExitCode::SUCCESS {

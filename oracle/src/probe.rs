@@ -1,6 +1,6 @@
-//! The steps and passes under comparison, from the static library `probe`, as safe functions. The
-//! only file with `unsafe`: nothing checks these declarations against the library's source in
-//! crates/probe/src, so a change there must be made here too. What a pass requires is asserted.
+//! The steps and passes under comparison, from the static library `probe`, as safe functions. Nothing
+//! checks these declarations against the library's source in crates/probe/src, so a change there must
+//! be made here too. What a pass requires is asserted.
 
 /// The declarations, in a module of their own so that the safe functions may bear short names.
 mod exports {
