@@ -1,11 +1,13 @@
 //! The time of each pass alone and of the chains beside the original's, held to their limits.
 
+use std::hint::black_box;
 use std::process::ExitCode;
 use std::time::Duration;
 
 use super::cases::{self, Case};
-use super::stand::Size;
+use super::stand::{picture, Size};
 use super::time::{measured, Patience, Times};
+use crate::race::timed;
 
 /// Those of the console, of the same three times as large, and the largest.
 const SIZES: [Size; 3] = [(256, 240), (768, 720), (1024, 1024)];
@@ -24,6 +26,9 @@ pub fn run() -> ExitCode {
     println!();
     println!("Passes and chains, through `bridge` and through the original's pipeline, on a random frame: nanoseconds per");
     println!("pixel, the median of rounds by turns, and frames a second. Chain: all ten passes, in the order of their kinds.");
+    for size in SIZES {
+        copy(size);
+    }
     let mut status = ExitCode::SUCCESS;
     for case in cases::all() {
         for size in SIZES {
@@ -33,6 +38,33 @@ pub fn run() -> ExitCode {
         }
     }
     status
+}
+
+/// Prints what memory alone takes, per pixel: where a frame is read and written once, and where the frames of the
+/// longest history move by a place and one joins them.
+fn copy(size: Size) {
+    let given = picture(size);
+    let count = given.len();
+    let mut history = given.repeat(8);
+    let frame = median(count, || {
+        black_box(&mut history[..count]).copy_from_slice(black_box(&given));
+    });
+    let moved = median(count, || {
+        let history = black_box(&mut history);
+        history.copy_within(..7 * count, count);
+        history[..count].copy_from_slice(black_box(&given));
+    });
+    println!(
+        "copy size={}x{} frame_ns={frame:.3} history_ns={moved:.3}",
+        size.0, size.1
+    );
+}
+
+/// Of the time of a call, in nanoseconds per pixel.
+fn median(pixels: usize, mut call: impl FnMut()) -> f64 {
+    let mut times = [(); 51].map(|()| timed(&mut call));
+    times.sort();
+    times[times.len() / 2].as_secs_f64() * 1e9 / pixels as f64
 }
 
 /// Prints the line of a case at one size, and tells whether it is within its limit.
