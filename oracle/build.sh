@@ -1,4 +1,4 @@
-# Sourced by compare, bench, record and fuzz, from the repository's root: how the comparison program is built.
+# Sourced by compare, bench, counts, record and fuzz, from the repository's root: how the comparison program is built.
 
 # Sets `original` to the folder of the original program, or to nothing where it is not there. A relative HEDGEMALLOW_ORIGINAL is
 # meant from the folder $1, where the caller stands.

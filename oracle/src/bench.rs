@@ -2,9 +2,9 @@
 
 use std::hint::black_box;
 use std::process::ExitCode;
-use std::time::Instant;
 
 use crate::probe;
+use crate::race::{race, timed};
 
 /// Values in the array.
 const LEN: usize = 4096;
@@ -26,10 +26,10 @@ pub fn run() -> ExitCode {
     let channels = values(0.0, 255.0);
     let signed = values(-255.0, 255.0);
     let rows = [
-        ("cut", race(&channels, [probe::cut, rust_cut])),
-        ("round", race(&signed, [probe::round, rust_round])),
-        ("nearest", race(&channels, [probe::nearest, rust_nearest])),
-        ("root", race(&channels, [probe::root, rust_root])),
+        ("cut", best(&channels, [probe::cut, rust_cut])),
+        ("round", best(&signed, [probe::round, rust_round])),
+        ("nearest", best(&channels, [probe::nearest, rust_nearest])),
+        ("root", best(&channels, [probe::root, rust_root])),
     ];
 
     println!("Arrays of {LEN} values, {CALLS} calls timed together, best of {ROUNDS} rounds.");
@@ -57,9 +57,8 @@ fn values(low: f32, high: f32) -> Vec<f32> {
         .collect()
 }
 
-/// The best times of two loops over `xs`, in nanoseconds per value. They take turns, so that a slow
-/// moment of the machine hits both, and the first turn goes to each in every second round.
-fn race<T: Copy + Default + PartialEq>(xs: &[f32], loops: [Loop<T>; 2]) -> [f64; 2] {
+/// The best times of two loops over `xs`, in nanoseconds per value.
+fn best<T: Copy + Default + PartialEq>(xs: &[f32], loops: [Loop<T>; 2]) -> [f64; 2] {
     // To be compared, both must do the same work.
     let results = loops.map(|step| {
         let mut out = vec![T::default(); LEN];
@@ -69,19 +68,14 @@ fn race<T: Copy + Default + PartialEq>(xs: &[f32], loops: [Loop<T>; 2]) -> [f64;
     assert!(results[0] == results[1], "the results differ");
 
     let mut out = vec![T::default(); LEN];
-    let mut best = [f64::INFINITY; 2];
-    for round in 0..ROUNDS {
-        for turn in 0..2 {
-            let which = (round + turn) % 2;
-            let start = Instant::now();
+    let times = race(ROUNDS, |which| {
+        timed(|| {
             for _ in 0..CALLS {
                 loops[which](black_box(xs), black_box(&mut out));
             }
-            let time = start.elapsed().as_secs_f64() * 1e9 / (CALLS * LEN) as f64;
-            best[which] = best[which].min(time);
-        }
-    }
-    best
+        })
+    });
+    times.map(|times| times[0].as_secs_f64() * 1e9 / (CALLS * LEN) as f64)
 }
 
 #[inline(never)]

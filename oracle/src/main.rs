@@ -1,9 +1,10 @@
 //! The comparison of the number steps with Rust's own, of cards with a reading of document 01, of the
 //! passes with the original's, of program `station` with recorded answers and with a model of document
-//! 01 over the original's pipeline, and of runs of calls with such a model. Three scripts build and start
-//! it from the repository's root: `oracle/compare`, `oracle/bench` and `oracle/record`. They set
-//! `with_original` where they find the original: without it there are no passes to compare, and no model.
-//! `oracle/fuzz` compiles it once more, with `fuzz` set, as a library that libFuzzer calls.
+//! 01 over the original's pipeline, and of runs of calls with such a model. Beside it the measurement of both.
+//! Four scripts build and start it from the repository's root: `oracle/compare`, `oracle/bench`, `oracle/counts`
+//! and `oracle/record`. They set `with_original` where they find the original: without it there are no passes
+//! to compare, and no model. `oracle/fuzz` compiles it once more, with `fuzz` set, as a library that libFuzzer
+//! calls.
 #![cfg_attr(any(fuzz, not(with_original)), allow(dead_code))]
 
 mod bench;
@@ -14,11 +15,14 @@ mod cards;
 mod constants;
 #[cfg(fuzz)]
 mod fuzz;
+#[cfg(with_original)]
+mod measure;
 mod met;
 #[cfg(with_original)]
 mod passes;
 mod patterns;
 mod probe;
+mod race;
 mod random;
 #[cfg(with_original)]
 mod runs;
@@ -38,7 +42,9 @@ fn main() -> ExitCode {
     let words: Vec<String> = std::env::args().skip(1).collect();
     let words: Vec<&str> = words.iter().map(String::as_str).collect();
     match words[..] {
-        ["bench"] => measure(),
+        ["bench"] => time(),
+        #[cfg(with_original)]
+        ["measure", ref rest @ ..] => measure::run(rest),
         #[cfg(with_original)]
         ["record", file] => told(std::fs::write(file, station::record::all())),
         #[cfg(with_original)]
@@ -54,7 +60,7 @@ fn main() -> ExitCode {
         ["quick", original] => compare(Mode::Quick, Some(Path::new(original))),
         ["full", original] => compare(Mode::Full, Some(Path::new(original))),
         _ => {
-            eprintln!("expected: bench, record and a file, seeds and station or bridge and a folder, runs and quick or full, or quick or full and then the original's folder, if any");
+            eprintln!("expected: bench, measure and what, record and a file, seeds and station or bridge and a folder, runs and quick or full, or quick or full and then the original's folder, if any");
             ExitCode::from(2)
         }
     }
@@ -112,10 +118,11 @@ fn told(written: std::io::Result<()>) -> ExitCode {
     }
 }
 
-fn measure() -> ExitCode {
+/// The time of the steps and of the passes.
+fn time() -> ExitCode {
     let steps = bench::run();
     #[cfg(with_original)]
-    let passes = passes::bench::run();
+    let passes = measure::time();
     #[cfg(not(with_original))]
     let passes = ExitCode::SUCCESS;
     if steps == ExitCode::SUCCESS {

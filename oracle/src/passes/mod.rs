@@ -1,6 +1,5 @@
 //! The passes beside the original's, whose files are compiled where they lie.
 
-pub mod bench;
 mod cases;
 pub mod chain;
 pub mod compare;

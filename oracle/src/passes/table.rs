@@ -31,7 +31,7 @@ pub struct Pass {
     /// The settings that are measured.
     pub measured: &'static [&'static [f32]],
     /// The most time it may take, in times of the original's.
-    pub limit: f64,
+    pub limit: fn(&Setting) -> f64,
 }
 
 /// A frame on its way through a pass.
@@ -63,7 +63,7 @@ pub static PASSES: &[Pass] = &[
         },
         cost: |_| 20,
         measured: &[&[0.8, 0.6, 0.35]],
-        limit: 1.0,
+        limit: |_| 1.0,
     },
     Pass {
         name: "bloom",
@@ -95,7 +95,7 @@ pub static PASSES: &[Pass] = &[
         },
         cost: |s| 40 + 7 * (2 * s.whole(2) + 1),
         measured: &[&[100.0, 0.5, 4.0], &[100.0, 0.5, 64.0]],
-        limit: 0.35,
+        limit: |s| blur_limit(s.whole(2)),
     },
     Pass {
         name: "color_correction",
@@ -130,7 +130,7 @@ pub static PASSES: &[Pass] = &[
         ours: |s, f, _| probe::color_correction(f.words, s.float(0), s.float(1), s.float(2)),
         cost: |_| 45,
         measured: &[&[0.05, 1.1, 1.2]],
-        limit: 1.0,
+        limit: |_| 1.0,
     },
     Pass {
         name: "crt",
@@ -144,7 +144,7 @@ pub static PASSES: &[Pass] = &[
         ours: |s, f, _| probe::crt(f.words, f.width, f.height, s.float(0)),
         cost: |_| 30,
         measured: &[&[0.75]],
-        limit: 1.0,
+        limit: |_| 1.0,
     },
     Pass {
         name: "curvature",
@@ -157,7 +157,7 @@ pub static PASSES: &[Pass] = &[
         ours: |s, f, lent| probe::curvature(f.words, lent.words, f.width, f.height, s.float(0)),
         cost: |_| 30,
         measured: &[&[0.1]],
-        limit: 1.0,
+        limit: |_| 1.0,
     },
     Pass {
         name: "lut",
@@ -183,7 +183,7 @@ pub static PASSES: &[Pass] = &[
             &[5.0, 0.75],
             &[6.0, 0.75],
         ],
-        limit: 1.0,
+        limit: |_| 1.0,
     },
     Pass {
         name: "ntsc",
@@ -193,7 +193,7 @@ pub static PASSES: &[Pass] = &[
         ours: |s, f, _| probe::ntsc(f.words, f.width, f.height, s.float(0), s.whole(1)),
         cost: |s| 30 + 4 * (2 * s.whole(1) + 1),
         measured: &[&[0.75, 4.0], &[0.75, 64.0]],
-        limit: 0.35,
+        limit: |s| blur_limit(s.whole(1)),
     },
     Pass {
         name: "persistence",
@@ -219,7 +219,7 @@ pub static PASSES: &[Pass] = &[
         },
         cost: |s| 10 + 4 * s.whole(1),
         measured: &[&[0.35, 3.0], &[0.35, 8.0]],
-        limit: 1.0,
+        limit: |_| 1.0,
     },
     Pass {
         name: "scanlines",
@@ -229,7 +229,7 @@ pub static PASSES: &[Pass] = &[
         ours: |s, f, _| probe::scanlines(f.words, f.width, f.height, s.float(0)),
         cost: |_| 10,
         measured: &[&[0.35]],
-        limit: 1.0,
+        limit: |_| 1.0,
     },
     Pass {
         name: "vignette",
@@ -242,9 +242,18 @@ pub static PASSES: &[Pass] = &[
         ours: |s, f, lent| probe::vignette(f.words, lent.floats, f.width, f.height, s.float(0)),
         cost: |_| 30,
         measured: &[&[0.35]],
-        limit: 1.0,
+        limit: |_| 1.0,
     },
 ];
+
+/// What a blur may take: less where its sums are all that counts.
+fn blur_limit(radius: usize) -> f64 {
+    if radius < 64 {
+        0.35
+    } else {
+        0.2
+    }
+}
 
 /// In the order of the enum: a card holds the place.
 pub const PRESETS: [LutPreset; 7] = [

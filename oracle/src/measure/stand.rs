@@ -1,0 +1,80 @@
+//! A card on both sides, with all that a frame of one size needs.
+
+use crate::bridge::{self, Lent, State};
+use crate::cards::paper::Opened;
+use crate::passes::chain::built;
+use crate::passes::frames::{Kind, Picture};
+use crate::passes::original::pipeline::PostProcessPipeline;
+
+use super::cases::Case;
+
+#[derive(Clone, Copy)]
+pub enum Side {
+    Original,
+    Ours,
+}
+
+/// Both sides, by their turns.
+pub const SIDES: [Side; 2] = [Side::Original, Side::Ours];
+
+pub type Size = (usize, usize);
+
+pub struct Stand {
+    size: Size,
+    pipeline: PostProcessPipeline,
+    state: State,
+    pub history: Vec<u32>,
+    pub floats: Vec<f32>,
+    pub ints: Vec<u32>,
+}
+
+/// The card of a case.
+pub fn card(case: &Case) -> Vec<u8> {
+    let records = case.records.clone();
+    Opened { records }.written()
+}
+
+/// The frame that every side is given: each pixel by itself.
+pub fn picture((width, height): Size) -> Vec<u32> {
+    let picture = Picture {
+        kind: Kind::Random,
+        seed: 1,
+    };
+    picture.draw(width, height)
+}
+
+impl Stand {
+    /// The card opened on both sides. The buffers have the words that a frame needs, and none past them.
+    pub fn new(case: &Case, size: Size) -> Self {
+        let mut state = [0; 80];
+        bridge::open(&card(case), &mut state).expect("a measured card is taken");
+        let depth = bridge::depth(&state).expect("an opened station has a depth") as usize;
+        let count = size.0 * size.1;
+        Stand {
+            size,
+            pipeline: built(&case.records),
+            state,
+            history: vec![0; depth * count],
+            floats: vec![0.0; 6 * count],
+            ints: vec![0; count],
+        }
+    }
+
+    /// One frame.
+    pub fn frame(&mut self, side: Side, words: &mut [u32]) {
+        let (width, height) = self.size;
+        match side {
+            Side::Original => self.pipeline.apply(words, width, height),
+            Side::Ours => {
+                let lent = Lent {
+                    framebuffer: words,
+                    history: &mut self.history,
+                    floats: &mut self.floats,
+                    ints: &mut self.ints,
+                };
+                let answer = bridge::apply(&mut self.state, width, height, lent);
+                assert!(answer == Ok(0), "the frame was refused: {answer:?}");
+            }
+        }
+    }
+}
