@@ -4,6 +4,7 @@ use mathlib.Core.Logic.{_⊎_, inl, inr, ⊎-elim}
 use mathlib.Core.Bool.{Bool, true, false, _&&_}
 use mathlib.Core.List.{List, _++_}
 use Prim.Native.Nat.{ℕ, zero, suc, _+_, _-_, _*_, _≤_, _<_, zero-le, suc-le-suc}
+use native.Mathlib.Nat.{add-zero, add-suc}
 use native.Mathlib.Numerals.{add-one}
 use native.Mathlib.Omega.{arith}
 use lib.Dec.{T, leb, ltb}
@@ -13,7 +14,7 @@ use lib.Ieee.{Float, nan}
 use borrow.Author.Tests.{le-leb, lt-leb, lt-ltb, le-ltb, ltb-true}
 use Rattle.num.specs.F32.{_⊕_, _⊗_}
 use Rattle.num.specs.Rewrite.{Rewritten, every, fill, length-rewrite, rewrite-ext, rewrite-same, getD-rewrite, getD-fill, mid}
-use Rattle.passes.specs.Blur.{at, cell, weight, distance, inside, taken, step, total, weights, weighted, ratio, blurBy, blurAt, Begins}
+use Rattle.passes.specs.Blur.{at, cell, weight, distance, inside, taken, step, total, onward, weights, weighted, ratio, blurBy, blurAt, Begins}
 
 lt-or-le : (a b : ℕ) → (a < b) ⊎ (b ≤ a)
 lt-or-le a zero = inr zero-le
@@ -66,6 +67,12 @@ pub total-more : (term : ℕ → Float → Float) (n radius x k : ℕ) → total
 unfolding total
 total-more term n radius x k = rw add-one
 
+-- m offsets more
+pub total-onward : (term : ℕ → Float → Float) (n radius x k m : ℕ) → onward term n radius x k m (total term n radius x k) ≡ total term n radius x (k + m)
+unfolding total onward
+total-onward term n radius x k zero = ap (total term n radius x) (sym (add-zero k))
+total-onward term n radius x k (suc m) = ap (step term n radius x (k + m)) (total-onward term n radius x k m) ∙ ap (total term n radius x) (sym (add-suc k m))
+
 -- ---- offset k along a line
 
 module _ (acc src : List Float) (radius k : ℕ) (e : length acc ≡ length src) where
@@ -97,22 +104,45 @@ module _ (acc src : List Float) (radius k : ℕ) (e : length acc ≡ length src)
 
 -- ---- offset k of row y along the columns of a plane
 
-module _ (acc plane : List Float) (h radius y k : ℕ) where
-  abbrev below : ℕ → Float → Float
-  below x = step (λ i w. cell plane (length acc) x i ⊗ w) h radius y k
+module _ (acc plane : List Float) (h radius y : ℕ) where
+  abbrev below : ℕ → ℕ → Float → Float
+  below k x = step (λ i w. cell plane (length acc) x i ⊗ w) h radius y k
 
-  pub row-skipped : inside h radius y k ≡ false → acc ≡ every below acc
-  row-skipped e = sym (rewrite-same (length acc) below acc (λ x v l. simp e))
+  pub row-skipped : (k : ℕ) → inside h radius y k ≡ false → acc ≡ every (below k) acc
+  row-skipped k e = sym (rewrite-same (length acc) (below k) acc (λ x v l. simp e))
 
-  pub row-added : (row : List Float) (w : Float) → radius ≤ y + k → y + k - radius < h
-      → row ≡ take (length acc) (drop ((y + k - radius) * length acc) plane) → w ≡ weight radius (distance radius k)
-      → every (λ i v. v ⊕ at row i ⊗ w) acc ≡ every below acc
-  row-added row w p q er ew =
+  -- the row i of the plane, which is that at offset k, times the weight
+  row-step : (k i : ℕ) (row : List Float) (w : Float) → radius ≤ y + k → y + k - radius < h → i ≡ y + k - radius
+      → row ≡ take (length acc) (drop (i * length acc) plane) → w ≡ weight radius (distance radius k)
+      → (x : ℕ) (v : Float) → x < length acc → v ⊕ at row x ⊗ w ≡ below k x v
+  row-step k i row w p q ei er ew x v l =
       let n = length acc in
-      let r = (y + k - radius) * n in
-      rewrite-ext n (λ i v. v ⊕ at row i ⊗ w) below acc (λ x v l.
-      simp (er, ew, inside-yes h radius y k p q)
-      (ap (λ (s : Float). v ⊕ s ⊗ weight radius (distance radius k)) (getD-take n (drop r plane) x nan l ∙ getD-drop r plane x nan)))
+      simp (ew, inside-yes h radius y k p q)
+      (ap (λ (s : Float). v ⊕ s ⊗ weight radius (distance radius k)) (ap (λ (z : List Float). at z x) er ∙ getD-take n (drop (i * n) plane) x nan l ∙ getD-drop (i * n) plane x nan ∙ ap (λ (j : ℕ). cell plane n x j) ei))
+
+  pub row-added : (k : ℕ) (row : List Float) (w : Float) → radius ≤ y + k → y + k - radius < h
+      → row ≡ take (length acc) (drop ((y + k - radius) * length acc) plane) → w ≡ weight radius (distance radius k)
+      → every (λ i v. v ⊕ at row i ⊗ w) acc ≡ every (below k) acc
+  row-added k row w p q er ew = rewrite-ext (length acc) (λ i v. v ⊕ at row i ⊗ w) (below k) acc (row-step k (y + k - radius) row w p q refl er ew)
+
+  pub row-onward : (k : ℕ) → every (below k) acc ≡ every (λ x. onward (λ i w. cell plane (length acc) x i ⊗ w) h radius y k 1) acc
+  unfolding onward
+  row-onward k = ap (λ (j : ℕ). every (below j) acc) (sym (add-zero k))
+
+  -- four rows, from offset k on
+  pub four-added : (k i : ℕ) (a b c d : List Float) (wa wb wc wd : Float) → radius ≤ y + k → y + k + 3 < h + radius → i ≡ y + k - radius
+      → a ≡ take (length acc) (drop (i * length acc) plane) → b ≡ take (length acc) (drop ((i + 1) * length acc) plane)
+      → c ≡ take (length acc) (drop ((i + 2) * length acc) plane) → d ≡ take (length acc) (drop ((i + 3) * length acc) plane)
+      → wa ≡ weight radius (distance radius k) → wb ≡ weight radius (distance radius (k + 1)) → wc ≡ weight radius (distance radius (k + 2)) → wd ≡ weight radius (distance radius (k + 3))
+      → every (λ i v. v ⊕ at a i ⊗ wa ⊕ at b i ⊗ wb ⊕ at c i ⊗ wc ⊕ at d i ⊗ wd) acc ≡ every (λ x. onward (λ i w. cell plane (length acc) x i ⊗ w) h radius y k 4) acc
+  unfolding onward
+  four-added k i a b c d wa wb wc wd p q ei ea eb ec ed fa fb fc fd =
+      rewrite-ext (length acc) (λ i v. v ⊕ at a i ⊗ wa ⊕ at b i ⊗ wb ⊕ at c i ⊗ wc ⊕ at d i ⊗ wd) (λ x. onward (λ i w. cell plane (length acc) x i ⊗ w) h radius y k 4) acc
+      (λ x v l.
+      row-step (k + 3) (i + 3) d wd (omega arith) (omega arith) (omega arith) ed fd x (v ⊕ at a x ⊗ wa ⊕ at b x ⊗ wb ⊕ at c x ⊗ wc) l
+      ∙ ap (below (k + 3) x) (row-step (k + 2) (i + 2) c wc (omega arith) (omega arith) (omega arith) ec fc x (v ⊕ at a x ⊗ wa ⊕ at b x ⊗ wb) l
+      ∙ ap (below (k + 2) x) (row-step (k + 1) (i + 1) b wb (omega arith) (omega arith) (omega arith) eb fb x (v ⊕ at a x ⊗ wa) l
+      ∙ ap (below (k + 1) x) (row-step (k + 0) i a wa (omega arith) (omega arith) (omega arith) ea (fa ∙ ap (λ (j : ℕ). weight radius (distance radius j)) (sym (add-zero k))) x v l))))
 
 -- ---- lines
 

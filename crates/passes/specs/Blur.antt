@@ -35,6 +35,11 @@ unfoldable pub total : (ℕ → Float → Float) → ℕ → ℕ → ℕ → ℕ
 total term n radius x zero = c0·0
 total term n radius x (suc k) = step term n radius x k (total term n radius x k)
 
+-- m offsets of x more, from offset k on
+unfoldable pub onward : (ℕ → Float → Float) → ℕ → ℕ → ℕ → ℕ → ℕ → Float → Float
+onward term n radius x k zero sum = sum
+onward term n radius x k (suc m) sum = step term n radius x (k + m) (onward term n radius x k m sum)
+
 -- over all offsets: the sum of the weighted samples, and that of the weights
 abbrev pub weighted : (ℕ → Float) → ℕ → ℕ → ℕ → Float
 weighted sample n radius x = total (λ i w. sample i ⊗ w) n radius x (2 * radius + 1)

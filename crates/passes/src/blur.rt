@@ -36,6 +36,36 @@ fn add_scaled(acc: &mut [f32], src: &[f32], w: f32)
     }
 }
 
+// Adds a[i] * wa, then b[i] * wb, then c[i] * wc, then d[i] * wd at each i. For four rows the sums are read and written once.
+fn add_four(
+    acc: &mut [f32],
+    a: &[f32],
+    b: &[f32],
+    c: &[f32],
+    d: &[f32],
+    wa: f32,
+    wb: f32,
+    wc: f32,
+    wd: f32,
+)
+    requires { ⌜ (length (now acc) ≡ length (now a)) × (length (now acc) ≡ length (now b)) × (length (now acc) ≡ length (now c)) × (length (now acc) ≡ length (now d)) ⌝ }
+    ensures { λ _. ⌜ now (acc .exit) ≡ every (λ i v. v ⊕ at (now (a .entry)) i ⊗ wa ⊕ at (now (b .entry)) i ⊗ wb ⊕ at (now (c .entry)) i ⊗ wc ⊕ at (now (d .entry)) i ⊗ wd) (now (acc .entry)) ⌝ }
+{
+    let mut i = 0usize;
+    while i < acc.len() {
+        acc[i] = acc[i] + a[i] * wa + b[i] * wb + c[i] * wc + d[i] * wd;
+        i += 1;
+    }
+}
+
+// The weight of offset k.
+fn offset_weight(radius: usize, k: usize) -> f32
+    requires { ⌜ (radius ≤ 64) × (k ≤ 2 * radius) ⌝ }
+    ensures { λ r. ⌜ r ≡ Blur.weight radius (Blur.distance radius k) ⌝ }
+{
+    weight(radius, monus(radius, k) + monus(k, radius))
+}
+
 // Adds the samples at offset k of every place, those outside skipped.
 fn add_offset(acc: &mut [f32], src: &[f32], radius: usize, k: usize)
     requires { ⌜ (length (now acc) ≡ length (now src)) × (radius ≤ 64) × (k ≤ 2 * radius) ⌝ }
@@ -85,7 +115,7 @@ fn add_weight(sum: f32, n: usize, radius: usize, x: usize, k: usize) -> f32
 {
     if radius <= x + k {
         if x + k - radius < n {
-            return sum + weight(radius, monus(radius, k) + monus(k, radius));
+            return sum + offset_weight(radius, k);
         }
     }
     sum
@@ -151,11 +181,51 @@ fn add_row(acc: &mut [f32], plane: &[f32], height: usize, radius: usize, y: usiz
     if radius <= y + k {
         let i = y + k - radius;
         if i < height {
-            let w = weight(radius, monus(radius, k) + monus(k, radius));
+            let w = offset_weight(radius, k);
             let n = acc.len();
             add_scaled(acc, row_of(plane, n, height, i), w);
         }
     }
+}
+
+// Adds the rows at the offsets k to k + 3 of row y, which are inside.
+fn add_four_rows(acc: &mut [f32], plane: &[f32], height: usize, radius: usize, y: usize, k: usize)
+    requires { ⌜ (radius ≤ 64) × (k + 3 ≤ 2 * radius) × (radius ≤ y + k) × (y + k + 3 < height + radius) × (height ≤ 1024) × (length (now plane) ≡ height * length (now acc)) ⌝ }
+    ensures { λ _. ⌜ now (acc .exit) ≡ every (λ x. Blur.onward (λ i w. cell (now (plane .entry)) (length (now (acc .entry))) x i ⊗ w) height radius y k 4) (now (acc .entry)) ⌝ }
+{
+    let i = y + k - radius;
+    let n = acc.len();
+    add_four(
+        acc,
+        row_of(plane, n, height, i),
+        row_of(plane, n, height, i + 1),
+        row_of(plane, n, height, i + 2),
+        row_of(plane, n, height, i + 3),
+        offset_weight(radius, k),
+        offset_weight(radius, k + 1),
+        offset_weight(radius, k + 2),
+        offset_weight(radius, k + 3),
+    );
+}
+
+// Adds rows around row y, from offset k on: four if all are inside, else that at offset k. Answers how many offsets it took.
+fn add_rows(
+    acc: &mut [f32],
+    plane: &[f32],
+    height: usize,
+    radius: usize,
+    y: usize,
+    k: usize,
+) -> usize
+    requires { ⌜ (radius ≤ 64) × (k ≤ 2 * radius) × (y < height) × (height ≤ 1024) × (length (now plane) ≡ height * length (now acc)) ⌝ }
+    ensures { λ r. ⌜ (0 < r) × (k + r ≤ 2 * radius + 1) × (now (acc .exit) ≡ every (λ x. Blur.onward (λ i w. cell (now (plane .entry)) (length (now (acc .entry))) x i ⊗ w) height radius y k r) (now (acc .entry))) ⌝ }
+{
+    if k + 3 <= 2 * radius && radius <= y + k && y + k + 3 < height + radius {
+        add_four_rows(acc, plane, height, radius, y, k);
+        return 4;
+    }
+    add_row(acc, plane, height, radius, y, k);
+    1
 }
 
 // The sums of the weighted samples of each column around the row y.
@@ -166,8 +236,7 @@ pub fn accumulate_rows(acc: &mut [f32], plane: &[f32], height: usize, radius: us
     clear(acc);
     let mut k = 0usize;
     while k < 2 * radius + 1 {
-        add_row(acc, plane, height, radius, y, k);
-        k += 1;
+        k += add_rows(acc, plane, height, radius, y, k);
     }
 }
 
