@@ -6,7 +6,7 @@ use native.Mathlib.Omega.{arith}
 use mathlib.Core.Bool.{Bool, true, false, not, cond, true≢false}
 use borrow.Author.Tests.{le-leb, le-ltb}
 use lib.IntN.{pos}
-use lib.Dec.{T, lt→ltb, lit<, lit≤}
+use lib.Dec.{T, lt→ltb, lit≤}
 use lib.Ieee.{Float, nan, inf, fin, binary32, up, down, lt, mul, isNan, ofBits}
 use lib.Ieee.Fits.{down-pos}
 use lib.Ieee.Exact.{HasValue}
@@ -15,7 +15,7 @@ use Rattle.num.specs.F32.{_⊗_}
 use Rattle.num.specs.Steps.{clampOf, minOf, maxOf, cutOf}
 use Rattle.num.specs.Private.{under, floorOf}
 use Rattle.num.specs.Order.{asymmetric}
-use Rattle.num.specs.Within.{within, size-le, Signed, round-signed, mul-within}
+use Rattle.num.specs.Within.{within, size-le, Signed, round-signed}
 use Rattle.num.specs.Bounds.{zero-within, between, clamp-within, clamp-nan, cut-within, one-is, times-within}
 
 -- ---- a value from +0 to 1023: its whole part is its cut

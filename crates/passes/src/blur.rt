@@ -5,7 +5,7 @@ ghost use Prim.Native.Nat.{_+_, _-_, _*_, _≤_, _<_};
 ghost use lib.ListN.{length, take, drop};
 ghost use Rattle.num.specs.Const.{c0·0};
 ghost use Rattle.num.specs.F32.{_⊕_, _⊗_};
-ghost use Rattle.num.specs.Rewrite.{every, fill};
+ghost use Rattle.num.specs.Rewrite.{rewrite, every, fill};
 ghost use Rattle.passes.specs.Blur as Blur;
 ghost use Rattle.passes.specs.Blur.{at, cell};
 
@@ -84,6 +84,103 @@ fn add_offset(acc: &mut [f32], src: &[f32], radius: usize, k: usize)
     }
 }
 
+// The sample at offset k of place x, added where it is inside.
+fn add_sample(sum: f32, src: &[f32], radius: usize, x: usize, k: usize) -> f32
+    requires { ⌜ (radius ≤ 64) × (k ≤ 2 * radius) × (x < length (now src)) ⌝ }
+    ensures { λ r. ⌜ r ≡ Blur.step (λ i w. at (now (src .entry)) i ⊗ w) (length (now (src .entry))) radius x k sum ⌝ }
+{
+    if radius <= x + k {
+        let i = x + k - radius;
+        if i < src.len() {
+            return sum + src[i] * offset_weight(radius, k);
+        }
+    }
+    sum
+}
+
+// The samples at the offsets k to k + 3 of place x, added where they are inside.
+fn add_samples(sum: f32, src: &[f32], radius: usize, x: usize, k: usize) -> f32
+    requires { ⌜ (radius ≤ 64) × (k + 3 ≤ 2 * radius) × (x < length (now src)) ⌝ }
+    ensures { λ r. ⌜ r ≡ Blur.onward (λ i w. at (now (src .entry)) i ⊗ w) (length (now (src .entry))) radius x k 4 sum ⌝ }
+{
+    let one = add_sample(sum, src, radius, x, k);
+    let two = add_sample(one, src, radius, x, k + 1);
+    let three = add_sample(two, src, radius, x, k + 2);
+    add_sample(three, src, radius, x, k + 3)
+}
+
+// The same at each place of a part of the line, which begins at place `start`.
+fn add_edge(part: &mut [f32], src: &[f32], radius: usize, start: usize, k: usize)
+    requires { ⌜ (radius ≤ 64) × (k + 3 ≤ 2 * radius) × (start + length (now part) ≤ length (now src)) ⌝ }
+    ensures { λ _. ⌜ now (part .exit) ≡ every (λ i. Blur.onward (λ j w. at (now (src .entry)) j ⊗ w) (length (now (src .entry))) radius (start + i) k 4) (now (part .entry)) ⌝ }
+{
+    let mut i = 0usize;
+    while i < part.len() {
+        part[i] = add_samples(part[i], src, radius, start + i, k);
+        i += 1;
+    }
+}
+
+// The same where all four are inside at each place.
+fn add_middle(part: &mut [f32], src: &[f32], radius: usize, start: usize, k: usize)
+    requires { ⌜ (radius ≤ 64) × (k + 3 ≤ 2 * radius) × (radius ≤ start + k) × (start + length (now part) + k + 3 ≤ length (now src) + radius) ⌝ }
+    ensures { λ _. ⌜ now (part .exit) ≡ every (λ i. Blur.onward (λ j w. at (now (src .entry)) j ⊗ w) (length (now (src .entry))) radius (start + i) k 4) (now (part .entry)) ⌝ }
+{
+    let from = start + k - radius;
+    let end = from + part.len();
+    add_four(
+        part,
+        &src[from..end],
+        &src[from + 1..end + 1],
+        &src[from + 2..end + 2],
+        &src[from + 3..end + 3],
+        offset_weight(radius, k),
+        offset_weight(radius, k + 1),
+        offset_weight(radius, k + 2),
+        offset_weight(radius, k + 3),
+    );
+}
+
+// The same at the places of a line before the right edge. At most three places have some of the four inside and some outside to
+// their left, and those before them have none inside.
+fn add_to_edge(acc: &mut [f32], src: &[f32], radius: usize, k: usize)
+    requires { ⌜ (length (now acc) ≡ length (now src)) × (radius ≤ 64) × (k + 3 ≤ 2 * radius) × ((radius - k) + (k + 3 - radius) < length (now src)) ⌝ }
+    ensures { λ _. ⌜ now (acc .exit) ≡ rewrite (length (now (src .entry)) - (k + 3 - radius)) (λ x. Blur.onward (λ i w. at (now (src .entry)) i ⊗ w) (length (now (src .entry))) radius x k 4) (now (acc .entry)) ⌝ }
+{
+    let first = monus(radius, k + 3);
+    let to = monus(radius, k);
+    let end = src.len() - monus(k + 3, radius);
+    add_edge(&mut acc[first..to], src, radius, first, k);
+    add_middle(&mut acc[to..end], src, radius, to, k);
+}
+
+// The same at each place, where there are places at which all four are inside. The right edge is like the left one.
+fn add_four_offsets(acc: &mut [f32], src: &[f32], radius: usize, k: usize)
+    requires { ⌜ (length (now acc) ≡ length (now src)) × (radius ≤ 64) × (k + 3 ≤ 2 * radius) × ((radius - k) + (k + 3 - radius) < length (now src)) ⌝ }
+    ensures { λ _. ⌜ now (acc .exit) ≡ every (λ x. Blur.onward (λ i w. at (now (src .entry)) i ⊗ w) (length (now (src .entry))) radius x k 4) (now (acc .entry)) ⌝ }
+{
+    add_to_edge(acc, src, radius, k);
+    let end = src.len() - monus(k + 3, radius);
+    let last = src.len() - monus(k, radius);
+    add_edge(&mut acc[end..last], src, radius, end, k);
+}
+
+// Adds samples from offset k on: at four offsets if there are places at which all are inside, else at one. Answers at how many.
+fn add_offsets(acc: &mut [f32], src: &[f32], radius: usize, k: usize) -> usize
+    requires { ⌜ (length (now acc) ≡ length (now src)) × (radius ≤ 64) × (k ≤ 2 * radius) ⌝ }
+    ensures { λ r. ⌜ (0 < r) × (k + r ≤ 2 * radius + 1) × (now (acc .exit) ≡ every (λ x. Blur.onward (λ i w. at (now (src .entry)) i ⊗ w) (length (now (src .entry))) radius x k r) (now (acc .entry))) ⌝ }
+{
+    let outside = monus(radius, k) + monus(k + 3, radius);
+    if k + 3 <= 2 * radius {
+        if outside < src.len() {
+            add_four_offsets(acc, src, radius, k);
+            return 4;
+        }
+    }
+    add_offset(acc, src, radius, k);
+    1
+}
+
 // 0.0 everywhere
 fn clear(acc: &mut [f32])
     ensures { λ _. ⌜ now (acc .exit) ≡ fill (λ i. c0·0) (now (acc .entry)) ⌝ }
@@ -103,8 +200,7 @@ fn accumulate(acc: &mut [f32], src: &[f32], radius: usize)
     clear(acc);
     let mut k = 0usize;
     while k < 2 * radius + 1 {
-        add_offset(acc, src, radius, k);
-        k += 1;
+        k += add_offsets(acc, src, radius, k);
     }
 }
 
