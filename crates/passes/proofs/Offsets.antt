@@ -14,7 +14,8 @@ use lib.Ieee.{Float, nan}
 use borrow.Author.Tests.{le-leb, lt-leb, lt-ltb, le-ltb, ltb-true}
 use Rattle.num.specs.F32.{_⊕_, _⊗_}
 use Rattle.num.specs.Rewrite.{Rewritten, rewrite, every, fill, length-rewrite, rewrite-ext, rewrite-same, rewrite-stop, getD-rewrite, getD-fill, mid, part}
-use Rattle.passes.specs.Blur.{at, cell, weight, distance, inside, taken, step, total, onward, weights, weighted, ratio, blurBy, blurAt, Begins}
+use Rattle.passes.specs.declared.blur.Four.{Four}
+use Rattle.passes.specs.Blur.{at, cell, weight, distance, fourWeights, inside, taken, step, total, onward, weights, weighted, ratio, blurBy, blurAt, Begins}
 
 lt-or-le : (a b : ℕ) → (a < b) ⊎ (b ≤ a)
 lt-or-le a zero = inr zero-le
@@ -125,19 +126,19 @@ module _ (src : List Float) (radius : ℕ) where
       (ap (λ (s : Float). v ⊕ s ⊗ weight radius (distance radius k)) (ap (λ (z : List Float). at z i) er ∙ getD-take m (drop from src) i nan l ∙ getD-drop from src i nan ∙ ap (at src) ei))
 
   -- part of a line where all four are inside
-  pub line-four : (part : List Float) (start k from : ℕ) (a b c d : List Float) (wa wb wc wd : Float) → radius ≤ start + k → start + length part + k + 3 ≤ length src + radius
+  pub line-four : (part : List Float) (start k from : ℕ) (a b c d : List Float) (w : Four) → radius ≤ start + k → start + length part + k + 3 ≤ length src + radius
       → from ≡ start + k - radius
       → a ≡ take (length part) (drop from src) → b ≡ take (length part) (drop (from + 1) src) → c ≡ take (length part) (drop (from + 2) src) → d ≡ take (length part) (drop (from + 3) src)
-      → wa ≡ weight radius (distance radius k) → wb ≡ weight radius (distance radius (k + 1)) → wc ≡ weight radius (distance radius (k + 2)) → wd ≡ weight radius (distance radius (k + 3))
-      → every (λ i v. v ⊕ at a i ⊗ wa ⊕ at b i ⊗ wb ⊕ at c i ⊗ wc ⊕ at d i ⊗ wd) part ≡ every (λ i. onward (λ j w. at src j ⊗ w) (length src) radius (start + i) k 4) part
-  line-four part start k from a b c d wa wb wc wd p q ei ea eb ec ed fa fb fc fd =
+      → w ≡ fourWeights radius k
+      → every (λ i v. v ⊕ at a i ⊗ w .a ⊕ at b i ⊗ w .b ⊕ at c i ⊗ w .c ⊕ at d i ⊗ w .d) part ≡ every (λ i. onward (λ j w. at src j ⊗ w) (length src) radius (start + i) k 4) part
+  line-four part start k from a b c d w p q ei ea eb ec ed ew =
       let m = length part in
-      rewrite-ext m (λ i v. v ⊕ at a i ⊗ wa ⊕ at b i ⊗ wb ⊕ at c i ⊗ wc ⊕ at d i ⊗ wd) (λ i. onward (λ j w. at src j ⊗ w) (length src) radius (start + i) k 4) part
+      rewrite-ext m (λ i v. v ⊕ at a i ⊗ w .a ⊕ at b i ⊗ w .b ⊕ at c i ⊗ w .c ⊕ at d i ⊗ w .d) (λ i. onward (λ j w. at src j ⊗ w) (length src) radius (start + i) k 4) part
       (λ i v l. onward-four (λ j w. at src j ⊗ w) (length src) radius (start + i) k v
-      (line-step k (start + i) m from i a wa v (omega arith) (omega arith) (omega arith) l ea fa)
-      (line-step (k + 1) (start + i) m (from + 1) i b wb _ (omega arith) (omega arith) (omega arith) l eb fb)
-      (line-step (k + 2) (start + i) m (from + 2) i c wc _ (omega arith) (omega arith) (omega arith) l ec fc)
-      (line-step (k + 3) (start + i) m (from + 3) i d wd _ (omega arith) (omega arith) (omega arith) l ed fd))
+      (line-step k (start + i) m from i a (w .a) v (omega arith) (omega arith) (omega arith) l ea (ap (λ (f : Four). f .a) ew))
+      (line-step (k + 1) (start + i) m (from + 1) i b (w .b) _ (omega arith) (omega arith) (omega arith) l eb (ap (λ (f : Four). f .b) ew))
+      (line-step (k + 2) (start + i) m (from + 2) i c (w .c) _ (omega arith) (omega arith) (omega arith) l ec (ap (λ (f : Four). f .c) ew))
+      (line-step (k + 3) (start + i) m (from + 3) i d (w .d) _ (omega arith) (omega arith) (omega arith) l ed (ap (λ (f : Four). f .d) ew)))
 
 -- the places from i to j were lent to a rewriting by f, of which those before i are done
 pub further : {f : ℕ → Float → Float} {xs ys : List Float} {i : ℕ} (j : ℕ) (new : List Float) → Rewritten i f xs ys → i ≤ j → j ≤ length xs
@@ -201,16 +202,16 @@ module _ (acc plane : List Float) (h radius y : ℕ) where
   row-onward k = ap (λ (j : ℕ). every (below j) acc) (sym (add-zero k))
 
   -- four rows, from offset k on
-  pub four-added : (k i : ℕ) (a b c d : List Float) (wa wb wc wd : Float) → radius ≤ y + k → y + k + 3 < h + radius → i ≡ y + k - radius
+  pub four-added : (k i : ℕ) (a b c d : List Float) (w : Four) → radius ≤ y + k → y + k + 3 < h + radius → i ≡ y + k - radius
       → a ≡ take (length acc) (drop (i * length acc) plane) → b ≡ take (length acc) (drop ((i + 1) * length acc) plane)
       → c ≡ take (length acc) (drop ((i + 2) * length acc) plane) → d ≡ take (length acc) (drop ((i + 3) * length acc) plane)
-      → wa ≡ weight radius (distance radius k) → wb ≡ weight radius (distance radius (k + 1)) → wc ≡ weight radius (distance radius (k + 2)) → wd ≡ weight radius (distance radius (k + 3))
-      → every (λ i v. v ⊕ at a i ⊗ wa ⊕ at b i ⊗ wb ⊕ at c i ⊗ wc ⊕ at d i ⊗ wd) acc ≡ every (λ x. onward (λ i w. cell plane (length acc) x i ⊗ w) h radius y k 4) acc
-  four-added k i a b c d wa wb wc wd p q ei ea eb ec ed fa fb fc fd =
-      rewrite-ext (length acc) (λ i v. v ⊕ at a i ⊗ wa ⊕ at b i ⊗ wb ⊕ at c i ⊗ wc ⊕ at d i ⊗ wd) (λ x. onward (λ i w. cell plane (length acc) x i ⊗ w) h radius y k 4) acc
+      → w ≡ fourWeights radius k
+      → every (λ i v. v ⊕ at a i ⊗ w .a ⊕ at b i ⊗ w .b ⊕ at c i ⊗ w .c ⊕ at d i ⊗ w .d) acc ≡ every (λ x. onward (λ i w. cell plane (length acc) x i ⊗ w) h radius y k 4) acc
+  four-added k i a b c d w p q ei ea eb ec ed ew =
+      rewrite-ext (length acc) (λ i v. v ⊕ at a i ⊗ w .a ⊕ at b i ⊗ w .b ⊕ at c i ⊗ w .c ⊕ at d i ⊗ w .d) (λ x. onward (λ i w. cell plane (length acc) x i ⊗ w) h radius y k 4) acc
       (λ x v l. onward-four (λ i w. cell plane (length acc) x i ⊗ w) h radius y k v
-      (row-step k i a wa p (omega arith) ei ea fa x v l) (row-step (k + 1) (i + 1) b wb (omega arith) (omega arith) (omega arith) eb fb x _ l)
-      (row-step (k + 2) (i + 2) c wc (omega arith) (omega arith) (omega arith) ec fc x _ l) (row-step (k + 3) (i + 3) d wd (omega arith) (omega arith) (omega arith) ed fd x _ l))
+      (row-step k i a (w .a) p (omega arith) ei ea (ap (λ (f : Four). f .a) ew) x v l) (row-step (k + 1) (i + 1) b (w .b) (omega arith) (omega arith) (omega arith) eb (ap (λ (f : Four). f .b) ew) x _ l)
+      (row-step (k + 2) (i + 2) c (w .c) (omega arith) (omega arith) (omega arith) ec (ap (λ (f : Four). f .c) ew) x _ l) (row-step (k + 3) (i + 3) d (w .d) (omega arith) (omega arith) (omega arith) ed (ap (λ (f : Four). f .d) ew) x _ l))
 
 -- ---- lines
 

@@ -9,6 +9,7 @@ use lib.ListN.{length, getD}
 use lib.Ieee.{Float, nan, lt}
 use Rattle.num.specs.Const.{c0·0, c1·0}
 use Rattle.num.specs.F32.{_⊕_, _⊖_, _⊗_, _⊘_, whole}
+use Rattle.passes.specs.declared.blur.Four.{Four}
 
 -- how far offset k is from the centre
 abbrev pub distance : ℕ → ℕ → ℕ
@@ -16,6 +17,15 @@ distance radius k = (radius - k) + (k - radius)
 
 unfoldable pub weight : ℕ → ℕ → Float
 weight radius d = c1·0 ⊖ whole d ⊘ (whole radius ⊕ c1·0)
+
+-- the weights of the offsets k to k + 3
+abbrev pub fourWeights : ℕ → ℕ → Four
+fourWeights radius k = record {
+  a = weight radius (distance radius k);
+  b = weight radius (distance radius (k + 1));
+  c = weight radius (distance radius (k + 2));
+  d = weight radius (distance radius (k + 3));
+}
 
 -- whether offset k of x is one of the n samples
 abbrev pub inside : ℕ → ℕ → ℕ → ℕ → Bool

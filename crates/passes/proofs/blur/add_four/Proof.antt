@@ -11,14 +11,14 @@ use Rattle.passes.proofs.blur.add_four.Statement.{statement}
 use Rattle.passes.proofs.blur.add_four.Tie as tie
 
 abbrev Inv-loop : tie.InvT-loop
-Inv-loop acc₀ a b c d wa wb wc wd i₀ acc i = Rewritten i (λ k v. v ⊕ at a k ⊗ wa ⊕ at b k ⊗ wb ⊕ at c k ⊗ wc ⊕ at d k ⊗ wd) acc₀ acc
+Inv-loop acc₀ a b c d w i₀ acc i = Rewritten i (λ k v. v ⊕ at a k ⊗ w .a ⊕ at b k ⊗ w .b ⊕ at c k ⊗ w .c ⊕ at d k ⊗ w .d) acc₀ acc
 
 abbrev μ-loop : tie.MeasureT-loop
-μ-loop acc₀ a b c d wa wb wc wd i₀ acc i = length acc₀ - i
+μ-loop acc₀ a b c d w i₀ acc i = length acc₀ - i
 
 loop-again : tie.Need-loop-again Inv-loop μ-loop
 loop-again c =
-    let l = c .before .before .before .before .before .before .loop in
+    let l = c .before .before .before .before .before .before .before .before .before .before .loop in
     more (l .inv) nan (omega arith) refl
 
 -- an index is below each length, and its offset in bytes fits

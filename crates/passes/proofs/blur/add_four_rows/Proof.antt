@@ -18,7 +18,7 @@ row-long plane row n h i e l er = sym (ap length er ∙ length-take-le n (drop (
 
 add-four-requires : tie.Need-add-four-requires
 add-four-requires c κs =
-    let r4 = c .before .before .before .before in
+    let r4 = c .before in
     let r3 = r4 .before in
     let r2 = r3 .before in
     let r1 = r2 .before in
@@ -35,24 +35,19 @@ add-four-requires c κs =
 
 returns : tie.Need-returns
 returns c =
-    let w4 = c .before .before .before in
-    let w3 = w4 .before in
-    let w2 = w3 .before in
-    let w1 = w2 .before in
-    let r4 = w1 .before in
+    let w = c .before .before .before in
+    let r4 = w .before in
     let r3 = r4 .before in
     let r2 = r3 .before in
     let r1 = r2 .before in
     let s = r1 .before .before .before .before in
     let a = s .args in
     c .before .before .add-four .ensures
-    ∙ four-added (a .acc .now) (a .plane .now) (a .height) (a .radius) (a .y) (a .k) (a .y + a .k - a .radius) _ _ _ _ _ _ _ _ (s .pre .2) (s .pre .3) refl
-    (r1 .row-of .ensures) (r2 .row-of2 .ensures) (r3 .row-of3 .ensures) (r4 .row-of4 .ensures)
-    (w1 .offset-weight .ensures) (w2 .offset-weight2 .ensures) (w3 .offset-weight3 .ensures) (w4 .offset-weight4 .ensures)
+    ∙ four-added (a .acc .now) (a .plane .now) (a .height) (a .radius) (a .y) (a .k) (a .y + a .k - a .radius) _ _ _ _ _ (s .pre .2) (s .pre .3) refl
+    (r1 .row-of .ensures) (r2 .row-of2 .ensures) (r3 .row-of3 .ensures) (r4 .row-of4 .ensures) (w .four-weights .ensures)
 
 pub add-four-rows-spec : {M : Type 1} → statement M
 add-four-rows-spec =
     tie.close
     (tie.spec (λ c. search needs) (λ c. search needs) (λ c κs. search needs) (λ c. search needs) (λ c κs. search needs) (λ c. search needs) (λ c κs. search needs)
-    (λ c. search needs) (λ c κs. search needs) (λ c κs. search needs) (λ c. search needs) (λ c κs. search needs) (λ c. search needs) (λ c κs. search needs)
-    (λ c. search needs) (λ c κs. search needs) add-four-requires (λ c. search needs) returns)
+    (λ c. search needs) (λ c κs. search needs) (λ c κs. search needs) add-four-requires (λ c. search needs) returns)

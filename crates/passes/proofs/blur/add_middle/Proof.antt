@@ -10,28 +10,18 @@ use Rattle.passes.proofs.blur.add_middle.Tie as tie
 
 returns : tie.Need-returns
 returns c =
-    let w4 = c .before .before .before in
-    let w3 = w4 .before in
-    let w2 = w3 .before in
-    let w1 = w2 .before in
-    let s = w1 .before .before .before .before .before .before .before .before in
+    let s = c .before .before .before .before .before .before .before .before .before .before in
     let a = s .args in
     let src = a .src .now in
     let m = length (a .part .now) in
     let from = a .start + a .k - a .radius in
     let front : (k j : ℕ) → k ≡ m → take k (drop j src) ≡ take m (drop j src) = λ k j e. ap (λ (n : ℕ). take n (drop j src)) e in
     c .before .before .add-four .ensures
-    ∙ line-four src (a .radius) (a .part .now) (a .start) (a .k) from _ _ _ _ _ _ _ _ (s .pre .2) (s .pre .3) refl
+    ∙ line-four src (a .radius) (a .part .now) (a .start) (a .k) from _ _ _ _ _ (s .pre .2) (s .pre .3) refl
     (front (from + m - from) from (omega arith)) (front (from + m + 1 - (from + 1)) (from + 1) (omega arith))
-    (front (from + m + 2 - (from + 2)) (from + 2) (omega arith)) (front (from + m + 3 - (from + 3)) (from + 3) (omega arith))
-    (w1 .offset-weight .ensures) (w2 .offset-weight2 .ensures) (w3 .offset-weight3 .ensures) (w4 .offset-weight4 .ensures)
+    (front (from + m + 2 - (from + 2)) (from + 2) (omega arith)) (front (from + m + 3 - (from + 3)) (from + 3) (omega arith)) (s .pre .4)
 
 pub add-middle-spec : {M : Type 1} → statement M
 add-middle-spec =
     tie.close
-    (tie.spec (λ c. search needs) (λ c. search needs) (λ c. search needs) (λ c. search needs) (λ c. search needs) (λ c. search needs)
-    (λ c. search needs) (λ c. search needs) (λ c. search needs) (λ c. search needs) (λ c. search needs) (λ c. search needs) (λ c. search needs)
-    (λ c. search needs) (λ c. search needs) (λ c. search needs) (λ c. search needs) (λ c. search needs) (λ c. search needs) (λ c. search needs)
-    (λ c. search needs) (λ c. search needs) (λ c. search needs) (λ c. search needs) (λ c. search needs) (λ c κs. search needs) (λ c. search needs)
-    (λ c κs. search needs) (λ c. search needs) (λ c κs. search needs) (λ c. search needs) (λ c κs. search needs) (λ c κs. search needs)
-    (λ c. search needs) returns)
+    (tie.spec (λ c. search needs) (λ c. search needs) (λ c. search needs) (λ c. search needs) (λ c. search needs) (λ c. search needs) (λ c. search needs) (λ c. search needs) (λ c. search needs) (λ c. search needs) (λ c. search needs) (λ c. search needs) (λ c. search needs) (λ c. search needs) (λ c. search needs) (λ c. search needs) (λ c. search needs) (λ c. search needs) (λ c. search needs) (λ c. search needs) (λ c. search needs) (λ c. search needs) (λ c. search needs) (λ c. search needs) (λ c. search needs) (λ c κs. search needs) (λ c. search needs) returns)

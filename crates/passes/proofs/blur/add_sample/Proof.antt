@@ -13,21 +13,22 @@ use Rattle.passes.proofs.blur.add_sample.Tie as tie
 
 returns : tie.Need-returns
 returns c =
-    let a = c .before .before .before .before .before .args in
+    let s = c .before .before .before in
+    let a = s .args in
     simp (inside-yes (length (a .src .now)) (a .radius) (a .x) (a .k) (omega arith) (omega arith))
-    (ap (λ (w : Float). a .sum ⊕ at (a .src .now) (a .x + a .k - a .radius) ⊗ w) (c .offset-weight .ensures))
+    (ap (λ (w : Float). a .sum ⊕ at (a .src .now) (a .x + a .k - a .radius) ⊗ w) (s .pre .3))
 
 returns-2 : tie.Need-returns-2
 returns-2 c =
-    let a = c .before .before .before .args in
+    let a = c .before .before .args in
     simp (inside-right (length (a .src .now)) (a .radius) (a .x) (a .k) (omega arith))
 
 returns-3 : tie.Need-returns-3
 returns-3 c =
-    let a = c .before .before .args in
+    let a = c .before .args in
     simp (inside-left (length (a .src .now)) (a .radius) (a .x) (a .k) (omega arith))
 
 pub add-sample-spec : {M : Type 1} → statement M
 add-sample-spec =
     tie.close
-    (tie.spec (λ c. search needs) (λ c. search needs) (λ c. search needs) (λ c. search needs) (λ c. search needs) (λ c κs. search needs) returns returns-2 returns-3)
+    (tie.spec (λ c. search needs) (λ c. search needs) (λ c. search needs) (λ c. search needs) (λ c. search needs) returns returns-2 returns-3)
