@@ -9,7 +9,7 @@ use mathlib.Core.Bool.{Bool, true, false, not, _&&_, _||_, cond, true≢false}
 use borrow.Author.Tests.{ltb-false, le-leb, lt-leb}
 use lib.IntN.{ℤ, pos}
 use lib.Dec.{T, leb, eqb, leb→le, le→leb, lit<, lit≤}
-use lib.Ieee.{Float, nan, inf, fin, binary32, up, down, round, lt, le, isNan, ofInt, ofBits, inFloat}
+use lib.Ieee.{Float, nan, inf, fin, binary32, up, down, round, mul, lt, le, isNan, ofInt, ofBits, inFloat}
 use lib.Ieee.Fits.{down-pos, and-r, and-i}
 use lib.Ieee.Exact.{HasValue}
 use lib.Ieee.Back.{round-whole}
@@ -70,12 +70,12 @@ widen n k (fin s m e) l h =
     and-i (leb (m * up e) (k * down e)) (not s || eqb m 0) (le→leb (m * up e) (k * down e) (le-trans (size-le n s m e h) (mul-le-mul-right (down e) l)))
     (and-r (leb (m * up e) (n * down e)) (not s || eqb m 0) h)
 
-zero-within : (n : ℕ) → T (within n c0·0)
+pub zero-within : (n : ℕ) → T (within n c0·0)
 unfolding ofBits
 zero-within n = within-plus n 0 (pos 0) zero-le
 
 -- neither below 0 nor above the end, and no NaN
-between : (n : ℕ) (x hi : Float) → HasValue hi false n 1 → T (not (isNan x)) → lt x c0·0 ≡ false → lt hi x ≡ false → T (within n x)
+pub between : (n : ℕ) (x hi : Float) → HasValue hi false n 1 → T (not (isNan x)) → lt x c0·0 ≡ false → lt hi x ≡ false → T (within n x)
 unfolding within isNan lt ofBits
 between n nan hi v k a b = absurd k
 between n (inf true) hi v k a b = absurd (true≢false a)
@@ -128,6 +128,19 @@ one-is = (refl, refl)
 pub top-is : HasValue c255·0 false 255 1
 unfolding ofBits
 top-is = (refl, refl)
+
+-- limited to 0 .. 1, times 255: a channel
+top-within : T (within 255 c255·0)
+top-within = value-within 255 c255·0 top-is
+
+pub times-within : (n : ℕ) (y : Float) → n ≤ 1 → T (within n y) → T (within (n * 255) (y ⊗ c255·0))
+times-within n y l h = mul-within n 255 y c255·0 (le-trans (mul-le-mul-right 255 l) (lit≤ tt)) h top-within
+
+pub unit-cut : (x : Float) → cutOf (clampOf x c0·0 c1·0 ⊗ c255·0) ≤ 255
+unfolding cutOf isNan mul
+unit-cut nan = le-trans (le-of-eq (ap (λ (y : Float). cutOf (y ⊗ c255·0)) (clamp-nan c0·0 c1·0))) zero-le
+unit-cut (inf s) = cut-within 255 _ (times-within 1 _ (lit≤ tt) (clamp-within 1 (inf s) c1·0 one-is tt))
+unit-cut (fin s m e) = cut-within 255 _ (times-within 1 _ (lit≤ tt) (clamp-within 1 (fin s m e) c1·0 one-is tt))
 
 -- ---- a factor from 0 to 1, and a channel times it
 

@@ -6,11 +6,13 @@ ghost use mathlib.Core.Bool.{not, cond};
 ghost use Prim.Native.Nat.{_≤_};
 ghost use lib.Dec.{T};
 ghost use lib.Ieee.{isNan, lt, neg};
-ghost use Rattle.num.specs.Const.{c0·0, c8388608·0};
-ghost use Rattle.num.specs.F32.{whole};
-ghost use Rattle.num.specs.Steps.{absOf, cutOf, roundOf};
+ghost use Rattle.num.specs.Const.{c0·0, c1·0, c255·0, c8388608·0};
+ghost use Rattle.num.specs.F32.{_⊗_, whole};
+ghost use Rattle.num.specs.Steps.{absOf, clampOf, cutOf, roundOf};
 ghost use Rattle.num.specs.Private.{under, floorOf, halfUpOf, Near, negative};
 use super::steps::abs;
+use super::steps::max;
+use super::steps::min;
 
 // The whole number nearest to v, a half to the even one, for v from 0 to below 2^23: from 2^23 on a float has no digit below
 // one, so the last digits of the sum v + 2^23 are that number.
@@ -32,15 +34,52 @@ fn to_1023(x: f32) -> f32
     }
 }
 
-// The whole part of x, for x from 0 to 1023, and 0 for any other x. n is at most 1024, so that `u16` holds it; from there the
-// conversion to a float is a short one.
+// The whole part of v, for v from +0 to below 1024. n is at most 1024, so that `u16` holds it; from there the conversion to a
+// float is a short one.
+fn floor(v: f32) -> u32
+    requires { ⌜ T (under 1024 v) ⌝ }
+    ensures { λ r. ⌜ r ≡ floorOf v ⌝ }
+{
+    let n = near(v);
+    if (n as u16 as f32) > v { n - 1 } else { n }
+}
+
+// The whole part of x, for x from 0 to 1023, and 0 for any other x.
 pub fn cut(x: f32) -> u32
     ensures { λ r. ⌜ r ≡ cutOf x ⌝ }
     ensures { λ r. ⌜ r ≤ 1023 ⌝ }
 {
-    let v = to_1023(x);
-    let n = near(v);
-    if (n as u16 as f32) > v { n - 1 } else { n }
+    floor(to_1023(x))
+}
+
+// x brought to 0..255, with 0 for a NaN.
+fn to_255(x: f32) -> f32
+    ensures { λ r. ⌜ T (under 1024 r) × (floorOf r ≡ cutOf (clampOf x c0·0 c255·0)) ⌝ }
+{
+    min(255.0, max(x, 0.0))
+}
+
+// `clamp` to 0..255 and then `cut`, in one step: neither has to look for a NaN.
+pub fn cut_limited(x: f32) -> u32
+    ensures { λ r. ⌜ r ≡ cutOf (clampOf x c0·0 c255·0) ⌝ }
+    ensures { λ r. ⌜ r ≤ 255 ⌝ }
+{
+    floor(to_255(x))
+}
+
+// x brought to 0..1, with 0 for a NaN, times 255.
+fn unit_to_255(x: f32) -> f32
+    ensures { λ r. ⌜ T (under 1024 r) × (floorOf r ≡ cutOf (clampOf x c0·0 c1·0 ⊗ c255·0)) ⌝ }
+{
+    min(1.0, max(x, 0.0)) * 255.0
+}
+
+// `clamp` to 0..1, times 255, and then `cut`, in one step.
+pub fn cut_unit(x: f32) -> u32
+    ensures { λ r. ⌜ r ≡ cutOf (clampOf x c0·0 c1·0 ⊗ c255·0) ⌝ }
+    ensures { λ r. ⌜ r ≤ 255 ⌝ }
+{
+    floor(unit_to_255(x))
 }
 
 // n as a float. Through `i32`, since the processor's vector conversion is the signed one.

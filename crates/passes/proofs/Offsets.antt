@@ -4,16 +4,18 @@ use mathlib.Core.Logic.{_⊎_, inl, inr, ⊎-elim}
 use mathlib.Core.Bool.{Bool, true, false, _&&_}
 use mathlib.Core.List.{List, _++_}
 use Prim.Native.Nat.{ℕ, zero, suc, _+_, _-_, _*_, _≤_, _<_, zero-le, suc-le-suc}
+use native.Mathlib.Nat.{add-zero, add-suc}
 use native.Mathlib.Numerals.{add-one}
 use native.Mathlib.Omega.{arith}
-use lib.Dec.{T, leb, ltb}
-use lib.ListN.{length, take, drop}
+use lib.Dec.{T, leb, ltb, lit≤}
+use lib.ListN.{length, take, drop, length-drop}
 use lib.Seq.{length-take-le, getD-take, getD-drop}
 use lib.Ieee.{Float, nan}
 use borrow.Author.Tests.{le-leb, lt-leb, lt-ltb, le-ltb, ltb-true}
 use Rattle.num.specs.F32.{_⊕_, _⊗_}
-use Rattle.num.specs.Rewrite.{Rewritten, every, fill, length-rewrite, rewrite-ext, rewrite-same, getD-rewrite, getD-fill, mid}
-use Rattle.passes.specs.Blur.{at, cell, weight, distance, inside, taken, step, total, weights, weighted, ratio, blurBy, blurAt, Begins}
+use Rattle.num.specs.Rewrite.{Rewritten, rewrite, every, fill, length-rewrite, rewrite-ext, rewrite-same, rewrite-stop, getD-rewrite, getD-fill, mid, part}
+use Rattle.passes.specs.declared.blur.Four.{Four}
+use Rattle.passes.specs.Blur.{at, cell, weight, distance, fourWeights, inside, taken, step, total, onward, weights, weighted, ratio, blurBy, blurAt, Begins}
 
 lt-or-le : (a b : ℕ) → (a < b) ⊎ (b ≤ a)
 lt-or-le a zero = inr zero-le
@@ -66,6 +68,20 @@ pub total-more : (term : ℕ → Float → Float) (n radius x k : ℕ) → total
 unfolding total
 total-more term n radius x k = rw add-one
 
+-- m offsets more
+pub total-onward : (term : ℕ → Float → Float) (n radius x k m : ℕ) → onward term n radius x k m (total term n radius x k) ≡ total term n radius x (k + m)
+unfolding total onward
+total-onward term n radius x k zero = ap (total term n radius x) (sym (add-zero k))
+total-onward term n radius x k (suc m) = ap (step term n radius x (k + m)) (total-onward term n radius x k m) ∙ ap (total term n radius x) (sym (add-suc k m))
+
+-- four offsets one after another
+pub onward-four : (term : ℕ → Float → Float) (n radius x k : ℕ) (sum : Float) {one two three four : Float} → one ≡ step term n radius x k sum → two ≡ step term n radius x (k + 1) one
+    → three ≡ step term n radius x (k + 2) two → four ≡ step term n radius x (k + 3) three → four ≡ onward term n radius x k 4 sum
+unfolding onward
+onward-four term n radius x k sum a b c d =
+    let at : ℕ → Float → Float = step term n radius x in
+    d ∙ ap (at (k + 3)) (c ∙ ap (at (k + 2)) (b ∙ ap (at (k + 1)) (a ∙ ap (λ (j : ℕ). at j sum) (sym (add-zero k)))))
+
 -- ---- offset k along a line
 
 module _ (acc src : List Float) (radius k : ℕ) (e : length acc ≡ length src) where
@@ -95,24 +111,107 @@ module _ (acc src : List Float) (radius k : ℕ) (e : length acc ≡ length src)
       (λ i v l. simp (inside-right (length src) radius (to + m + i) k (omega arith)))
       h
 
+  pub offset-onward : every along acc ≡ every (λ x. onward (λ i w. at src i ⊗ w) (length src) radius x k 1) acc
+  unfolding onward
+  offset-onward = ap (λ (j : ℕ). every (λ x. step (λ i w. at src i ⊗ w) (length src) radius x j) acc) (sym (add-zero k))
+
+-- ---- four offsets along a line
+
+module _ (src : List Float) (radius : ℕ) where
+  -- the sample at offset k of place x, which is inside, times the weight
+  line-step : (k x m from i : ℕ) (row : List Float) (w v : Float) → radius ≤ x + k → x + k - radius < length src → from + i ≡ x + k - radius → i < m
+      → row ≡ take m (drop from src) → w ≡ weight radius (distance radius k) → v ⊕ at row i ⊗ w ≡ step (λ j w. at src j ⊗ w) (length src) radius x k v
+  line-step k x m from i row w v p q ei l er ew =
+      simp (ew, inside-yes (length src) radius x k p q)
+      (ap (λ (s : Float). v ⊕ s ⊗ weight radius (distance radius k)) (ap (λ (z : List Float). at z i) er ∙ getD-take m (drop from src) i nan l ∙ getD-drop from src i nan ∙ ap (at src) ei))
+
+  -- part of a line where all four are inside
+  pub line-four : (part : List Float) (start k from : ℕ) (a b c d : List Float) (w : Four) → radius ≤ start + k → start + length part + k + 3 ≤ length src + radius
+      → from ≡ start + k - radius
+      → a ≡ take (length part) (drop from src) → b ≡ take (length part) (drop (from + 1) src) → c ≡ take (length part) (drop (from + 2) src) → d ≡ take (length part) (drop (from + 3) src)
+      → w ≡ fourWeights radius k
+      → every (λ i v. v ⊕ at a i ⊗ w .a ⊕ at b i ⊗ w .b ⊕ at c i ⊗ w .c ⊕ at d i ⊗ w .d) part ≡ every (λ i. onward (λ j w. at src j ⊗ w) (length src) radius (start + i) k 4) part
+  line-four part start k from a b c d w p q ei ea eb ec ed ew =
+      let m = length part in
+      rewrite-ext m (λ i v. v ⊕ at a i ⊗ w .a ⊕ at b i ⊗ w .b ⊕ at c i ⊗ w .c ⊕ at d i ⊗ w .d) (λ i. onward (λ j w. at src j ⊗ w) (length src) radius (start + i) k 4) part
+      (λ i v l. onward-four (λ j w. at src j ⊗ w) (length src) radius (start + i) k v
+      (line-step k (start + i) m from i a (w .a) v (omega arith) (omega arith) (omega arith) l ea (ap (λ (f : Four). f .a) ew))
+      (line-step (k + 1) (start + i) m (from + 1) i b (w .b) _ (omega arith) (omega arith) (omega arith) l eb (ap (λ (f : Four). f .b) ew))
+      (line-step (k + 2) (start + i) m (from + 2) i c (w .c) _ (omega arith) (omega arith) (omega arith) l ec (ap (λ (f : Four). f .c) ew))
+      (line-step (k + 3) (start + i) m (from + 3) i d (w .d) _ (omega arith) (omega arith) (omega arith) l ed (ap (λ (f : Four). f .d) ew)))
+
+-- the places from i to j were lent to a rewriting by f, of which those before i are done
+pub further : {f : ℕ → Float → Float} {xs ys : List Float} {i : ℕ} (j : ℕ) (new : List Float) → Rewritten i f xs ys → i ≤ j → j ≤ length xs
+    → new ≡ every (λ d. f (i + d)) (take (j - i) (drop i ys)) → Rewritten j f xs (take i ys ++ (new ++ drop (j - i) (drop i ys)))
+further {f} {xs} {ys} {i} j new t h l e =
+    let whole : i + (j - i) ≡ j = omega arith in
+    subst (λ (n : ℕ). Rewritten n f xs (take i ys ++ (new ++ drop (j - i) (drop i ys)))) whole (part (j - i) (λ d. f (i + d)) new t (omega arith) (λ d v m. refl) e)
+
+-- and they are j - i
+pub further-long : {f : ℕ → Float → Float} {xs ys : List Float} {i : ℕ} (j : ℕ) → Rewritten i f xs ys → j ≤ length xs → length (take (j - i) (drop i ys)) ≡ j - i
+further-long {ys = ys} {i = i} j t l = length-take-le (j - i) (drop i ys) (rw length-drop (omega (arith, t .kept)))
+
+-- the whole line: an edge, the middle, an edge
+module _ (acc src : List Float) (radius k : ℕ) (e : length acc ≡ length src) where
+  abbrev fourfold : ℕ → Float → Float
+  fourfold x = onward (λ i w. at src i ⊗ w) (length src) radius x k 4
+
+  none-left : (x : ℕ) (v : Float) → x + k + 3 < radius → fourfold x v ≡ v
+  none-left x v h =
+      let out : (j : ℕ) → j ≤ 3 → (s : Float) → s ≡ step (λ i w. at src i ⊗ w) (length src) radius x (k + j) s = λ j l s. simp (inside-left (length src) radius x (k + j) (omega arith)) in
+      sym (onward-four (λ i w. at src i ⊗ w) (length src) radius x k v (simp (inside-left (length src) radius x k (omega arith))) (out 1 (lit≤ tt) v) (out 2 (lit≤ tt) v) (out 3 (lit≤ tt) v))
+
+  none-right : (x : ℕ) (v : Float) → length src ≤ x + k - radius → fourfold x v ≡ v
+  none-right x v h =
+      let out : (j : ℕ) → (s : Float) → s ≡ step (λ i w. at src i ⊗ w) (length src) radius x (k + j) s = λ j s. simp (inside-right (length src) radius x (k + j) (omega arith)) in
+      sym (onward-four (λ i w. at src i ⊗ w) (length src) radius x k v (simp (inside-right (length src) radius x k h)) (out 1 v) (out 2 v) (out 3 v))
+
+  pub fourfold-none : (first : ℕ) → first ≡ radius - (k + 3) → first ≤ length src → Rewritten first fourfold acc acc
+  fourfold-none first ef l = record { within = omega arith; kept = refl; done = sym (rewrite-same first fourfold acc (λ x v h. none-left x v (omega arith))) }
+
+  pub fourfold-all : (last : ℕ) {ys : List Float} → last ≡ length src - (k - radius) → Rewritten last fourfold acc ys → ys ≡ every fourfold acc
+  fourfold-all last {ys} el t =
+      let whole : last + (length acc - last) ≡ length acc = omega (arith, t .within) in
+      t .done ∙ rewrite-stop last (length acc - last) fourfold acc (λ x v h. none-right (last + x) v (omega arith)) ∙ ap (λ (n : ℕ). rewrite n fourfold acc) whole
+
 -- ---- offset k of row y along the columns of a plane
 
-module _ (acc plane : List Float) (h radius y k : ℕ) where
-  abbrev below : ℕ → Float → Float
-  below x = step (λ i w. cell plane (length acc) x i ⊗ w) h radius y k
+module _ (acc plane : List Float) (h radius y : ℕ) where
+  abbrev below : ℕ → ℕ → Float → Float
+  below k x = step (λ i w. cell plane (length acc) x i ⊗ w) h radius y k
 
-  pub row-skipped : inside h radius y k ≡ false → acc ≡ every below acc
-  row-skipped e = sym (rewrite-same (length acc) below acc (λ x v l. simp e))
+  pub row-skipped : (k : ℕ) → inside h radius y k ≡ false → acc ≡ every (below k) acc
+  row-skipped k e = sym (rewrite-same (length acc) (below k) acc (λ x v l. simp e))
 
-  pub row-added : (row : List Float) (w : Float) → radius ≤ y + k → y + k - radius < h
-      → row ≡ take (length acc) (drop ((y + k - radius) * length acc) plane) → w ≡ weight radius (distance radius k)
-      → every (λ i v. v ⊕ at row i ⊗ w) acc ≡ every below acc
-  row-added row w p q er ew =
+  -- the row i of the plane, which is that at offset k, times the weight
+  row-step : (k i : ℕ) (row : List Float) (w : Float) → radius ≤ y + k → y + k - radius < h → i ≡ y + k - radius
+      → row ≡ take (length acc) (drop (i * length acc) plane) → w ≡ weight radius (distance radius k)
+      → (x : ℕ) (v : Float) → x < length acc → v ⊕ at row x ⊗ w ≡ below k x v
+  row-step k i row w p q ei er ew x v l =
       let n = length acc in
-      let r = (y + k - radius) * n in
-      rewrite-ext n (λ i v. v ⊕ at row i ⊗ w) below acc (λ x v l.
-      simp (er, ew, inside-yes h radius y k p q)
-      (ap (λ (s : Float). v ⊕ s ⊗ weight radius (distance radius k)) (getD-take n (drop r plane) x nan l ∙ getD-drop r plane x nan)))
+      simp (ew, inside-yes h radius y k p q)
+      (ap (λ (s : Float). v ⊕ s ⊗ weight radius (distance radius k)) (ap (λ (z : List Float). at z x) er ∙ getD-take n (drop (i * n) plane) x nan l ∙ getD-drop (i * n) plane x nan ∙ ap (λ (j : ℕ). cell plane n x j) ei))
+
+  pub row-added : (k : ℕ) (row : List Float) (w : Float) → radius ≤ y + k → y + k - radius < h
+      → row ≡ take (length acc) (drop ((y + k - radius) * length acc) plane) → w ≡ weight radius (distance radius k)
+      → every (λ i v. v ⊕ at row i ⊗ w) acc ≡ every (below k) acc
+  row-added k row w p q er ew = rewrite-ext (length acc) (λ i v. v ⊕ at row i ⊗ w) (below k) acc (row-step k (y + k - radius) row w p q refl er ew)
+
+  pub row-onward : (k : ℕ) → every (below k) acc ≡ every (λ x. onward (λ i w. cell plane (length acc) x i ⊗ w) h radius y k 1) acc
+  unfolding onward
+  row-onward k = ap (λ (j : ℕ). every (below j) acc) (sym (add-zero k))
+
+  -- four rows, from offset k on
+  pub four-added : (k i : ℕ) (a b c d : List Float) (w : Four) → radius ≤ y + k → y + k + 3 < h + radius → i ≡ y + k - radius
+      → a ≡ take (length acc) (drop (i * length acc) plane) → b ≡ take (length acc) (drop ((i + 1) * length acc) plane)
+      → c ≡ take (length acc) (drop ((i + 2) * length acc) plane) → d ≡ take (length acc) (drop ((i + 3) * length acc) plane)
+      → w ≡ fourWeights radius k
+      → every (λ i v. v ⊕ at a i ⊗ w .a ⊕ at b i ⊗ w .b ⊕ at c i ⊗ w .c ⊕ at d i ⊗ w .d) acc ≡ every (λ x. onward (λ i w. cell plane (length acc) x i ⊗ w) h radius y k 4) acc
+  four-added k i a b c d w p q ei ea eb ec ed ew =
+      rewrite-ext (length acc) (λ i v. v ⊕ at a i ⊗ w .a ⊕ at b i ⊗ w .b ⊕ at c i ⊗ w .c ⊕ at d i ⊗ w .d) (λ x. onward (λ i w. cell plane (length acc) x i ⊗ w) h radius y k 4) acc
+      (λ x v l. onward-four (λ i w. cell plane (length acc) x i ⊗ w) h radius y k v
+      (row-step k i a (w .a) p (omega arith) ei ea (ap (λ (f : Four). f .a) ew) x v l) (row-step (k + 1) (i + 1) b (w .b) (omega arith) (omega arith) (omega arith) eb (ap (λ (f : Four). f .b) ew) x _ l)
+      (row-step (k + 2) (i + 2) c (w .c) (omega arith) (omega arith) (omega arith) ec (ap (λ (f : Four). f .c) ew) x _ l) (row-step (k + 3) (i + 3) d (w .d) (omega arith) (omega arith) (omega arith) ed (ap (λ (f : Four). f .d) ew) x _ l))
 
 -- ---- lines
 

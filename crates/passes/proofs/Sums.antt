@@ -21,14 +21,18 @@ module _ {sums : ℕ → ℕ → Float} {most : ℕ} where
       record { upto = zero-le; kept = refl; sum = e ∙ sym (every-twice (λ x v. sums x 0) (λ x v. sums x 0) entry acc e) }
 
   module _ {k : ℕ} {before acc : List Float} (t : Summed sums most k before acc) where
-    -- a turn adds the term k of each place by the rule g
+    -- a turn adds m terms of each place by the rule g
+    pub summed-on : (m : ℕ) (g : ℕ → Float → Float) (after : List Float) → k + m ≤ most
+        → ((x : ℕ) → x < length before → g x (sums x k) ≡ sums x (k + m)) → after ≡ every g acc → Summed sums most (k + m) before after
+    summed-on m g after l h f =
+        let e = f ∙ every-twice (λ x v. sums x k) g before acc (t .sum)
+        ∙ rewrite-ext (length before) (λ x v. g x (sums x k)) (λ x v. sums x (k + m)) before (λ x v i. h x i) in
+        record { upto = l; kept = ap length e ∙ length-rewrite _ _ _; sum = e }
+
+    -- a turn adds the term k
     pub summed-more : (g : ℕ → Float → Float) (after : List Float) → k < most
         → ((x : ℕ) → x < length before → g x (sums x k) ≡ sums x (suc k)) → after ≡ every g acc → Summed sums most (k + 1) before after
-    summed-more g after l h f =
-        let e = f ∙ every-twice (λ x v. sums x k) g before acc (t .sum)
-        ∙ rewrite-ext (length before) (λ x v. g x (sums x k)) (λ x v. sums x (suc k)) before (λ x v i. h x i)
-        ∙ ap (λ (m : ℕ). fill (λ x. sums x m) before) (sym (add-one k)) in
-        record { upto = omega arith; kept = ap length e ∙ length-rewrite _ _ _; sum = e }
+    summed-more g after l h f = summed-on 1 g after (omega arith) (λ x i. h x i ∙ ap (sums x) (sym (add-one k))) f
 
     pub summed-all : (entry : List Float) → most ≤ k → before ≡ fill (λ x. sums x 0) entry → acc ≡ fill (λ x. sums x most) entry
     summed-all entry l e =

@@ -5,7 +5,7 @@ ghost use Prim.Native.Nat.{_+_, _-_, _*_, _≤_, _<_};
 ghost use lib.ListN.{length, take, drop};
 ghost use Rattle.num.specs.Const.{c0·0};
 ghost use Rattle.num.specs.F32.{_⊕_, _⊗_};
-ghost use Rattle.num.specs.Rewrite.{every, fill};
+ghost use Rattle.num.specs.Rewrite.{rewrite, every, fill};
 ghost use Rattle.passes.specs.Blur as Blur;
 ghost use Rattle.passes.specs.Blur.{at, cell};
 
@@ -36,6 +36,47 @@ fn add_scaled(acc: &mut [f32], src: &[f32], w: f32)
     }
 }
 
+// The weight of offset k.
+fn offset_weight(radius: usize, k: usize) -> f32
+    requires { ⌜ (radius ≤ 64) × (k ≤ 2 * radius) ⌝ }
+    ensures { λ r. ⌜ r ≡ Blur.weight radius (Blur.distance radius k) ⌝ }
+{
+    weight(radius, monus(radius, k) + monus(k, radius))
+}
+
+// The weights of four offsets, one after another.
+struct Four {
+    a: f32,
+    b: f32,
+    c: f32,
+    d: f32,
+}
+
+// Adds a[i] * w.a, then b[i] * w.b, then c[i] * w.c, then d[i] * w.d at each i: for four samples the sums are read and written once.
+fn add_four(acc: &mut [f32], a: &[f32], b: &[f32], c: &[f32], d: &[f32], w: Four)
+    requires { ⌜ (length (now acc) ≡ length (now a)) × (length (now acc) ≡ length (now b)) × (length (now acc) ≡ length (now c)) × (length (now acc) ≡ length (now d)) ⌝ }
+    ensures { λ _. ⌜ now (acc .exit) ≡ every (λ i v. v ⊕ at (now (a .entry)) i ⊗ w .a ⊕ at (now (b .entry)) i ⊗ w .b ⊕ at (now (c .entry)) i ⊗ w .c ⊕ at (now (d .entry)) i ⊗ w .d) (now (acc .entry)) ⌝ }
+{
+    let mut i = 0usize;
+    while i < acc.len() {
+        acc[i] = acc[i] + a[i] * w.a + b[i] * w.b + c[i] * w.c + d[i] * w.d;
+        i += 1;
+    }
+}
+
+// Those of the offsets k to k + 3.
+fn four_weights(radius: usize, k: usize) -> Four
+    requires { ⌜ (radius ≤ 64) × (k + 3 ≤ 2 * radius) ⌝ }
+    ensures { λ r. ⌜ r ≡ Blur.fourWeights radius k ⌝ }
+{
+    Four {
+        a: offset_weight(radius, k),
+        b: offset_weight(radius, k + 1),
+        c: offset_weight(radius, k + 2),
+        d: offset_weight(radius, k + 3),
+    }
+}
+
 // Adds the samples at offset k of every place, those outside skipped.
 fn add_offset(acc: &mut [f32], src: &[f32], radius: usize, k: usize)
     requires { ⌜ (length (now acc) ≡ length (now src)) × (radius ≤ 64) × (k ≤ 2 * radius) ⌝ }
@@ -52,6 +93,101 @@ fn add_offset(acc: &mut [f32], src: &[f32], radius: usize, k: usize)
         let from_end = from + count;
         add_scaled(&mut acc[to..to_end], &src[from..from_end], w);
     }
+}
+
+// The sample at offset k of place x, added where it is inside; w is the offset's weight.
+fn add_sample(sum: f32, src: &[f32], radius: usize, x: usize, k: usize, w: f32) -> f32
+    requires { ⌜ (radius ≤ 64) × (k ≤ 2 * radius) × (x < length (now src)) × (w ≡ Blur.weight radius (Blur.distance radius k)) ⌝ }
+    ensures { λ r. ⌜ r ≡ Blur.step (λ i w. at (now (src .entry)) i ⊗ w) (length (now (src .entry))) radius x k sum ⌝ }
+{
+    if radius <= x + k {
+        let i = x + k - radius;
+        if i < src.len() {
+            return sum + src[i] * w;
+        }
+    }
+    sum
+}
+
+// The samples at the offsets k to k + 3 of place x, added where they are inside; w has their weights.
+fn add_samples(sum: f32, src: &[f32], radius: usize, x: usize, k: usize, w: Four) -> f32
+    requires { ⌜ (radius ≤ 64) × (k + 3 ≤ 2 * radius) × (x < length (now src)) × (w ≡ Blur.fourWeights radius k) ⌝ }
+    ensures { λ r. ⌜ r ≡ Blur.onward (λ i w. at (now (src .entry)) i ⊗ w) (length (now (src .entry))) radius x k 4 sum ⌝ }
+{
+    let one = add_sample(sum, src, radius, x, k, w.a);
+    let two = add_sample(one, src, radius, x, k + 1, w.b);
+    let three = add_sample(two, src, radius, x, k + 2, w.c);
+    add_sample(three, src, radius, x, k + 3, w.d)
+}
+
+// The same at each place of a part of the line, which begins at place `start`.
+fn add_edge(part: &mut [f32], src: &[f32], radius: usize, start: usize, k: usize, w: Four)
+    requires { ⌜ (radius ≤ 64) × (k + 3 ≤ 2 * radius) × (start + length (now part) ≤ length (now src)) × (w ≡ Blur.fourWeights radius k) ⌝ }
+    ensures { λ _. ⌜ now (part .exit) ≡ every (λ i. Blur.onward (λ j w. at (now (src .entry)) j ⊗ w) (length (now (src .entry))) radius (start + i) k 4) (now (part .entry)) ⌝ }
+{
+    let mut i = 0usize;
+    while i < part.len() {
+        part[i] = add_samples(part[i], src, radius, start + i, k, w);
+        i += 1;
+    }
+}
+
+// The same where all four are inside at each place.
+fn add_middle(part: &mut [f32], src: &[f32], radius: usize, start: usize, k: usize, w: Four)
+    requires { ⌜ (radius ≤ 64) × (k + 3 ≤ 2 * radius) × (radius ≤ start + k) × (start + length (now part) + k + 3 ≤ length (now src) + radius) × (w ≡ Blur.fourWeights radius k) ⌝ }
+    ensures { λ _. ⌜ now (part .exit) ≡ every (λ i. Blur.onward (λ j w. at (now (src .entry)) j ⊗ w) (length (now (src .entry))) radius (start + i) k 4) (now (part .entry)) ⌝ }
+{
+    let from = start + k - radius;
+    let end = from + part.len();
+    add_four(
+        part,
+        &src[from..end],
+        &src[from + 1..end + 1],
+        &src[from + 2..end + 2],
+        &src[from + 3..end + 3],
+        w,
+    );
+}
+
+// The same at the places of a line before the right edge. At most three places have some of the four inside and some outside to
+// their left, and those before them have none inside.
+fn add_to_edge(acc: &mut [f32], src: &[f32], radius: usize, k: usize, w: Four)
+    requires { ⌜ (length (now acc) ≡ length (now src)) × (radius ≤ 64) × (k + 3 ≤ 2 * radius) × ((radius - k) + (k + 3 - radius) < length (now src)) × (w ≡ Blur.fourWeights radius k) ⌝ }
+    ensures { λ _. ⌜ now (acc .exit) ≡ rewrite (length (now (src .entry)) - (k + 3 - radius)) (λ x. Blur.onward (λ i w. at (now (src .entry)) i ⊗ w) (length (now (src .entry))) radius x k 4) (now (acc .entry)) ⌝ }
+{
+    let first = monus(radius, k + 3);
+    let to = monus(radius, k);
+    let end = src.len() - monus(k + 3, radius);
+    add_edge(&mut acc[first..to], src, radius, first, k, w);
+    add_middle(&mut acc[to..end], src, radius, to, k, w);
+}
+
+// The same at each place, where there are places at which all four are inside. The right edge is like the left one.
+fn add_four_offsets(acc: &mut [f32], src: &[f32], radius: usize, k: usize)
+    requires { ⌜ (length (now acc) ≡ length (now src)) × (radius ≤ 64) × (k + 3 ≤ 2 * radius) × ((radius - k) + (k + 3 - radius) < length (now src)) ⌝ }
+    ensures { λ _. ⌜ now (acc .exit) ≡ every (λ x. Blur.onward (λ i w. at (now (src .entry)) i ⊗ w) (length (now (src .entry))) radius x k 4) (now (acc .entry)) ⌝ }
+{
+    let w = four_weights(radius, k);
+    add_to_edge(acc, src, radius, k, w);
+    let end = src.len() - monus(k + 3, radius);
+    let last = src.len() - monus(k, radius);
+    add_edge(&mut acc[end..last], src, radius, end, k, w);
+}
+
+// Adds samples from offset k on: at four offsets if there are places at which all are inside, else at one. Answers at how many.
+fn add_offsets(acc: &mut [f32], src: &[f32], radius: usize, k: usize) -> usize
+    requires { ⌜ (length (now acc) ≡ length (now src)) × (radius ≤ 64) × (k ≤ 2 * radius) ⌝ }
+    ensures { λ r. ⌜ (0 < r) × (k + r ≤ 2 * radius + 1) × (now (acc .exit) ≡ every (λ x. Blur.onward (λ i w. at (now (src .entry)) i ⊗ w) (length (now (src .entry))) radius x k r) (now (acc .entry))) ⌝ }
+{
+    let outside = monus(radius, k) + monus(k + 3, radius);
+    if k + 3 <= 2 * radius {
+        if outside < src.len() {
+            add_four_offsets(acc, src, radius, k);
+            return 4;
+        }
+    }
+    add_offset(acc, src, radius, k);
+    1
 }
 
 // 0.0 everywhere
@@ -73,8 +209,7 @@ fn accumulate(acc: &mut [f32], src: &[f32], radius: usize)
     clear(acc);
     let mut k = 0usize;
     while k < 2 * radius + 1 {
-        add_offset(acc, src, radius, k);
-        k += 1;
+        k += add_offsets(acc, src, radius, k);
     }
 }
 
@@ -85,7 +220,7 @@ fn add_weight(sum: f32, n: usize, radius: usize, x: usize, k: usize) -> f32
 {
     if radius <= x + k {
         if x + k - radius < n {
-            return sum + weight(radius, monus(radius, k) + monus(k, radius));
+            return sum + offset_weight(radius, k);
         }
     }
     sum
@@ -151,11 +286,48 @@ fn add_row(acc: &mut [f32], plane: &[f32], height: usize, radius: usize, y: usiz
     if radius <= y + k {
         let i = y + k - radius;
         if i < height {
-            let w = weight(radius, monus(radius, k) + monus(k, radius));
+            let w = offset_weight(radius, k);
             let n = acc.len();
             add_scaled(acc, row_of(plane, n, height, i), w);
         }
     }
+}
+
+// Adds the rows at the offsets k to k + 3 of row y, which are inside.
+fn add_four_rows(acc: &mut [f32], plane: &[f32], height: usize, radius: usize, y: usize, k: usize)
+    requires { ⌜ (radius ≤ 64) × (k + 3 ≤ 2 * radius) × (radius ≤ y + k) × (y + k + 3 < height + radius) × (height ≤ 1024) × (length (now plane) ≡ height * length (now acc)) ⌝ }
+    ensures { λ _. ⌜ now (acc .exit) ≡ every (λ x. Blur.onward (λ i w. cell (now (plane .entry)) (length (now (acc .entry))) x i ⊗ w) height radius y k 4) (now (acc .entry)) ⌝ }
+{
+    let i = y + k - radius;
+    let n = acc.len();
+    add_four(
+        acc,
+        row_of(plane, n, height, i),
+        row_of(plane, n, height, i + 1),
+        row_of(plane, n, height, i + 2),
+        row_of(plane, n, height, i + 3),
+        four_weights(radius, k),
+    );
+}
+
+// Adds rows around row y, from offset k on: four if all are inside, else that at offset k. Answers how many offsets it took.
+fn add_rows(
+    acc: &mut [f32],
+    plane: &[f32],
+    height: usize,
+    radius: usize,
+    y: usize,
+    k: usize,
+) -> usize
+    requires { ⌜ (radius ≤ 64) × (k ≤ 2 * radius) × (y < height) × (height ≤ 1024) × (length (now plane) ≡ height * length (now acc)) ⌝ }
+    ensures { λ r. ⌜ (0 < r) × (k + r ≤ 2 * radius + 1) × (now (acc .exit) ≡ every (λ x. Blur.onward (λ i w. cell (now (plane .entry)) (length (now (acc .entry))) x i ⊗ w) height radius y k r) (now (acc .entry))) ⌝ }
+{
+    if k + 3 <= 2 * radius && radius <= y + k && y + k + 3 < height + radius {
+        add_four_rows(acc, plane, height, radius, y, k);
+        return 4;
+    }
+    add_row(acc, plane, height, radius, y, k);
+    1
 }
 
 // The sums of the weighted samples of each column around the row y.
@@ -166,8 +338,7 @@ pub fn accumulate_rows(acc: &mut [f32], plane: &[f32], height: usize, radius: us
     clear(acc);
     let mut k = 0usize;
     while k < 2 * radius + 1 {
-        add_row(acc, plane, height, radius, y, k);
-        k += 1;
+        k += add_rows(acc, plane, height, radius, y, k);
     }
 }
 

@@ -1,5 +1,8 @@
 // LUT: the preset number decides among seven colour treatments, in the order of the original's `LutPreset`.
 ghost use mathlib.Core.Path.{_≡_};
+ghost use Prim.Native.Nat.{_*_, _≤_};
+ghost use lib.ListN.{length, getD};
+ghost use Rattle.num.specs.Rewrite.{every, fill};
 ghost use Rattle.passes.specs.Lut as Lut;
 use crate::pixel;
 use crate::pixel::Rgb;
@@ -63,12 +66,69 @@ fn pixel(p: u32, preset: u8, strength: f32) -> u32
     })
 }
 
-pub fn apply(frame: &mut [u32], preset: u8, strength: f32)
+// What the greys become, by their channel: word k is 0x010101 * k.
+fn greys(table: &mut [u32], preset: u8, strength: f32)
+    requires { ⌜ length (now table) ≤ 256 ⌝ }
+    ensures { λ _. ⌜ now (table .exit) ≡ fill (λ k. Lut.pixel preset strength (k * 65793)) (now (table .entry)) ⌝ }
+{
+    let mut k = 0;
+    while k < table.len() {
+        table[k] = pixel(k as u32 * 65793, preset, strength);
+        k += 1;
+    }
+}
+
+// Each channel from the table's word for its value.
+fn picked(table: &[u32], p: u32) -> u32
+    requires { ⌜ 256 ≡ length (now table) ⌝ }
+    ensures { λ r. ⌜ r ≡ Lut.picked (λ k. getD (now (table .entry)) k 0) p ⌝ }
+{
+    table[(p / 65536 % 256) as usize] / 65536 % 256 * 65536
+        + table[(p / 256 % 256) as usize] / 256 % 256 * 256
+        + table[(p % 256) as usize] % 256
+}
+
+fn by_greys(frame: &mut [u32], table: &[u32])
+    requires { ⌜ 256 ≡ length (now table) ⌝ }
+    ensures { λ _. ⌜ now (frame .exit) ≡ every (λ i. Lut.picked (λ k. getD (now (table .entry)) k 0)) (now (frame .entry)) ⌝ }
+{
+    let mut i = 0;
+    while i < frame.len() {
+        frame[i] = picked(table, frame[i]);
+        i += 1;
+    }
+}
+
+fn by_pixels(frame: &mut [u32], preset: u8, strength: f32)
     ensures { λ _. ⌜ now (frame .exit) ≡ Lut.lut preset strength (now (frame .entry)) ⌝ }
 {
     let mut i = 0;
     while i < frame.len() {
         frame[i] = pixel(frame[i], preset, strength);
         i += 1;
+    }
+}
+
+// Room for the table.
+fn table() -> [u32; 256]
+    ensures { λ r. ⌜ 256 ≡ length r ⌝ }
+{
+    [0; 256]
+}
+
+// Where a channel becomes what it does by its own value alone, the 256 greys say all. The other three presets are numbers where
+// they are passed on, so that each has a loop with its own treatment alone.
+pub fn apply(frame: &mut [u32], preset: u8, strength: f32)
+    ensures { λ _. ⌜ now (frame .exit) ≡ Lut.lut preset strength (now (frame .entry)) ⌝ }
+{
+    match preset {
+        3 => by_pixels(frame, 3, strength),
+        4 => by_pixels(frame, 4, strength),
+        5 => by_pixels(frame, 5, strength),
+        _ => {
+            let mut words = table();
+            greys(&mut words, preset, strength);
+            by_greys(frame, &words);
+        }
     }
 }

@@ -70,22 +70,16 @@ pub fn pack_nearest(c: Rgb) -> u32
 pub fn pack_limited(c: Rgb) -> u32
     ensures { λ p. ⌜ p ≡ Pixel.packLimited c ⌝ }
 {
-    pack(Rgb {
-        r: num::steps::clamp(c.r, 0.0, 255.0),
-        g: num::steps::clamp(c.g, 0.0, 255.0),
-        b: num::steps::clamp(c.b, 0.0, 255.0),
-    })
+    num::whole::cut_limited(c.r) * 65536
+        + num::whole::cut_limited(c.g) * 256
+        + num::whole::cut_limited(c.b)
 }
 
 // The final conversion from 0..1: each channel limited, times 255, then cut.
 pub fn pack_unit(c: Rgb) -> u32
     ensures { λ p. ⌜ p ≡ Pixel.packUnit c ⌝ }
 {
-    pack(Rgb {
-        r: num::steps::clamp(c.r, 0.0, 1.0) * 255.0,
-        g: num::steps::clamp(c.g, 0.0, 1.0) * 255.0,
-        b: num::steps::clamp(c.b, 0.0, 1.0) * 255.0,
-    })
+    num::whole::cut_unit(c.r) * 65536 + num::whole::cut_unit(c.g) * 256 + num::whole::cut_unit(c.b)
 }
 
 // A word's channels times a factor.

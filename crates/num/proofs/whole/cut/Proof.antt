@@ -1,73 +1,17 @@
--- `num::whole::cut` meets its contract. The nearest whole number is the whole part or one more, and the comparison says which. Assumes nothing.
+-- `num::whole::cut` meets its contract. Assumes nothing.
 use mathlib.Core.Path.{_≡_, sym, _∙_, subst}
-use Prim.Native.Nat.{ℕ, _-_, _*_, _≤_, _<_}
-use native.Mathlib.Nat.{mul-one}
-use native.Mathlib.Omega.{arith}
-use mathlib.Core.Bool.{true, false}
-use borrow.Author.Needs.{needs}
-use lib.Dec.{T, lit<, lit≤}
-use lib.Ieee.{Float, fin, up, down, lt}
-use lib.Ieee.Fits.{down-pos}
-use Rattle.num.specs.F32.{whole}
+use Prim.Native.Nat.{ℕ, _≤_}
+use lib.Ieee.{Float}
 use Rattle.num.specs.Steps.{cutOf}
-use Rattle.num.specs.Private.{under, floorOf, Near}
-use Rattle.num.specs.Values.{whole-value, lt-value, not-lt-value}
 use Rattle.num.specs.Bounds.{cut-le}
-use Rattle.num.proofs.NearWhole.{near-le, under-more, floor-less, floor-is}
 use Rattle.num.proofs.whole.cut.Statement.{statement}
 use Rattle.num.proofs.whole.cut.Tie as tie
-
-module _ (n : ℕ) (v : Float) (h : T (under 1024 v)) (b : Near v n) where
-  small : n ≤ 16777216
-  small = omega (arith, near-le 1024 n v h b)
-
-  -- n is more than v: the whole part is one less
-  if-more : lt v (whole n) ≡ true → (1 ≤ n) × (n - 1 ≡ floorOf v)
-  unfolding under Near floorOf
-  if-more = go v h b
-    where
-      go : (v : Float) → T (under 1024 v) → Near v n → lt v (whole n) ≡ true → (1 ≤ n) × (n - 1 ≡ floorOf v)
-      go (fin false m e) h b l =
-          floor-less (m * up e) (down e) n (down-pos e) b
-          (subst (λ (a : ℕ). a < n * down e) (mul-one (m * up e)) (lt-value m e n 1 (lit< tt) (whole n) (whole-value n small) l))
-
-  if-not : lt v (whole n) ≡ false → n ≡ floorOf v
-  unfolding under Near floorOf
-  if-not = go v h b
-    where
-      go : (v : Float) → T (under 1024 v) → Near v n → lt v (whole n) ≡ false → n ≡ floorOf v
-      go (fin false m e) h b l =
-          floor-is (m * up e) (down e) n (down-pos e) b
-          (subst (λ (a : ℕ). n * down e ≤ a) (mul-one (m * up e)) (not-lt-value m e n 1 (lit< tt) (whole n) (whole-value n small) l))
-
--- ---- the needs
 
 bounded : (x : Float) (r : ℕ) → r ≡ cutOf x → (r ≡ cutOf x) × (r ≤ 1023)
 bounded x r e = (e, subst (λ (n : ℕ). n ≤ 1023) (sym e) (cut-le x))
 
-near-requires : tie.Need-near-requires
-near-requires c κs = under-more 1024 8388608 (c .to-1023 .result) (lit≤ tt) (c .to-1023 .ensures .0)
-
-cast-if1 : tie.Need-cast-if1
-cast-if1 c = omega (arith, near-le 1024 (c .near .result) (c .before .to-1023 .result) (c .before .to-1023 .ensures .0) (c .near .ensures))
-
-sub-result : tie.Need-sub-result
-sub-result c =
-    let v = c .before .before .before .to-1023 in
-    let n = c .before .before .near in
-    if-more (n .result) (v .result) (v .ensures .0) (n .ensures) (c .if1 .taken) .0
-
 returns : tie.Need-returns
-returns c =
-    let v = c .before .before .before .to-1023 in
-    let n = c .before .before .near in
-    bounded (c .before .before .before .before .args .x) _ (if-more (n .result) (v .result) (v .ensures .0) (n .ensures) (c .if1 .taken) .1 ∙ v .ensures .1)
-
-returns-2 : tie.Need-returns-2
-returns-2 c =
-    let v = c .before .before .before .to-1023 in
-    let n = c .before .before .near in
-    bounded (c .before .before .before .before .args .x) _ (if-not (n .result) (v .result) (v .ensures .0) (n .ensures) (c .if1 .left) ∙ v .ensures .1)
+returns c = bounded (c .before .before .args .x) (c .floor .result) (c .floor .ensures ∙ c .before .to-1023 .ensures .1)
 
 pub cut-spec : {M : Type 1} → statement M
-cut-spec = tie.close (tie.spec (λ c κs. tt) near-requires cast-if1 (λ c. search needs) sub-result returns returns-2)
+cut-spec = tie.close (tie.spec (λ c κs. tt) (λ c κs. c .to-1023 .ensures .0) returns)

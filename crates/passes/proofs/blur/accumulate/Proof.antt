@@ -1,12 +1,12 @@
 -- `passes::blur::accumulate` meets its contract: after k offsets each place has the definition's sum over the first k. Assumes nothing.
-use mathlib.Core.Path.{refl}
 use Prim.Native.Nat.{_+_, _-_, _*_}
 use native.Mathlib.Omega.{arith}
 use lib.ListN.{length}
 use borrow.Author.Needs.{needs}
 use Rattle.num.specs.F32.{_⊗_}
 use Rattle.passes.specs.Blur.{at, total}
-use Rattle.passes.proofs.Sums.{Summed, summed-none, summed-more, summed-all}
+use Rattle.passes.proofs.Offsets.{total-onward}
+use Rattle.passes.proofs.Sums.{Summed, summed-none, summed-on, summed-all}
 use Rattle.passes.proofs.blur.accumulate.Statement.{statement}
 use Rattle.passes.proofs.blur.accumulate.Tie as tie
 
@@ -21,10 +21,12 @@ unfolding total
 loop-holds c = summed-none (c .before .before .before .before .before .before .args .acc .now) _ (c .before .before .clear .ensures)
 
 loop-again : tie.Need-loop-again Inv-loop μ-loop
-unfolding total
 loop-again c =
     let o = c .before .before in
-    summed-more (o .before .before .before .loop .inv) _ _ (o .before .before .loop-test .taken) (λ x l. refl) (o .add-offset .ensures)
+    let l = o .before .before .before .loop in
+    let a = o .before .before .before .before .before .before .before .before .before .before .args in
+    let r = o .add-offsets .result in
+    summed-on (l .inv) r _ _ (o .add-offsets .ensures .1) (λ x q. total-onward (λ i w. at (a .src .now) i ⊗ w) (length (a .src .now)) (a .radius) x (l .k) r) (o .add-offsets .ensures .2)
 
 returns : tie.Need-returns Inv-loop μ-loop
 unfolding total

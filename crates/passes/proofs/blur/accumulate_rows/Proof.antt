@@ -1,13 +1,14 @@
 -- `passes::blur::accumulate_rows` meets its contract: after k offsets each column has the definition's sum over the first k. Assumes nothing.
-use mathlib.Core.Path.{refl, sym, _∙_, ap}
+use mathlib.Core.Path.{sym, _∙_, ap}
 use Prim.Native.Nat.{ℕ, _+_, _-_, _*_}
 use native.Mathlib.Omega.{arith}
 use lib.ListN.{length}
 use borrow.Author.Needs.{needs}
 use Rattle.num.specs.F32.{_⊗_}
 use Rattle.num.specs.Rewrite.{every, fill}
-use Rattle.passes.specs.Blur.{cell, step, total, weighted}
-use Rattle.passes.proofs.Sums.{Summed, summed-none, summed-more, summed-all}
+use Rattle.passes.specs.Blur.{cell, total, onward, weighted}
+use Rattle.passes.proofs.Offsets.{total-onward}
+use Rattle.passes.proofs.Sums.{Summed, summed-none, summed-on, summed-all}
 use Rattle.passes.proofs.blur.accumulate_rows.Statement.{statement}
 use Rattle.passes.proofs.blur.accumulate_rows.Tie as tie
 
@@ -21,22 +22,22 @@ loop-holds : tie.Need-loop-holds Inv-loop μ-loop
 unfolding total
 loop-holds c = summed-none (c .before .before .before .before .before .before .args .acc .now) _ (c .before .before .clear .ensures)
 
-add-row-requires : tie.Need-add-row-requires Inv-loop μ-loop
-add-row-requires c κs =
+add-rows-requires : tie.Need-add-rows-requires Inv-loop μ-loop
+add-rows-requires c κs =
     let s = c .before .before .before .before .before .before .before .before .before in
     let l = c .before .before .loop in
     let d = c .before .before .before .before .before .clear in
     (omega arith, omega arith, omega arith, omega arith, s .pre .3 ∙ ap (λ (n : ℕ). s .args .height * n) (sym (l .inv .kept ∙ d .kept .0)))
 
 loop-again : tie.Need-loop-again Inv-loop μ-loop
-unfolding total
 loop-again c =
     let o = c .before .before in
     let l = o .before .before .before .loop in
     let a = o .before .before .before .before .before .before .before .before .before .before .args in
-    summed-more (l .inv) _ _ (o .before .before .loop-test .taken) (λ x q. refl)
-    (o .add-row .ensures
-    ∙ ap (λ (m : ℕ). every (λ x. step (λ i w. cell (a .plane .now) m x i ⊗ w) (a .height) (a .radius) (a .y) (l .k)) (l .acc)) (l .inv .kept))
+    let r = o .add-rows .result in
+    summed-on (l .inv) r _ _ (o .add-rows .ensures .1) (λ x q. total-onward _ (a .height) (a .radius) (a .y) (l .k) r)
+    (o .add-rows .ensures .2
+    ∙ ap (λ (m : ℕ). every (λ x. onward (λ i w. cell (a .plane .now) m x i ⊗ w) (a .height) (a .radius) (a .y) (l .k) r) (l .acc)) (l .inv .kept))
 
 returns : tie.Need-returns Inv-loop μ-loop
 unfolding total
@@ -49,5 +50,5 @@ returns c =
 pub accumulate-rows-spec : {M : Type 1} → statement M
 accumulate-rows-spec =
     tie.close
-    (tie.spec Inv-loop μ-loop (λ c κs. search needs) loop-holds (λ c. omega arith) (λ c. omega arith) add-row-requires (λ c. omega arith) (λ c. omega arith)
+    (tie.spec Inv-loop μ-loop (λ c κs. search needs) loop-holds (λ c. omega arith) (λ c. omega arith) add-rows-requires (λ c. omega arith) (λ c. omega arith)
     loop-again (λ c. omega arith) returns)

@@ -1,0 +1,30 @@
+-- `passes::blur::add_four` meets its contract: four scaled samples are added at each place, from the front. Assumes nothing.
+use mathlib.Core.Path.{refl}
+use Prim.Native.Nat.{_-_}
+use native.Mathlib.Omega.{arith}
+use lib.ListN.{length}
+use lib.Ieee.{nan}
+use Rattle.num.specs.Rewrite.{Rewritten, none, more, all}
+use Rattle.passes.specs.Blur.{at}
+use Rattle.num.specs.F32.{_⊕_, _⊗_}
+use Rattle.passes.proofs.blur.add_four.Statement.{statement}
+use Rattle.passes.proofs.blur.add_four.Tie as tie
+
+abbrev Inv-loop : tie.InvT-loop
+Inv-loop acc₀ a b c d w i₀ acc i = Rewritten i (λ k v. v ⊕ at a k ⊗ w .a ⊕ at b k ⊗ w .b ⊕ at c k ⊗ w .c ⊕ at d k ⊗ w .d) acc₀ acc
+
+abbrev μ-loop : tie.MeasureT-loop
+μ-loop acc₀ a b c d w i₀ acc i = length acc₀ - i
+
+loop-again : tie.Need-loop-again Inv-loop μ-loop
+loop-again c =
+    let l = c .before .before .before .before .before .before .before .before .before .before .loop in
+    more (l .inv) nan (omega arith) refl
+
+-- an index is below each length, and its offset in bytes fits
+pub add-four-spec : {M : Type 1} → statement M
+add-four-spec =
+    tie.close
+    (tie.spec Inv-loop μ-loop (λ c. none _ _) (λ c. omega arith) (λ c. omega arith) (λ c. omega arith) (λ c. omega arith) (λ c. omega arith) (λ c. omega arith)
+    (λ c. omega arith) (λ c. omega arith) (λ c. omega arith) (λ c. omega arith) (λ c. omega arith) (λ c. omega arith) (λ c. omega arith) (λ c. omega arith)
+    loop-again (λ c. c .before .loop .inv .kept) (λ c. all (c .before .loop .inv) (omega arith)))

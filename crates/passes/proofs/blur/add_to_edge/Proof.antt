@@ -1,0 +1,70 @@
+-- `passes::blur::add_to_edge` meets its contract: nothing is inside before the left edge; then the edge and the middle. Assumes nothing.
+use mathlib.Core.Path.{_≡_, _∙_, ap}
+use mathlib.Core.List.{List, _++_}
+use Prim.Native.Nat.{ℕ, _+_, _-_, _≤_, _<_}
+use native.Mathlib.Omega.{arith}
+use borrow.Author.Needs.{needs}
+use lib.ListN.{length, take, drop}
+use lib.Ieee.{Float}
+use Rattle.num.specs.F32.{_⊗_}
+use Rattle.num.specs.Rewrite.{Rewritten, rewrite, every}
+use Rattle.passes.specs.Blur.{at, onward}
+use Rattle.passes.proofs.Offsets.{fourfold-none, further, further-long}
+use Rattle.passes.proofs.blur.add_to_edge.Statement.{statement}
+use Rattle.passes.proofs.blur.add_to_edge.Tie as tie
+
+-- the middle ends where the last of the four offsets does
+middle-in : (n radius k to less long : ℕ) → radius - k + (k + 3 - radius) < n → to ≡ radius - k → less ≡ k + 3 - radius → long ≡ n - less - to → to + long + k + 3 ≤ n + radius
+middle-in n radius k to less long h et el l = omega arith
+
+module _ (acc src : List Float) (radius k first to less : ℕ) (e : length acc ≡ length src) (some : radius - k + (k + 3 - radius) < length src)
+    (ef : first ≡ radius - (k + 3)) (et : to ≡ radius - k) (el : less ≡ k + 3 - radius) (left : List Float) where
+  abbrev four : ℕ → Float → Float
+  four x = onward (λ i w. at src i ⊗ w) (length src) radius x k 4
+
+  abbrev edged : List Float
+  edged = take first acc ++ (left ++ drop (to - first) (drop first acc))
+
+  module _ (hl : left ≡ every (λ d. four (first + d)) (take (to - first) (drop first acc))) where
+    begun : Rewritten to four acc edged
+    begun = further to left (fourfold-none acc src radius k e first ef (omega arith)) (omega arith) (omega arith) hl
+
+    fits : to + length (take (length src - less - to) (drop to edged)) + k + 3 ≤ length src + radius
+    fits = middle-in (length src) radius k to less _ some et el (further-long (length src - less) begun (omega arith))
+
+    done : (middle : List Float) → middle ≡ every (λ d. four (to + d)) (take (length src - less - to) (drop to edged))
+        → take to edged ++ (middle ++ drop (length src - less - to) (drop to edged)) ≡ rewrite (length src - (k + 3 - radius)) four acc
+    done middle hm = further (length src - less) middle begun (omega arith) (omega arith) hm .done ∙ ap (λ (x : ℕ). rewrite (length src - x) four acc) el
+
+add-middle-requires : tie.Need-add-middle-requires
+add-middle-requires c κs =
+    let left = c .before .before .before .add-edge in
+    let m3 = c .before .before .before .before .before in
+    let m2 = m3 .before in
+    let m1 = m2 .before in
+    let s = m1 .before .before .before in
+    let a = s .args in (
+      s .pre .1,
+      s .pre .2,
+      omega (arith, m2 .monus2 .ensures),
+      fits (a .acc .now) (a .src .now) (a .radius) (a .k) (m1 .monus .result) (m2 .monus2 .result) (m3 .monus3 .result) (s .pre .0) (s .pre .3) (m1 .monus .ensures) (m2 .monus2 .ensures) (m3 .monus3 .ensures)
+          (left .last .0) (left .ensures),
+      s .pre .4,
+    )
+
+returns : tie.Need-returns
+returns c =
+    let m3 = c .before .before .before .before .before .before .before .before in
+    let m2 = m3 .before in
+    let m1 = m2 .before in
+    let s = m1 .before .before .before in
+    let a = s .args in
+    done (a .acc .now) (a .src .now) (a .radius) (a .k) (m1 .monus .result) (m2 .monus2 .result) (m3 .monus3 .result) (s .pre .0) (s .pre .3) (m1 .monus .ensures) (m2 .monus2 .ensures) (m3 .monus3 .ensures)
+    (c .before .before .before .before .before .before .add-edge .last .0) (c .before .before .before .before .before .before .add-edge .ensures) (c .before .before .add-middle .last .0) (c .before .before .add-middle .ensures)
+
+pub add-to-edge-spec : {M : Type 1} → statement M
+add-to-edge-spec =
+    tie.close
+    (tie.spec (λ c. search needs) (λ c κs. search needs) (λ c κs. search needs) (λ c. search needs) (λ c κs. search needs) (λ c. search needs) (λ c. search needs)
+    (λ c. search needs) (λ c. search needs) (λ c. search needs) (λ c κs. search needs) (λ c. search needs) (λ c. search needs) (λ c. search needs) (λ c. search needs)
+    add-middle-requires (λ c. search needs) returns)
