@@ -7,3 +7,4 @@ mod Mirror
 mod Quarter
 mod Places
 mod Mixes
+mod Shifts
