@@ -8,3 +8,4 @@ mod Mirror
 mod Quarter
 mod Places
 mod Mixes
+mod Shifts

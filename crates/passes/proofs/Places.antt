@@ -79,11 +79,3 @@ copies-place zero (suc depth) frame l = rw (zero-mul (length frame)) (take-appen
 copies-place (suc j) (suc depth) frame l =
     let size : suc j * length frame ≡ length frame + j * length frame = omega (arith, suc-mul j (length frame)) in
     rw size (ap (take (length frame)) (drop-append-add frame (copies depth frame) (j * length frame)) ∙ copies-place j depth frame (le-of-suc-le-suc l))
-
--- ## Shifting: `x` is the frame that comes in, and each place gets what stands there in x ++ h
-
-pub carried : {depth j k : ℕ} (x h : List ℕ) {ys carry : List ℕ} → Written (length x) depth j k (x ++ h) h ys → j < depth
-    → carry ≡ take (k + length x - k) (drop k ys) → carry ≡ take (length x) (drop (k + length x) (x ++ h))
-carried {depth} {j} {k} x h t l e =
-    let flip : k + length x ≡ length x + k = omega arith in
-    e ∙ place t l ∙ ap (take (length x)) (sym (rw flip (drop-append-add x h k)))

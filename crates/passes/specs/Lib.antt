@@ -1,4 +1,4 @@
--- Laws of loops over a frame: Rows, Fold (num has Rewrite). Definitions that several share: Pixel, Position, Blur. The passes, each named as its Rust file.
+-- Laws of loops over a frame: Rows, Fold (num has Rewrite). Definitions that several share: Pixel, Position, Blur. Those that only private functions cite: Private. The passes, each named as its Rust file.
 pub mod Rows
 pub mod Fold
 pub mod Pixel
@@ -16,5 +16,6 @@ pub mod Bloom
 pub mod Flow
 pub mod Persistence
 pub mod PersistenceLaws
+pub mod Private
 pub mod Lengths
 pub mod Cases

@@ -22,7 +22,7 @@ unfolding blend blended
 blend-length amount k past frame = length-rewrite (length frame) _ frame
 
 -- two mixes with the same weights of the same words
-mix-same : (w : Float) (ws vs : ℕ → Float) (past was : List ℕ) (n i p k : ℕ) → ((j : ℕ) → j < k → ws j ≡ vs j)
+pub mix-same : (w : Float) (ws vs : ℕ → Float) (past was : List ℕ) (n i p k : ℕ) → ((j : ℕ) → j < k → ws j ≡ vs j)
     → ((j : ℕ) → j < k → getD past (j * n + i) 0 ≡ getD was (j * n + i) 0) → mix w ws past n i p k ≡ mix w vs was n i p k
 unfolding mix
 mix-same w ws vs past was n i p zero f g = refl

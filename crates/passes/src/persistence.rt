@@ -1,14 +1,16 @@
-// Persistence: each frame is mixed with the frames before it. The history is lent, frame j at word j * count, newest first.
+// Persistence: each frame is mixed with the frames before it. The history is lent, frame j at word j * count, newest first. It is
+// walked once, by rows: a row of the frame is mixed with its row in each place of the history, and these then shift by one place.
 ghost use mathlib.Core.Path.{_≡_};
 ghost use Prim.Native.Nat.{_+_, _*_, _≤_, _<_};
 ghost use lib.ListN.{length, getD, drop};
 ghost use lib.Ieee.{nan};
 ghost use Rattle.num.specs.F32.{_⊕_, _⊗_};
-ghost use Rattle.num.specs.Rewrite.{every, fill};
+ghost use Rattle.num.specs.Rewrite.{rewrite, every, fill};
 ghost use Rattle.passes.specs.Blur.{at, Begins};
 ghost use Rattle.passes.specs.Flow.{flow};
 ghost use Rattle.passes.specs.Persistence as Persistence;
 ghost use Rattle.passes.specs.Pixel.{channel, packLimited, rgb, unpack};
+ghost use Rattle.passes.specs.Private.{rowShift};
 use crate::blur;
 use crate::pixel;
 use crate::pixel::Rgb;
@@ -145,38 +147,6 @@ fn row_end(at: usize, n: usize) -> usize
     if n - at < 1024 { n } else { at + 1024 }
 }
 
-// The frame by rows that the lines have room for, whatever its width.
-fn blended(frame: &mut [u32], w: f32, ws: &[f32], history: &[u32])
-    requires { ⌜ length (now ws) * length (now frame) ≤ length (now history) ⌝ }
-    ensures { λ _. ⌜ now (frame .exit) ≡ Persistence.blended w (λ j. getD (now (ws .entry)) j nan) (length (now (ws .entry))) (now (history .entry)) (now (frame .entry)) ⌝ }
-{
-    let n = frame.len();
-    let mut at = 0;
-    while at < n {
-        let end = row_end(at, n);
-        blend_row(&mut frame[at..end], at, n, w, ws, history);
-        at = end;
-    }
-}
-
-// Room for the weights.
-fn line() -> [f32; 8]
-    ensures { λ r. ⌜ length r ≡ 8 ⌝ }
-{
-    [0.0; 8]
-}
-
-// The frame becomes the picture.
-fn blend(frame: &mut [u32], history: &[u32], amount: f32, depth: usize)
-    requires { ⌜ (depth ≤ 8) × (depth * length (now frame) ≤ length (now history)) ⌝ }
-    ensures { λ _. ⌜ now (frame .exit) ≡ Persistence.blend amount depth (now (history .entry)) (now (frame .entry)) ⌝ }
-{
-    let sum = total(amount, depth);
-    let mut ws = line();
-    weights(&mut ws[..depth], amount, sum);
-    blended(frame, 1.0 / sum, &ws[..depth], history);
-}
-
 // Each place of the history gets the frame.
 fn refill(history: &mut [u32], frame: &[u32], depth: usize)
     requires { ⌜ depth * length (now frame) ≤ length (now history) ⌝ }
@@ -207,33 +177,74 @@ fn exchange(a: &mut [u32], b: &mut [u32])
     }
 }
 
-// The places shift by one, and `carry`, one frame, becomes the newest; the oldest is left in it.
-fn shift(history: &mut [u32], carry: &mut [u32], depth: usize)
-    requires { ⌜ depth * length (now carry) ≤ length (now history) ⌝ }
-    ensures { λ _. ⌜ now (history .exit) ≡ Persistence.shifted depth (now (carry .entry)) (now (history .entry)) ⌝ }
+// The row that begins at word `at` of each place of n words shifts by one place, and `carry` becomes the newest; the oldest is left in it.
+fn shift_row(history: &mut [u32], carry: &mut [u32], at: usize, n: usize, depth: usize)
+    requires { ⌜ (at + length (now carry) ≤ n) × (depth * n ≤ length (now history)) ⌝ }
+    ensures { λ _. ⌜ now (history .exit) ≡ rewrite (depth * n) (rowShift n at (now (carry .entry)) (now (history .entry))) (now (history .entry)) ⌝ }
 {
     let count = carry.len();
-    let mut at = 0;
+    let mut start = at;
     let mut j = 0;
     while j < depth {
-        let end = at + count;
-        exchange(&mut history[at..end], carry);
-        at = end;
+        let end = start + count;
+        exchange(&mut history[start..end], carry);
+        start += n;
         j += 1;
     }
 }
 
-// A frame of the held length: it becomes the picture, and the history gets it as it came, by way of `carry`.
-fn follow(frame: &mut [u32], history: &mut [u32], carry: &mut [u32], amount: f32, depth: usize)
-    requires { ⌜ (depth ≤ 8) × (depth * length (now frame) ≤ length (now history)) × (length (now carry) ≡ length (now frame)) ⌝ }
-    ensures { λ _. ⌜ (now (frame .exit) ≡ Persistence.blend amount depth (now (history .entry)) (now (frame .entry))) × (now (history .exit) ≡ Persistence.shifted depth (now (frame .entry)) (now (history .entry))) ⌝ }
+// Room for a row.
+fn row_line() -> [u32; 1024]
+    ensures { λ r. ⌜ length r ≡ 1024 ⌝ }
 {
-    rows::copy(carry, frame);
-    blend(frame, history, amount, depth);
-    shift(history, carry, depth);
+    [0; 1024]
 }
 
-// Returns the new `held`. Words of the history past depth * count stay, and those of the scratch past count.
+// A row that begins at word `at` of a frame of n becomes the picture's, and the history gets it as it came.
+fn follow_row(row: &mut [u32], history: &mut [u32], at: usize, n: usize, w: f32, ws: &[f32])
+    requires { ⌜ (length (now row) ≤ 1024) × (at + length (now row) ≤ n) × (length (now ws) * n ≤ length (now history)) ⌝ }
+    ensures { λ _. ⌜ (now (row .exit) ≡ every (λ x. Persistence.pixel w (λ j. getD (now (ws .entry)) j nan) (length (now (ws .entry))) (now (history .entry)) n (at + x)) (now (row .entry))) × (now (history .exit) ≡ rewrite (length (now (ws .entry)) * n) (rowShift n at (now (row .entry)) (now (history .entry))) (now (history .entry))) ⌝ }
+{
+    let count = row.len();
+    let mut carry = row_line();
+    rows::copy(&mut carry[..count], row);
+    blend_row(row, at, n, w, ws, history);
+    shift_row(history, &mut carry[..count], at, n, ws.len());
+}
+
+// The frame by rows that the lines have room for, whatever its width.
+fn follow_rows(frame: &mut [u32], history: &mut [u32], w: f32, ws: &[f32])
+    requires { ⌜ length (now ws) * length (now frame) ≤ length (now history) ⌝ }
+    ensures { λ _. ⌜ (now (frame .exit) ≡ Persistence.blended w (λ j. getD (now (ws .entry)) j nan) (length (now (ws .entry))) (now (history .entry)) (now (frame .entry))) × (now (history .exit) ≡ Persistence.shifted (length (now (ws .entry))) (now (frame .entry)) (now (history .entry))) ⌝ }
+{
+    let n = frame.len();
+    let mut at = 0;
+    while at < n {
+        let end = row_end(at, n);
+        follow_row(&mut frame[at..end], history, at, n, w, ws);
+        at = end;
+    }
+}
+
+// Room for the weights.
+fn line() -> [f32; 8]
+    ensures { λ r. ⌜ length r ≡ 8 ⌝ }
+{
+    [0.0; 8]
+}
+
+// A frame of the held length: it becomes the picture, and the history gets it as it came.
+fn follow(frame: &mut [u32], history: &mut [u32], amount: f32, depth: usize)
+    requires { ⌜ (depth ≤ 8) × (depth * length (now frame) ≤ length (now history)) ⌝ }
+    ensures { λ _. ⌜ (now (frame .exit) ≡ Persistence.blend amount depth (now (history .entry)) (now (frame .entry))) × (now (history .exit) ≡ Persistence.shifted depth (now (frame .entry)) (now (history .entry))) ⌝ }
+{
+    let sum = total(amount, depth);
+    let mut ws = line();
+    weights(&mut ws[..depth], amount, sum);
+    follow_rows(frame, history, 1.0 / sum, &ws[..depth]);
+}
+
+// Returns the new `held`. Words of the history past depth * count stay. Nothing is written to the scratch.
 pub fn apply(
     frame: &mut [u32],
     history: &mut [u32],
@@ -247,13 +258,7 @@ pub fn apply(
 {
     let count = frame.len();
     if held == count as u32 {
-        follow(
-            frame,
-            history,
-            &mut scratch[..count],
-            amount,
-            depth as usize,
-        );
+        follow(frame, history, amount, depth as usize);
         return held;
     }
     refill(history, frame, depth as usize);

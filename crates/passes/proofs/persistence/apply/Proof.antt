@@ -1,12 +1,10 @@
 -- `passes::persistence::apply` meets its contract: the two ways of persistence. Assumes nothing.
 use Prim.Native.Nat.{ℕ}
-use mathlib.Core.Path.{_≡_, refl, sym, ap, _∙_}
+use mathlib.Core.Path.{_≡_, refl, ap}
 use mathlib.Core.List.{List}
-use native.Mathlib.Omega.{arith}
 use borrow.Author.Needs.{needs}
 use borrow.Author.Tests.{eq-eqb, ne-eqb}
 use lib.ListN.{length}
-use lib.Seq.{length-take-le, drop-at}
 use lib.Ieee.{Float}
 use Rattle.passes.specs.Flow.{sameHeld, flow}
 use Rattle.passes.specs.Persistence.{blend, refilled, shifted, persistence}
@@ -23,20 +21,12 @@ module _ (amount : Float) (k : ℕ) (frame : List ℕ) (held : ℕ) (past : List
   unfolding persistence sameHeld
   begins n p = rw (p, ne-eqb held (length frame) n)
 
-slice-aggregate-follow : tie.Need-slice-aggregate-follow
-slice-aggregate-follow c = sym (length-take-le _ _ (omega arith))
-
-follow-requires : tie.Need-follow-requires
-follow-requires c κs = (omega arith, search needs, length-take-le _ _ (omega arith))
-
 returns : tie.Need-returns
 returns c =
-    let after = c .before .before .before .before .before .before in
-    let if1 = after .before .before .before .before in
-    let a = if1 .before .before .before .before .args in (
-      follows (a .amount) (a .depth) (a .frame .now) (a .held) (a .history .now) (if1 .if1 .taken) (after .follow .ensures .0) (after .follow .ensures .1),
-      drop-at (after .follow .last .1 .1 .0) _ _ (after .follow .kept .1 .1 .0 ∙ length-take-le (length (a .frame .now)) (a .scratch .now) (omega arith)),
-    )
+    let after = c .before .before .before .before in
+    let if1 = after .before .before .before in
+    let a = if1 .before .before .before .before .args in
+    (follows (a .amount) (a .depth) (a .frame .now) (a .held) (a .history .now) (if1 .if1 .taken) (after .follow .ensures .0) (after .follow .ensures .1), refl)
 
 returns-2 : tie.Need-returns-2
 returns-2 c =
@@ -47,5 +37,5 @@ returns-2 c =
 pub apply-spec : {M : Type 1} → statement M
 apply-spec =
     tie.close
-    (tie.spec (λ c. search needs) (λ c. search needs) slice-aggregate-follow follow-requires (λ c. search needs) (λ c. search needs) (λ c. search needs) returns
-    (λ c κs. search needs) (λ c. search needs) (λ c. search needs) (λ c. search needs) returns-2)
+    (tie.spec (λ c. search needs) (λ c κs. search needs) (λ c. search needs) (λ c. search needs) returns (λ c κs. search needs) (λ c. search needs)
+    (λ c. search needs) (λ c. search needs) returns-2)
