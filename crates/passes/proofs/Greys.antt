@@ -9,7 +9,8 @@ use Rattle.num.specs.Steps.{clampOf, cutOf}
 use Rattle.num.specs.Bounds.{unit-cut}
 use Rattle.passes.specs.declared.pixel.Rgb.{Rgb}
 use Rattle.passes.specs.Pixel.{rgb, unpack, unit, pack, packUnit}
-use Rattle.passes.specs.Lut.{transform, blend, pixel, picked}
+use Rattle.passes.specs.Lut.{transform, blend, pixel}
+use Rattle.passes.specs.Private.{picked}
 
 -- what a preset makes of each channel, by the channel alone
 pub record Alone (preset : ℕ) : Type 0 where

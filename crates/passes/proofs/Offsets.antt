@@ -15,7 +15,8 @@ use borrow.Author.Tests.{le-leb, lt-leb, lt-ltb, le-ltb, ltb-true}
 use Rattle.num.specs.F32.{_⊕_, _⊗_}
 use Rattle.num.specs.Rewrite.{Rewritten, rewrite, every, fill, length-rewrite, rewrite-ext, rewrite-same, rewrite-stop, getD-rewrite, getD-fill, mid, part}
 use Rattle.passes.specs.declared.blur.Four.{Four}
-use Rattle.passes.specs.Blur.{at, cell, weight, distance, fourWeights, inside, taken, step, total, onward, weights, weighted, ratio, blurBy, blurAt, Begins}
+use Rattle.passes.specs.Blur.{at, cell, weight, distance, inside, taken, step, total, weights, weighted, ratio, blurBy, blurAt, Begins}
+use Rattle.passes.specs.Private.{fourWeights, onward}
 
 lt-or-le : (a b : ℕ) → (a < b) ⊎ (b ≤ a)
 lt-or-le a zero = inr zero-le

@@ -9,7 +9,6 @@ use lib.ListN.{length, getD}
 use lib.Ieee.{Float, nan, lt}
 use Rattle.num.specs.Const.{c0·0, c1·0}
 use Rattle.num.specs.F32.{_⊕_, _⊖_, _⊗_, _⊘_, whole}
-use Rattle.passes.specs.declared.blur.Four.{Four}
 
 -- how far offset k is from the centre
 abbrev pub distance : ℕ → ℕ → ℕ
@@ -17,15 +16,6 @@ distance radius k = (radius - k) + (k - radius)
 
 unfoldable pub weight : ℕ → ℕ → Float
 weight radius d = c1·0 ⊖ whole d ⊘ (whole radius ⊕ c1·0)
-
--- the weights of the offsets k to k + 3
-abbrev pub fourWeights : ℕ → ℕ → Four
-fourWeights radius k = record {
-  a = weight radius (distance radius k);
-  b = weight radius (distance radius (k + 1));
-  c = weight radius (distance radius (k + 2));
-  d = weight radius (distance radius (k + 3));
-}
 
 -- whether offset k of x is one of the n samples
 abbrev pub inside : ℕ → ℕ → ℕ → ℕ → Bool
@@ -44,11 +34,6 @@ step term n radius x k sum = taken (inside n radius x k) sum (term (x + k - radi
 unfoldable pub total : (ℕ → Float → Float) → ℕ → ℕ → ℕ → ℕ → Float
 total term n radius x zero = c0·0
 total term n radius x (suc k) = step term n radius x k (total term n radius x k)
-
--- m offsets of x more, from offset k on
-unfoldable pub onward : (ℕ → Float → Float) → ℕ → ℕ → ℕ → ℕ → ℕ → Float → Float
-onward term n radius x k zero sum = sum
-onward term n radius x k (suc m) sum = step term n radius x (k + m) (onward term n radius x k m sum)
 
 -- over all offsets: the sum of the weighted samples, and that of the weights
 abbrev pub weighted : (ℕ → Float) → ℕ → ℕ → ℕ → Float

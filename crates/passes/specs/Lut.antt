@@ -1,5 +1,5 @@
 -- LUT: the preset number decides among seven colour treatments, blended with the original. Channels run from 0 to 1. Assumes nothing.
-use Prim.Native.Nat.{ℕ, zero, suc, _+_, _*_, _/_, _%_}
+use Prim.Native.Nat.{ℕ, zero, suc}
 use mathlib.Core.List.{List}
 use lib.Ieee.{Float}
 use Rattle.num.specs.Steps.{roundOf}
@@ -53,7 +53,3 @@ pixel preset strength p =
 
 unfoldable pub lut : ℕ → Float → List ℕ → List ℕ
 lut preset strength frame = every (λ i. pixel preset strength) frame
-
--- each channel of a word from the word that a table has for the channel's value
-unfoldable pub picked : (ℕ → ℕ) → ℕ → ℕ
-picked table p = table (p / 65536 % 256) / 65536 % 256 * 65536 + table (p / 256 % 256) / 256 % 256 * 256 + table (p % 256) % 256

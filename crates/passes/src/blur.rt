@@ -1,5 +1,5 @@
 // The centre-weighted blur of NTSC and bloom. A line of accumulators takes the offsets one after the other, so that each place
-// sums its own samples in ascending order.
+// sums its own samples in ascending order. Where it can it takes four offsets at a time: the sums are then read and written once.
 ghost use mathlib.Core.Path.{_≡_};
 ghost use Prim.Native.Nat.{_+_, _-_, _*_, _≤_, _<_};
 ghost use lib.ListN.{length, take, drop};
@@ -8,6 +8,7 @@ ghost use Rattle.num.specs.F32.{_⊕_, _⊗_};
 ghost use Rattle.num.specs.Rewrite.{rewrite, every, fill};
 ghost use Rattle.passes.specs.Blur as Blur;
 ghost use Rattle.passes.specs.Blur.{at, cell};
+ghost use Rattle.passes.specs.Private.{fourWeights, onward};
 
 // 1 - distance / (radius + 1)
 fn weight(radius: usize, distance: usize) -> f32
@@ -52,7 +53,20 @@ struct Four {
     d: f32,
 }
 
-// Adds a[i] * w.a, then b[i] * w.b, then c[i] * w.c, then d[i] * w.d at each i: for four samples the sums are read and written once.
+// Those of the offsets k to k + 3.
+fn four_weights(radius: usize, k: usize) -> Four
+    requires { ⌜ (radius ≤ 64) × (k + 3 ≤ 2 * radius) ⌝ }
+    ensures { λ r. ⌜ r ≡ fourWeights radius k ⌝ }
+{
+    Four {
+        a: offset_weight(radius, k),
+        b: offset_weight(radius, k + 1),
+        c: offset_weight(radius, k + 2),
+        d: offset_weight(radius, k + 3),
+    }
+}
+
+// Adds a[i] * w.a, then b[i] * w.b, then c[i] * w.c, then d[i] * w.d at each i.
 fn add_four(acc: &mut [f32], a: &[f32], b: &[f32], c: &[f32], d: &[f32], w: Four)
     requires { ⌜ (length (now acc) ≡ length (now a)) × (length (now acc) ≡ length (now b)) × (length (now acc) ≡ length (now c)) × (length (now acc) ≡ length (now d)) ⌝ }
     ensures { λ _. ⌜ now (acc .exit) ≡ every (λ i v. v ⊕ at (now (a .entry)) i ⊗ w .a ⊕ at (now (b .entry)) i ⊗ w .b ⊕ at (now (c .entry)) i ⊗ w .c ⊕ at (now (d .entry)) i ⊗ w .d) (now (acc .entry)) ⌝ }
@@ -61,19 +75,6 @@ fn add_four(acc: &mut [f32], a: &[f32], b: &[f32], c: &[f32], d: &[f32], w: Four
     while i < acc.len() {
         acc[i] = acc[i] + a[i] * w.a + b[i] * w.b + c[i] * w.c + d[i] * w.d;
         i += 1;
-    }
-}
-
-// Those of the offsets k to k + 3.
-fn four_weights(radius: usize, k: usize) -> Four
-    requires { ⌜ (radius ≤ 64) × (k + 3 ≤ 2 * radius) ⌝ }
-    ensures { λ r. ⌜ r ≡ Blur.fourWeights radius k ⌝ }
-{
-    Four {
-        a: offset_weight(radius, k),
-        b: offset_weight(radius, k + 1),
-        c: offset_weight(radius, k + 2),
-        d: offset_weight(radius, k + 3),
     }
 }
 
@@ -111,8 +112,8 @@ fn add_sample(sum: f32, src: &[f32], radius: usize, x: usize, k: usize, w: f32) 
 
 // The samples at the offsets k to k + 3 of place x, added where they are inside; w has their weights.
 fn add_samples(sum: f32, src: &[f32], radius: usize, x: usize, k: usize, w: Four) -> f32
-    requires { ⌜ (radius ≤ 64) × (k + 3 ≤ 2 * radius) × (x < length (now src)) × (w ≡ Blur.fourWeights radius k) ⌝ }
-    ensures { λ r. ⌜ r ≡ Blur.onward (λ i w. at (now (src .entry)) i ⊗ w) (length (now (src .entry))) radius x k 4 sum ⌝ }
+    requires { ⌜ (radius ≤ 64) × (k + 3 ≤ 2 * radius) × (x < length (now src)) × (w ≡ fourWeights radius k) ⌝ }
+    ensures { λ r. ⌜ r ≡ onward (λ i w. at (now (src .entry)) i ⊗ w) (length (now (src .entry))) radius x k 4 sum ⌝ }
 {
     let one = add_sample(sum, src, radius, x, k, w.a);
     let two = add_sample(one, src, radius, x, k + 1, w.b);
@@ -122,8 +123,8 @@ fn add_samples(sum: f32, src: &[f32], radius: usize, x: usize, k: usize, w: Four
 
 // The same at each place of a part of the line, which begins at place `start`.
 fn add_edge(part: &mut [f32], src: &[f32], radius: usize, start: usize, k: usize, w: Four)
-    requires { ⌜ (radius ≤ 64) × (k + 3 ≤ 2 * radius) × (start + length (now part) ≤ length (now src)) × (w ≡ Blur.fourWeights radius k) ⌝ }
-    ensures { λ _. ⌜ now (part .exit) ≡ every (λ i. Blur.onward (λ j w. at (now (src .entry)) j ⊗ w) (length (now (src .entry))) radius (start + i) k 4) (now (part .entry)) ⌝ }
+    requires { ⌜ (radius ≤ 64) × (k + 3 ≤ 2 * radius) × (start + length (now part) ≤ length (now src)) × (w ≡ fourWeights radius k) ⌝ }
+    ensures { λ _. ⌜ now (part .exit) ≡ every (λ i. onward (λ j w. at (now (src .entry)) j ⊗ w) (length (now (src .entry))) radius (start + i) k 4) (now (part .entry)) ⌝ }
 {
     let mut i = 0usize;
     while i < part.len() {
@@ -134,8 +135,8 @@ fn add_edge(part: &mut [f32], src: &[f32], radius: usize, start: usize, k: usize
 
 // The same where all four are inside at each place.
 fn add_middle(part: &mut [f32], src: &[f32], radius: usize, start: usize, k: usize, w: Four)
-    requires { ⌜ (radius ≤ 64) × (k + 3 ≤ 2 * radius) × (radius ≤ start + k) × (start + length (now part) + k + 3 ≤ length (now src) + radius) × (w ≡ Blur.fourWeights radius k) ⌝ }
-    ensures { λ _. ⌜ now (part .exit) ≡ every (λ i. Blur.onward (λ j w. at (now (src .entry)) j ⊗ w) (length (now (src .entry))) radius (start + i) k 4) (now (part .entry)) ⌝ }
+    requires { ⌜ (radius ≤ 64) × (k + 3 ≤ 2 * radius) × (radius ≤ start + k) × (start + length (now part) + k + 3 ≤ length (now src) + radius) × (w ≡ fourWeights radius k) ⌝ }
+    ensures { λ _. ⌜ now (part .exit) ≡ every (λ i. onward (λ j w. at (now (src .entry)) j ⊗ w) (length (now (src .entry))) radius (start + i) k 4) (now (part .entry)) ⌝ }
 {
     let from = start + k - radius;
     let end = from + part.len();
@@ -152,8 +153,8 @@ fn add_middle(part: &mut [f32], src: &[f32], radius: usize, start: usize, k: usi
 // The same at the places of a line before the right edge. At most three places have some of the four inside and some outside to
 // their left, and those before them have none inside.
 fn add_to_edge(acc: &mut [f32], src: &[f32], radius: usize, k: usize, w: Four)
-    requires { ⌜ (length (now acc) ≡ length (now src)) × (radius ≤ 64) × (k + 3 ≤ 2 * radius) × ((radius - k) + (k + 3 - radius) < length (now src)) × (w ≡ Blur.fourWeights radius k) ⌝ }
-    ensures { λ _. ⌜ now (acc .exit) ≡ rewrite (length (now (src .entry)) - (k + 3 - radius)) (λ x. Blur.onward (λ i w. at (now (src .entry)) i ⊗ w) (length (now (src .entry))) radius x k 4) (now (acc .entry)) ⌝ }
+    requires { ⌜ (length (now acc) ≡ length (now src)) × (radius ≤ 64) × (k + 3 ≤ 2 * radius) × ((radius - k) + (k + 3 - radius) < length (now src)) × (w ≡ fourWeights radius k) ⌝ }
+    ensures { λ _. ⌜ now (acc .exit) ≡ rewrite (length (now (src .entry)) - (k + 3 - radius)) (λ x. onward (λ i w. at (now (src .entry)) i ⊗ w) (length (now (src .entry))) radius x k 4) (now (acc .entry)) ⌝ }
 {
     let first = monus(radius, k + 3);
     let to = monus(radius, k);
@@ -165,7 +166,7 @@ fn add_to_edge(acc: &mut [f32], src: &[f32], radius: usize, k: usize, w: Four)
 // The same at each place, where there are places at which all four are inside. The right edge is like the left one.
 fn add_four_offsets(acc: &mut [f32], src: &[f32], radius: usize, k: usize)
     requires { ⌜ (length (now acc) ≡ length (now src)) × (radius ≤ 64) × (k + 3 ≤ 2 * radius) × ((radius - k) + (k + 3 - radius) < length (now src)) ⌝ }
-    ensures { λ _. ⌜ now (acc .exit) ≡ every (λ x. Blur.onward (λ i w. at (now (src .entry)) i ⊗ w) (length (now (src .entry))) radius x k 4) (now (acc .entry)) ⌝ }
+    ensures { λ _. ⌜ now (acc .exit) ≡ every (λ x. onward (λ i w. at (now (src .entry)) i ⊗ w) (length (now (src .entry))) radius x k 4) (now (acc .entry)) ⌝ }
 {
     let w = four_weights(radius, k);
     add_to_edge(acc, src, radius, k, w);
@@ -177,7 +178,7 @@ fn add_four_offsets(acc: &mut [f32], src: &[f32], radius: usize, k: usize)
 // Adds samples from offset k on: at four offsets if there are places at which all are inside, else at one. Answers at how many.
 fn add_offsets(acc: &mut [f32], src: &[f32], radius: usize, k: usize) -> usize
     requires { ⌜ (length (now acc) ≡ length (now src)) × (radius ≤ 64) × (k ≤ 2 * radius) ⌝ }
-    ensures { λ r. ⌜ (0 < r) × (k + r ≤ 2 * radius + 1) × (now (acc .exit) ≡ every (λ x. Blur.onward (λ i w. at (now (src .entry)) i ⊗ w) (length (now (src .entry))) radius x k r) (now (acc .entry))) ⌝ }
+    ensures { λ r. ⌜ (0 < r) × (k + r ≤ 2 * radius + 1) × (now (acc .exit) ≡ every (λ x. onward (λ i w. at (now (src .entry)) i ⊗ w) (length (now (src .entry))) radius x k r) (now (acc .entry))) ⌝ }
 {
     let outside = monus(radius, k) + monus(k + 3, radius);
     if k + 3 <= 2 * radius {
@@ -296,7 +297,7 @@ fn add_row(acc: &mut [f32], plane: &[f32], height: usize, radius: usize, y: usiz
 // Adds the rows at the offsets k to k + 3 of row y, which are inside.
 fn add_four_rows(acc: &mut [f32], plane: &[f32], height: usize, radius: usize, y: usize, k: usize)
     requires { ⌜ (radius ≤ 64) × (k + 3 ≤ 2 * radius) × (radius ≤ y + k) × (y + k + 3 < height + radius) × (height ≤ 1024) × (length (now plane) ≡ height * length (now acc)) ⌝ }
-    ensures { λ _. ⌜ now (acc .exit) ≡ every (λ x. Blur.onward (λ i w. cell (now (plane .entry)) (length (now (acc .entry))) x i ⊗ w) height radius y k 4) (now (acc .entry)) ⌝ }
+    ensures { λ _. ⌜ now (acc .exit) ≡ every (λ x. onward (λ i w. cell (now (plane .entry)) (length (now (acc .entry))) x i ⊗ w) height radius y k 4) (now (acc .entry)) ⌝ }
 {
     let i = y + k - radius;
     let n = acc.len();
@@ -320,7 +321,7 @@ fn add_rows(
     k: usize,
 ) -> usize
     requires { ⌜ (radius ≤ 64) × (k ≤ 2 * radius) × (y < height) × (height ≤ 1024) × (length (now plane) ≡ height * length (now acc)) ⌝ }
-    ensures { λ r. ⌜ (0 < r) × (k + r ≤ 2 * radius + 1) × (now (acc .exit) ≡ every (λ x. Blur.onward (λ i w. cell (now (plane .entry)) (length (now (acc .entry))) x i ⊗ w) height radius y k r) (now (acc .entry))) ⌝ }
+    ensures { λ r. ⌜ (0 < r) × (k + r ≤ 2 * radius + 1) × (now (acc .exit) ≡ every (λ x. onward (λ i w. cell (now (plane .entry)) (length (now (acc .entry))) x i ⊗ w) height radius y k r) (now (acc .entry))) ⌝ }
 {
     if k + 3 <= 2 * radius && radius <= y + k && y + k + 3 < height + radius {
         add_four_rows(acc, plane, height, radius, y, k);

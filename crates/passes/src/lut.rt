@@ -4,6 +4,7 @@ ghost use Prim.Native.Nat.{_*_, _≤_};
 ghost use lib.ListN.{length, getD};
 ghost use Rattle.num.specs.Rewrite.{every, fill};
 ghost use Rattle.passes.specs.Lut as Lut;
+ghost use Rattle.passes.specs.Private.{picked};
 use crate::pixel;
 use crate::pixel::Rgb;
 
@@ -81,7 +82,7 @@ fn greys(table: &mut [u32], preset: u8, strength: f32)
 // Each channel from the table's word for its value.
 fn picked(table: &[u32], p: u32) -> u32
     requires { ⌜ 256 ≡ length (now table) ⌝ }
-    ensures { λ r. ⌜ r ≡ Lut.picked (λ k. getD (now (table .entry)) k 0) p ⌝ }
+    ensures { λ r. ⌜ r ≡ picked (λ k. getD (now (table .entry)) k 0) p ⌝ }
 {
     table[(p / 65536 % 256) as usize] / 65536 % 256 * 65536
         + table[(p / 256 % 256) as usize] / 256 % 256 * 256
@@ -90,7 +91,7 @@ fn picked(table: &[u32], p: u32) -> u32
 
 fn by_greys(frame: &mut [u32], table: &[u32])
     requires { ⌜ 256 ≡ length (now table) ⌝ }
-    ensures { λ _. ⌜ now (frame .exit) ≡ every (λ i. Lut.picked (λ k. getD (now (table .entry)) k 0)) (now (frame .entry)) ⌝ }
+    ensures { λ _. ⌜ now (frame .exit) ≡ every (λ i. picked (λ k. getD (now (table .entry)) k 0)) (now (frame .entry)) ⌝ }
 {
     let mut i = 0;
     while i < frame.len() {

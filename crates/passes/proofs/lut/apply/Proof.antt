@@ -7,7 +7,8 @@ use borrow.Author.Needs.{needs}
 use lib.ListN.{length, getD}
 use lib.Ieee.{Float}
 use Rattle.num.specs.Rewrite.{every, fill, rewrite-ext, length-rewrite, getD-fill}
-use Rattle.passes.specs.Lut.{lut, pixel, picked}
+use Rattle.passes.specs.Lut.{lut, pixel}
+use Rattle.passes.specs.Private.{picked}
 use Rattle.passes.proofs.Greys.{Alone, alone, picked-is}
 use Rattle.passes.proofs.lut.apply.Statement.{statement}
 use Rattle.passes.proofs.lut.apply.Tie as tie

@@ -2,7 +2,7 @@
 use mathlib.Core.Path.{refl}
 use native.Mathlib.Omega.{arith}
 use borrow.Author.Needs.{needs}
-use Rattle.passes.specs.Lut.{picked}
+use Rattle.passes.specs.Private.{picked}
 use Rattle.passes.proofs.lut.picked.Statement.{statement}
 use Rattle.passes.proofs.lut.picked.Tie as tie
 
