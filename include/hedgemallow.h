@@ -26,10 +26,19 @@
  *
  * The caller promises, as always in C: a pointer is aligned and not null, as many elements as
  * its length says are there (80 bytes for a state), no two arguments of a call overlap, and no
- * other thread writes them during it. The thread's control word for floats (MXCSR) rounds to nearest
- * and keeps subnormal numbers, as it does unless a program changes it. A call takes about 40 KiB of
- * stack. No function keeps a pointer, allocates, or has state of its own, so calls on different
- * buffers may run at the same time.
+ * other thread reads or writes what is written, or writes what is read, during the call.
+ *
+ * Floats. The thread's control word (MXCSR) must be as at the start of a program: rounding to
+ * nearest, subnormal numbers kept (flush-to-zero and denormals-are-zero off), all exceptions
+ * masked. gcc and clang change it at the start of a program that is linked with -ffast-math. No
+ * call reads or sets these bits. Under another rounding a picture may be another one; where
+ * subnormal numbers are flushed, a state with a subnormal setting may be refused by 13 as well.
+ *
+ * Stack. A call takes about 40 KiB, whatever the size of the frame. A thread that is made with a
+ * small stack should have 64 KiB left for it.
+ *
+ * No function keeps a pointer, allocates, or has state of its own, so calls on different buffers
+ * may run at the same time.
  */
 #ifndef HEDGEMALLOW_H
 #define HEDGEMALLOW_H

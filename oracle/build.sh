@@ -1,28 +1,45 @@
 # Sourced by compare, bench, counts, record and fuzz, from the repository's root: how the comparison program is built.
 
-# Sets `original` to the folder of the original program, or to nothing where it is not there. A relative HEDGEMALLOW_ORIGINAL is
-# meant from the folder $1, where the caller stands.
-find_original() {
-    original=${HEDGEMALLOW_ORIGINAL:-}
+# Ends the script where a tool is missing that it cannot do without.
+need() {
+    for tool in "$@"; do
+        command -v "$tool" >/dev/null && continue
+        echo "Error: $tool is not installed." >&2
+        exit 1
+    done
+}
+
+# Sets `original` to the folder of the original program, and fails where it is not there. A relative HEDGEMALLOW_ORIGINAL is meant
+# from the folder $1, where the caller stands.
+locate_original() {
+    original=${HEDGEMALLOW_ORIGINAL:-$PWD/../shared/docs/src}
     case $original in
-    '') original=$PWD/../shared/docs/src ;;
     /*) ;;
     *) original=$1/$original ;;
     esac
-    [ -f "$original/src/postprocess/pipeline.rs" ] && return
+    [ -f "$original/src/postprocess/pipeline.rs" ]
+}
 
-    if [ "${CI:-}" = true ]; then
-        cat >&2 <<END
-Error: the original program is missing, and with CI=true the comparison with it must run.
-There is no file $original/src/postprocess/pipeline.rs.
+# The same, and ends the script where it is not there.
+need_original() {
+    locate_original "$1" && return
+    cat >&2 <<END
+Error: the original program is missing: there is no file $original/src/postprocess/pipeline.rs.
 Set HEDGEMALLOW_ORIGINAL to a checkout of rust-nes-emu, the folder that holds src/postprocess.
 END
-        exit 1
+    exit 1
+}
+
+# The same for what goes on without it: `original` is then empty. With CI=true it has to be there.
+find_original() {
+    locate_original "$1" && return
+    if [ "${CI:-}" = true ]; then
+        echo "With CI=true the part against the original program is not skipped." >&2
+        need_original "$1"
     fi
     cat <<END
 Skipped: the part against the original program, since there is no $original/src/postprocess/pipeline.rs.
 To run it, set HEDGEMALLOW_ORIGINAL to a checkout of rust-nes-emu, the folder that holds src/postprocess.
-The number steps, the cards and the recorded inputs of program \`station\` are taken without it.
 END
     original=
 }
@@ -49,9 +66,15 @@ build_station() {
     fi
 }
 
+# Compiles the comparison program with the two libraries. The arguments say what of it, and where to.
+compile() {
+    rustc -O --edition 2021 --check-cfg 'cfg(with_original, fuzz, test)' -L native=target/staticlib "$@" oracle/src/main.rs
+}
+
 # Proves the libraries `probe` and `bridge`, writes them for Rust to link, and compiles the program with them and with the original, if
 # there is one.
 build() {
+    need rt
     mkdir -p target/oracle || return 1
     for library in probe bridge; do
         if ! rt staticlib "$library" >target/oracle/staticlib.log 2>&1; then
@@ -63,6 +86,5 @@ build() {
     if [ -n "$original" ]; then
         modules >target/oracle/original.rs || return 1
     fi
-    rustc -O --edition 2021 --check-cfg 'cfg(with_original, fuzz, test)' ${original:+--cfg with_original} \
-        -L native=target/staticlib -o target/oracle/compare oracle/src/main.rs
+    compile ${original:+--cfg with_original} -o target/oracle/compare
 }

@@ -1,10 +1,10 @@
 //! The comparison of the number steps with Rust's own, of cards with a reading of document 01, of the
 //! passes with the original's, of program `station` with recorded answers and with a model of document
 //! 01 over the original's pipeline, and of runs of calls with such a model. Beside it the measurement of both.
-//! Four scripts build and start it from the repository's root: `oracle/compare`, `oracle/bench`, `oracle/counts`
-//! and `oracle/record`. They set `with_original` where they find the original: without it there are no passes
-//! to compare, and no model. `oracle/fuzz` compiles it once more, with `fuzz` set, as a library that libFuzzer
-//! calls.
+//! Five scripts build and start it from the repository's root: `oracle/compare`, `oracle/bench`, `oracle/counts`,
+//! `oracle/record` and `oracle/fuzz`. They set `with_original` where they find the original: without it there are
+//! no passes to compare, and no model. `oracle/fuzz` compiles it once more, with `fuzz` set, as a library that
+//! libFuzzer calls.
 #![cfg_attr(any(fuzz, not(with_original)), allow(dead_code))]
 
 mod bench;
@@ -15,7 +15,8 @@ mod cards;
 mod constants;
 #[cfg(fuzz)]
 mod fuzz;
-#[cfg(with_original)]
+// Not in the fuzzer, which is guided by the branches of all that is compiled: those of its allocator would be among them.
+#[cfg(all(with_original, not(fuzz)))]
 mod measure;
 mod met;
 #[cfg(with_original)]
@@ -38,6 +39,7 @@ use std::process::ExitCode;
 use steps::Mode;
 use tally::Total;
 
+#[cfg(not(fuzz))]
 fn main() -> ExitCode {
     let words: Vec<String> = std::env::args().skip(1).collect();
     let words: Vec<&str> = words.iter().map(String::as_str).collect();
@@ -60,7 +62,10 @@ fn main() -> ExitCode {
         ["quick", original] => compare(Mode::Quick, Some(Path::new(original))),
         ["full", original] => compare(Mode::Full, Some(Path::new(original))),
         _ => {
-            eprintln!("expected: bench, measure and what, record and a file, seeds and station or bridge and a folder, runs and quick or full, or quick or full and then the original's folder, if any");
+            eprintln!(
+                "expected: bench; measure and what; record and a file; seeds, station or bridge, and a folder; \
+                 runs and quick or full; quick or full and then the original's folder, if any"
+            );
             ExitCode::from(2)
         }
     }
@@ -119,6 +124,7 @@ fn told(written: std::io::Result<()>) -> ExitCode {
 }
 
 /// The time of the steps and of the passes.
+#[cfg(not(fuzz))]
 fn time() -> ExitCode {
     let steps = bench::run();
     #[cfg(with_original)]

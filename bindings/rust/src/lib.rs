@@ -1,5 +1,9 @@
 //! Safe calls of the library `bridge`, whose functions include/hedgemallow.h declares and describes.
 //! Nothing here panics, allocates or needs another crate.
+//!
+//! The types see to pointers, lengths and threads. Two things are left to the caller, as the header
+//! says: the thread's control word for floats (MXCSR) rounds to nearest, keeps subnormal numbers and
+//! masks all exceptions, as Rust itself takes for granted; and a call takes about 40 KiB of stack.
 
 use std::fmt;
 
@@ -112,7 +116,7 @@ pub struct Station {
 }
 
 // The calls below hand out pointers of references, so each is valid for its length, aligned, not
-// null, and no two overlap where one of them is written through: all that the exports ask for.
+// null, and no two overlap where one of them is written through: all that the exports ask of pointers.
 impl Station {
     /// The station of a card.
     pub fn open(card: &[u8]) -> Result<Station, Refusal> {

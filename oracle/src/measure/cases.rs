@@ -3,7 +3,7 @@
 use crate::cards::paper::{self, Record, Value};
 use crate::passes::chain;
 use crate::passes::settings;
-use crate::passes::table::{Pass, PASSES};
+use crate::passes::table::{of_kind, Pass, PASSES};
 
 /// A card, by the name and the setting that its lines bear.
 pub struct Case {
@@ -62,7 +62,7 @@ fn ten(setting: &str, limit: f64, choose: fn(&[Values]) -> Values) -> Case {
     Case {
         pass: CHAIN,
         setting: setting.to_string(),
-        records: (1..=10).map(|k| record(k, values(named(k)))).collect(),
+        records: (1..=10).map(|k| record(k, values(of_kind(k)))).collect(),
         limit,
     }
 }
@@ -70,11 +70,6 @@ fn ten(setting: &str, limit: f64, choose: fn(&[Values]) -> Values) -> Case {
 fn kind(pass: &Pass) -> u32 {
     let kind = (1..=10).find(|&kind| chain::name(kind) == pass.name);
     kind.expect("every pass has a kind")
-}
-
-fn named(kind: u32) -> &'static Pass {
-    let pass = PASSES.iter().find(|pass| pass.name == chain::name(kind));
-    pass.expect("every kind is in the table")
 }
 
 /// The record of a card, switched on. The table has no gamma: it can only be 1.

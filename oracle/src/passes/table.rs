@@ -1,6 +1,7 @@
 //! The passes under comparison, a row for each: its settings, how the original's effect is built
 //! from them, and how the pass here is called with them.
 
+use super::chain;
 use super::original::auto_gradient::AutoGradient;
 use super::original::bloom::Bloom;
 use super::original::color_correction::ColorCorrection;
@@ -245,6 +246,12 @@ pub static PASSES: &[Pass] = &[
         limit: |_| 1.0,
     },
 ];
+
+/// The row of document 01's kind.
+pub fn of_kind(kind: u32) -> &'static Pass {
+    let found = PASSES.iter().find(|pass| pass.name == chain::name(kind));
+    found.expect("every kind has a row")
+}
 
 /// What a blur may take: less where its sums are all that counts.
 fn blur_limit(radius: usize) -> f64 {

@@ -2,9 +2,9 @@
 
 use crate::cards::damage::{bytes, chain};
 use crate::cards::paper::{self, put, Field, Opened, Record, Value};
-use crate::passes::chain::{name, PERSISTENCE};
+use crate::passes::chain::PERSISTENCE;
 use crate::passes::settings::{self, Setting};
-use crate::passes::table::{Pass, PASSES};
+use crate::passes::table::of_kind;
 use crate::random::Random;
 
 /// A card of any chain. Persistence is in three of four.
@@ -41,18 +41,13 @@ fn head(n: usize) -> Vec<bool> {
     bits
 }
 
-fn pass(kind: u32) -> &'static Pass {
-    let found = PASSES.iter().find(|pass| pass.name == name(kind));
-    found.unwrap_or_else(|| panic!("kind {kind} has no row"))
-}
-
 /// A record that a card may hold. Some boundaries of the original's settings lie outside: then again.
 fn record(kind: u32, random: &mut Random) -> Vec<bool> {
     loop {
         let mut bits = Vec::new();
         put(&mut bits, kind, 4);
         put(&mut bits, u32::from(!random.one_in(4)), 1);
-        let setting = settings::random(pass(kind).fields, random);
+        let setting = settings::random(of_kind(kind).fields, random);
         for (place, field) in paper::fields(kind).unwrap_or_default().iter().enumerate() {
             raw(&setting, place, *field, &mut bits);
         }
@@ -117,7 +112,7 @@ pub fn cost(records: &[Record]) -> usize {
             Value::Float(x) => x,
         });
         let values: Vec<f32> = values.take(settings::FIELDS).collect();
-        (pass(record.kind).cost)(&settings::given(&values))
+        (of_kind(record.kind).cost)(&settings::given(&values))
     });
     // The words themselves, and what is lent beside them, are made and compared too.
     40 + costs.sum::<usize>()
