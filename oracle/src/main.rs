@@ -54,9 +54,13 @@ fn main() -> ExitCode {
         #[cfg(with_original)]
         ["seeds", "bridge", folder] => told(seeds::bridge(Path::new(folder))),
         #[cfg(with_original)]
-        ["runs", "quick"] => only_runs(Mode::Quick),
+        ["passes", "quick"] => only(passes::compare::run, Mode::Quick),
         #[cfg(with_original)]
-        ["runs", "full"] => only_runs(Mode::Full),
+        ["passes", "full"] => only(passes::compare::run, Mode::Full),
+        #[cfg(with_original)]
+        ["runs", "quick"] => only(runs::compare::run, Mode::Quick),
+        #[cfg(with_original)]
+        ["runs", "full"] => only(runs::compare::run, Mode::Full),
         ["quick"] => compare(Mode::Quick, None),
         ["full"] => compare(Mode::Full, None),
         ["quick", original] => compare(Mode::Quick, Some(Path::new(original))),
@@ -64,7 +68,7 @@ fn main() -> ExitCode {
         _ => {
             eprintln!(
                 "expected: bench; measure and what; record and a file; seeds, station or bridge, and a folder; \
-                 runs and quick or full; quick or full and then the original's folder, if any"
+                 passes or runs, and quick or full; quick or full and then the original's folder, if any"
             );
             ExitCode::from(2)
         }
@@ -94,11 +98,11 @@ fn compare(mode: Mode, original: Option<&Path>) -> ExitCode {
     verdict(&total)
 }
 
-/// The runs of calls by themselves.
+/// The passes, or the runs of calls, by themselves.
 #[cfg(with_original)]
-fn only_runs(mode: Mode) -> ExitCode {
+fn only(part: fn(Mode, &mut Total), mode: Mode) -> ExitCode {
     let mut total = Total::default();
-    runs::compare::run(mode, &mut total);
+    part(mode, &mut total);
     verdict(&total)
 }
 
