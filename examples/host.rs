@@ -30,7 +30,7 @@ fn run() -> Result<(), Refusal> {
     let scratch = scratch_words(WIDTH, HEIGHT)?;
     let mut floats = vec![0.0; scratch.floats];
     let mut ints = vec![0; scratch.ints];
-    let mut history = vec![0; history_words(&station, WIDTH, HEIGHT)?];
+    let mut history = vec![0; history_words(&CARD, WIDTH, HEIGHT)?];
     let mut frame = vec![0; WIDTH * HEIGHT];
     let mut preset = 0;
     for number in 0..FRAMES {

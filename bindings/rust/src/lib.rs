@@ -189,6 +189,11 @@ impl Station {
     pub fn depth(&self) -> Result<usize, Refusal> {
         report(unsafe { exports::hedgemallow_depth(self.state.as_ptr()) }).map(|k| k as usize)
     }
+
+    /// How many words of history a frame of that size takes.
+    pub fn history_words(&self, width: usize, height: usize) -> Result<usize, Refusal> {
+        Ok(self.depth()? * count(width, height)?)
+    }
 }
 
 /// The words of a frame; a side of 0 or above 1024 is a bad size.
@@ -197,9 +202,9 @@ fn count(width: usize, height: usize) -> Result<usize, Refusal> {
     if side.contains(&width) && side.contains(&height) { Ok(width * height) } else { Err(BadSize) }
 }
 
-/// How many words of history a frame of that size takes.
-pub fn history_words(station: &Station, width: usize, height: usize) -> Result<usize, Refusal> {
-    Ok(station.depth()? * count(width, height)?)
+/// How many words of history a frame of that size takes, with this card.
+pub fn history_words(card: &[u8], width: usize, height: usize) -> Result<usize, Refusal> {
+    Station::open(card)?.history_words(width, height)
 }
 
 /// How many words of scratch a frame of that size takes.
@@ -255,10 +260,13 @@ mod tests {
     #[test]
     fn sizes_are_refused_and_never_overflow() {
         let station = opened();
-        assert_eq!(history_words(&station, 1024, 1024), Ok(3 << 20));
+        assert_eq!(station.history_words(1024, 1024), Ok(3 << 20));
+        assert_eq!(history_words(&CARD, 1024, 1024), Ok(3 << 20));
+        assert_eq!(history_words(&CARD[..16], 1024, 1024), Err(TornCard));
         assert_eq!(scratch_words(1024, 1), Ok(Scratch { floats: 6144, ints: 1024 }));
         for (width, height) in [(0, 1), (1, 0), (1025, 1), (1, 1025), (usize::MAX, usize::MAX)] {
-            assert_eq!(history_words(&station, width, height), Err(BadSize));
+            assert_eq!(station.history_words(width, height), Err(BadSize));
+            assert_eq!(history_words(&CARD, width, height), Err(BadSize));
             assert_eq!(scratch_words(width, height), Err(BadSize));
             assert_eq!(opened().apply(&mut [], width, height, &mut [], &mut [], &mut []), Err(BadSize));
         }
