@@ -3,4 +3,4 @@
 // a `requires`. Nothing here is assumed.
 pub mod root; // the square root
 pub mod steps; // clamp, min, max, limit, abs
-pub mod whole; // cut, round, nearest
+pub mod whole; // cut, cut_limited, cut_unit, round, nearest

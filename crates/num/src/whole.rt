@@ -1,6 +1,6 @@
-// Whole numbers of an `f32`: cut, round, nearest. Definitions: specs/Steps.antt; those that only the private functions here
-// cite are in specs/Private.antt. None of them branches around another step or returns early, so that a loop over any of the
-// three becomes vector code.
+// Whole numbers of an `f32`: cut, also of a limited value, round, nearest. Definitions: specs/Steps.antt; those that only the
+// private functions here cite are in specs/Private.antt. None of them branches around another step or returns early, so that a
+// loop over any of the five becomes vector code.
 ghost use mathlib.Core.Path.{_≡_};
 ghost use mathlib.Core.Bool.{not, cond};
 ghost use Prim.Native.Nat.{_≤_};
