@@ -7,6 +7,8 @@ mod exports {
     #[link(name = "probe", kind = "static")]
     extern "C" {
         pub fn probe_cut(xs: *const f32, xs_len: usize, out: *mut u32, out_len: usize);
+        pub fn probe_cut_limited(xs: *const f32, xs_len: usize, out: *mut u32, out_len: usize);
+        pub fn probe_cut_unit(xs: *const f32, xs_len: usize, out: *mut u32, out_len: usize);
         pub fn probe_nearest(xs: *const f32, xs_len: usize, out: *mut u32, out_len: usize);
         pub fn probe_round(xs: *const f32, xs_len: usize, out: *mut f32, out_len: usize);
         pub fn probe_root(xs: *mut f32, xs_len: usize);
@@ -146,6 +148,14 @@ fn assert_lendable<T>(start: *const T, len: usize) {
 
 pub fn cut(xs: &[f32], out: &mut [u32]) {
     over(exports::probe_cut, xs, out);
+}
+
+pub fn cut_limited(xs: &[f32], out: &mut [u32]) {
+    over(exports::probe_cut_limited, xs, out);
+}
+
+pub fn cut_unit(xs: &[f32], out: &mut [u32]) {
+    over(exports::probe_cut_unit, xs, out);
 }
 
 pub fn nearest(xs: &[f32], out: &mut [u32]) {

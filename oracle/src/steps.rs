@@ -38,6 +38,8 @@ pub fn run(mode: Mode, total: &mut Total) {
     single.pieces(&boundaries);
     single.join(sample(Sample { stride }, mode == Mode::Full));
     total.add(&single.cut);
+    total.add(&single.cut_limited);
+    total.add(&single.cut_unit);
     total.add(&single.round);
     total.add(&single.nearest);
     total.add(&single.root);
@@ -63,6 +65,16 @@ fn cut(x: f32) -> Asked<u32> {
 }
 
 const CUT: [&str; 1] = ["above 1023 (here 0, Rust the whole part)"];
+
+/// The whole part of x limited to 0..255.
+fn cut_limited(x: f32) -> Asked<u32> {
+    Asked::Rust(x.clamp(0.0, 255.0) as u32)
+}
+
+/// The whole part of x limited to 0..1, times 255.
+fn cut_unit(x: f32) -> Asked<u32> {
+    Asked::Rust((x.clamp(0.0, 1.0) * 255.0) as u32)
+}
 
 /// The whole number nearest to x, halves away from zero.
 fn round(x: f32) -> Asked<f32> {
@@ -129,6 +141,8 @@ const CHOSEN: [&str; 2] = [
 /// The counts of the steps of one operand, and room for their results.
 struct Single {
     cut: Tally<1>,
+    cut_limited: Tally<1>,
+    cut_unit: Tally<1>,
     round: Tally<1>,
     nearest: Tally<1>,
     root: Tally<1>,
@@ -141,6 +155,8 @@ impl Single {
     fn new() -> Self {
         Single {
             cut: Tally::new("cut", &CUT),
+            cut_limited: Tally::new("cut_limited", &[]),
+            cut_unit: Tally::new("cut_unit", &[]),
             round: Tally::new("round", &[]),
             nearest: Tally::new("nearest", &NEAREST),
             root: Tally::new("root", &ROOT),
@@ -157,6 +173,8 @@ impl Single {
         let words = &mut self.words[..];
         let floats = &mut self.floats[..];
         slice(&mut self.cut, xs, words, probe::cut, cut);
+        slice(&mut self.cut_limited, xs, words, probe::cut_limited, cut_limited);
+        slice(&mut self.cut_unit, xs, words, probe::cut_unit, cut_unit);
         slice(&mut self.nearest, xs, words, probe::nearest, nearest);
         slice(&mut self.round, xs, floats, probe::round, round);
         slice(&mut self.root, xs, floats, probe::root, root);
@@ -187,6 +205,8 @@ impl Single {
 
     fn join(&mut self, other: Single) {
         self.cut.join(other.cut);
+        self.cut_limited.join(other.cut_limited);
+        self.cut_unit.join(other.cut_unit);
         self.round.join(other.round);
         self.nearest.join(other.nearest);
         self.root.join(other.root);

@@ -5,6 +5,8 @@ mod pass;
 
 ghost use mathlib.Core.Path.{_≡_};
 ghost use Prim.Native.Nat.{min};
+ghost use Rattle.num.specs.Const.{c0·0, c1·0, c255·0};
+ghost use Rattle.num.specs.F32.{_⊗_};
 ghost use Rattle.num.specs.Steps.{clampOf, minOf, maxOf, limitOf, absOf, cutOf, roundOf};
 ghost use Rattle.num.specs.Root.{rootOf};
 ghost use Rattle.num.specs.Rewrite.{every};
@@ -26,6 +28,30 @@ pub extern "C" fn probe_cut(xs: &[f32], out: &mut [u32])
     let mut i = 0;
     while i < n {
         out[i] = num::whole::cut(xs[i]);
+        i += 1;
+    }
+}
+
+#[no_mangle]
+pub extern "C" fn probe_cut_limited(xs: &[f32], out: &mut [u32])
+    ensures { λ _. ⌜ now (out .exit) ≡ over (λ x. cutOf (clampOf x c0·0 c255·0)) (now (xs .entry)) (now (out .entry)) ⌝ }
+{
+    let n = shorter(xs.len(), out.len());
+    let mut i = 0;
+    while i < n {
+        out[i] = num::whole::cut_limited(xs[i]);
+        i += 1;
+    }
+}
+
+#[no_mangle]
+pub extern "C" fn probe_cut_unit(xs: &[f32], out: &mut [u32])
+    ensures { λ _. ⌜ now (out .exit) ≡ over (λ x. cutOf (clampOf x c0·0 c1·0 ⊗ c255·0)) (now (xs .entry)) (now (out .entry)) ⌝ }
+{
+    let n = shorter(xs.len(), out.len());
+    let mut i = 0;
+    while i < n {
+        out[i] = num::whole::cut_unit(xs[i]);
         i += 1;
     }
 }
