@@ -5,12 +5,12 @@ use std::process::ExitCode;
 use std::time::Duration;
 
 use super::cases::{self, Case};
-use super::stand::{picture, Size};
+use super::stand::{picture, Size, CONSOLE};
 use super::time::{measured, Patience, Times};
 use crate::race::timed;
 
-/// Those of the console, of the same three times as large, and the largest.
-const SIZES: [Size; 3] = [(256, 240), (768, 720), (1024, 1024)];
+/// That of the console, of the same three times as large, and the largest.
+const SIZES: [Size; 3] = [CONSOLE, (768, 720), (1024, 1024)];
 
 /// The median of an odd number of rounds.
 const PATIENCE: Patience = Patience {
@@ -74,7 +74,7 @@ fn within_limit(case: &Case, size: Size) -> bool {
     let what = format!("pass={pass} size={width}x{height} setting={setting}");
     let [original_fps, fps] = times.frames_a_second();
     println!("bench {what} {times} fps={fps:.1} original_fps={original_fps:.1}");
-    if case.is_dearest() && size == SIZES[0] {
+    if case.is_dearest() && size == CONSOLE {
         budget(&times);
     }
     let (ratio, limit) = (times.ratio(), case.limit);

@@ -3,13 +3,11 @@
 use std::process::ExitCode;
 
 use super::cases;
-use super::stand::{picture, Side, Size, Stand};
-
-const SIZE: Size = (256, 240);
+use super::stand::{picture, Side, Stand, CONSOLE};
 
 /// Prints the words that `once` takes: a line for each case.
 pub fn list() -> ExitCode {
-    println!("{}", SIZE.0 * SIZE.1);
+    println!("{}", CONSOLE.0 * CONSOLE.1);
     for case in cases::all() {
         println!("{} {}", case.pass, case.setting);
     }
@@ -23,8 +21,8 @@ pub fn once(side: Side, pass: &str, setting: &str) -> ExitCode {
         eprintln!("no case has pass {pass} and setting {setting}");
         return ExitCode::from(2);
     };
-    let mut stand = Stand::new(&case, SIZE);
-    let given = picture(SIZE);
+    let mut stand = Stand::new(&case, CONSOLE);
+    let given = picture(CONSOLE);
     stand.frame(side, &mut given.clone());
     hedgemallow_counted(&mut stand, side, &mut given.clone());
     ExitCode::SUCCESS

@@ -3,14 +3,14 @@
 use std::time::Duration;
 
 use super::cases::{self, Case};
-use super::stand::Size;
+use super::stand::{Size, CONSOLE};
 use super::time::{measured, Patience};
 use crate::passes::table::{Pass, PASSES};
 
 const RADII: [f32; 7] = [1.0, 2.0, 4.0, 8.0, 16.0, 32.0, 64.0];
 
 /// Each with four times the pixels of the one before.
-const SIZES: [Size; 5] = [(64, 60), (128, 120), (256, 240), (512, 480), (1024, 960)];
+const SIZES: [Size; 5] = [(64, 60), (128, 120), CONSOLE, (512, 480), (1024, 960)];
 
 /// Fewer rounds than the lines that are held to a limit.
 const PATIENCE: Patience = Patience {
@@ -24,7 +24,7 @@ pub fn run() {
     for pass in PASSES.iter().filter(|pass| blurs(pass)) {
         for radius in RADII {
             let case = cases::alone(pass, &with_radius(pass, radius));
-            line(&case, (256, 240), &format!("radius={radius}"));
+            line(&case, CONSOLE, &format!("radius={radius}"));
         }
     }
     let passes = PASSES

@@ -4,10 +4,8 @@ use std::io::{self, Write};
 use std::process::ExitCode;
 
 use super::cases::{self, Case};
-use super::stand::{card, picture, Side, Size, Stand};
+use super::stand::{card, picture, Side, Size, Stand, CONSOLE};
 use super::{heap, stack};
-
-const SIZE: Size = (256, 240);
 
 /// The chains once more: whether the stack grows with the size.
 const LARGEST: Size = (1024, 1024);
@@ -21,7 +19,7 @@ pub fn run() -> ExitCode {
     println!("the lent ints; per_pixel: the same by the pixels. stack_bytes: down to the deepest byte written. Of the original's heap:");
     println!("all that a frame allocates, the most of it at one time, and what the effects keep between frames.");
     for case in cases::all() {
-        line(&case, SIZE);
+        line(&case, CONSOLE);
     }
     for case in cases::chains() {
         line(&case, LARGEST);

@@ -19,6 +19,9 @@ pub const SIDES: [Side; 2] = [Side::Original, Side::Ours];
 
 pub type Size = (usize, usize);
 
+/// The console's.
+pub const CONSOLE: Size = (256, 240);
+
 pub struct Stand {
     size: Size,
     pipeline: PostProcessPipeline,
