@@ -4,9 +4,10 @@
 use super::calls::{Call, Frame};
 use super::cases::Case;
 use super::noise::Noise;
+use super::run::open_both;
 use super::sides::{Held, Sides};
 use super::station::{Lengths, Station};
-use crate::bridge::{self, State};
+use crate::bridge::State;
 use crate::fuzz;
 use crate::met::Met;
 use crate::passes::frames::{Picture, KINDS};
@@ -119,27 +120,12 @@ fn play(input: &[u8], met: &mut Met<Case>) -> Held {
 /// The state that the bytes begin with, or that of their card; none where the card is refused.
 fn begin(tape: &mut Tape, random: &mut Random, met: &mut Met<Case>) -> Held<Option<State>> {
     let length = tape.byte();
-    let mut state = [(); 80].map(|()| random.word() as u8);
     if length >= STATE {
+        let mut state = [0; 80];
         state.copy_from_slice(&tape.bytes(80));
         return Ok(Some(state));
     }
-    let card = tape.bytes(length.into());
-    let before = state;
-    let answer = bridge::open(&card, &mut state);
-    let asked = match Station::open(&card) {
-        Ok(station) => (Ok(0), station.state()),
-        Err(number) => {
-            met.note(Case::Open(number));
-            (Err(number), before)
-        }
-    };
-    if (answer, state) != asked {
-        return Err(format!(
-            "opening {card:02x?}: here {answer:?} and {state:02x?}"
-        ));
-    }
-    Ok(answer.is_ok().then_some(state))
+    open_both(&tape.bytes(length.into()), random, met)
 }
 
 /// The state with some bits of one byte changed.

@@ -194,13 +194,19 @@ fn noise_state(random: &mut Random) -> State {
     [(); 80].map(|()| random.word() as u8)
 }
 
-/// Opens a card that is damaged in most cases: its number, and a state that stays as it was.
+/// Opens a card that is damaged in most cases.
 fn open_damaged(random: &mut Random, met: &mut Met<Case>) -> Held {
     let card = damage::card(random);
+    open_both(&card, random, met).map(drop)
+}
+
+/// The state of a card as both sides open it; none where both refuse it by the same number, and leave
+/// the state as it was.
+pub fn open_both(card: &[u8], random: &mut Random, met: &mut Met<Case>) -> Held<Option<State>> {
     let before = noise_state(random);
     let mut state = before;
-    let answer = bridge::open(&card, &mut state);
-    let asked = match Station::open(&card) {
+    let answer = bridge::open(card, &mut state);
+    let asked = match Station::open(card) {
         Ok(station) => (Ok(0), station.state()),
         Err(number) => {
             met.note(Case::Open(number));
@@ -208,7 +214,7 @@ fn open_damaged(random: &mut Random, met: &mut Met<Case>) -> Held {
         }
     };
     if (answer, state) == asked {
-        return Ok(());
+        return Ok(answer.is_ok().then_some(state));
     }
     Err(format!(
         "opening {card:02x?}: here {answer:?} and {state:02x?}, by the model {asked:02x?}"
