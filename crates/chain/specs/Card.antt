@@ -1,4 +1,4 @@
--- The card: version, number of passes, records, padding. Opening it gives the station, or a refusal by its number. Assumes nothing.
+-- The card: version, number of passes, records, padding. Opening it gives the station, or a refusal by its number, and the place where reading stops. Assumes nothing.
 use Prim.Native.Nat.{ℕ, zero, suc, _+_, _-_, _*_, _/_}
 use mathlib.Core.Bool.{Bool, false, not, _&&_}
 use mathlib.Core.List.{List, [], _∷_, _++_}
@@ -69,7 +69,7 @@ abbrev pub placeOf : Step Station → ℕ
 placeOf (took s next) = next
 placeOf (refused k) = k .at
 
--- the bit place where reading stops: the first bit of the field that is refused, and the bit after the last field where the padding is (7) or where the card is accepted
+-- the bit place where reading stops: the first bit of the field that is refused; for 7, and for a card that is accepted, the bit after the last field
 unfoldable pub stoppedOf : List ℕ → ℕ
 stoppedOf card = placeOf (stationAt card 0)
 
