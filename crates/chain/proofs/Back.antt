@@ -14,7 +14,7 @@ use lib.Ieee.{Float, nan, inf, fin, binary32, fits, toBits, ofBits, lt, eq, up, 
 use lib.Ieee.Bits.{ofBits-toBits, toBits-lt}
 use lib.Ieee.Fits.{up-pos}
 use lib.Ieee.Scale.{finite}
-use Rattle.chain.specs.Step.{Step, took, Reader, andThen, _>>=_, _>>_, ret, refuseIf}
+use Rattle.chain.specs.Step.{Step, took, Reader, andThen, _>>=_, _>>_, ret, here, refuseIf}
 use Rattle.chain.specs.Bits.{fieldAt}
 use Rattle.chain.specs.Settings.{finiteAt, limitedAt, withinAt, gainAt, countAt, presetAt}
 use Rattle.num.specs.Const.{c0·0, c4·0}
@@ -43,9 +43,12 @@ reads-ret {a = a} = record { reads = λ card p held. ap (λ (n : ℕ). took a n)
 pub reads-last : {A B : Type 0} {m : Reader A} (f : A → Reader B) {bs : List ℕ} {a : A} {b : B} → Reads m bs a → Reads (f a) [] b → Reads (_>>=_ m f) bs b
 reads-last {m = m} f {bs = bs} {b = b} h k = subst (λ (l : List ℕ). Reads (_>>=_ m f) l b) (append-nil bs) (reads-then f h k)
 
-pub reads-guard : (k : ℕ) (b : Bool) → b ≡ false → Reads (refuseIf k b) [] tt
+pub reads-here : {A : Type 0} {f : ℕ → Reader A} {bs : List ℕ} {a : A} → ((p : ℕ) → Reads (f p) bs a) → Reads (_>>=_ here f) bs a
+reads-here h = record { reads = λ card p held. h p .reads card p held }
+
+pub reads-guard : (k q : ℕ) (b : Bool) → b ≡ false → Reads (refuseIf k q b) [] tt
 unfolding refuseIf
-reads-guard k b e = record { reads = λ card p held. simp (e, add-zero) }
+reads-guard k q b e = record { reads = λ card p held. simp (e, add-zero) }
 
 pub reads-field : (k v : ℕ) → v < 2 ^ k → Reads (fieldAt k) (bits k v) v
 reads-field k v h = record { reads = λ card p held. field-held k v h card p held ∙ ap (λ (n : ℕ). took v (p + n)) (sym (length-bits k v)) }
@@ -92,8 +95,8 @@ unfolding finiteAt
 reads-finite low high x s =
     let same : ofBits binary32 (toBits binary32 x) ≡ x = ofBits-toBits binary32 x (s .held) in
     let whole : not (finite (ofBits binary32 (toBits binary32 x))) ≡ false = rw (same, s .number) refl in
-    reads-last _ (reads-field 32 (toBits binary32 x) (toBits-lt binary32 x (s .held)))
-    (reads-last _ (reads-guard 6 _ whole) (subst (λ (y : Float). Reads (ret (ofBits binary32 (toBits binary32 x))) [] y) same reads-ret))
+    reads-here (λ p. reads-last _ (reads-field 32 (toBits binary32 x) (toBits-lt binary32 x (s .held)))
+    (reads-last _ (reads-guard 6 p _ whole) (subst (λ (y : Float). Reads (ret (ofBits binary32 (toBits binary32 x))) [] y) same reads-ret)))
 
 -- a step that takes no bits, before one that does
 pub reads-after : {A B : Type 0} {m : Reader A} (f : A → Reader B) {cs : List ℕ} {a : A} {b : B} → Reads m [] a → Reads (f a) cs b → Reads (_>>=_ m f) cs b
@@ -110,12 +113,16 @@ reads-limited high x s = reads-last _ (reads-finite c0·0 high x s) (reads-as (l
 pub reads-within : (low high x : Float) → Settled low high x → Reads (withinAt low high) (real x) x
 unfolding withinAt
 reads-within low high x s =
-    reads-last _ (reads-finite low high x s) (reads-last _ (reads-guard 6 _ (simp (s .above, s .below))) (reads-as (limitOf x low high) x (limit-kept low high x s)))
+    reads-here
+    (λ p. reads-last _ (reads-finite low high x s)
+    (reads-last _ (reads-guard 6 p _ (simp (s .above, s .below))) (reads-as (limitOf x low high) x (limit-kept low high x s))))
 
 pub reads-gain : (x : Float) → Settled c0·0 c4·0 x → Reads gainAt (real x) x
 unfolding gainAt
 reads-gain x s =
-    reads-last _ (reads-finite c0·0 c4·0 x s) (reads-last _ (reads-guard 6 _ (s .below)) (reads-as (limitOf x c0·0 c4·0) x (limit-kept c0·0 c4·0 x s)))
+    reads-here
+    (λ p. reads-last _ (reads-finite c0·0 c4·0 x s)
+    (reads-last _ (reads-guard 6 p _ (s .below)) (reads-as (limitOf x c0·0 c4·0) x (limit-kept c0·0 c4·0 x s))))
 
 pub record Counted (most v : ℕ) : Type 0 where
   pub some : 1 ≤ v
@@ -124,11 +131,12 @@ pub record Counted (most v : ℕ) : Type 0 where
 pub reads-count : (most v : ℕ) → most < 256 → Counted most v → Reads (countAt most) (bits 8 v) v
 unfolding countAt
 reads-count most v h c =
-    reads-last _ (reads-field 8 v (omega (arith, c .few)))
-    (reads-last _ (reads-guard 6 _ (le-ltb most v (c .few)))
-    (reads-as (cond (eqb v 0) 1 v) v (simp (ne-eqb v 0 (λ e. omega (arith, c .some))))))
+    reads-here
+    (λ p. reads-last _ (reads-field 8 v (omega (arith, c .few)))
+    (reads-last _ (reads-guard 6 p _ (le-ltb most v (c .few)))
+    (reads-as (cond (eqb v 0) 1 v) v (simp (ne-eqb v 0 (λ e. omega (arith, c .some)))))))
 
 pub reads-preset : (v : ℕ) → v < 7 → Reads presetAt (bits 3 v) v
 unfolding presetAt
 reads-preset v h =
-    reads-last _ (reads-field 3 v (omega arith)) (reads-last _ (reads-guard 6 _ (ne-eqb v 7 (λ e. omega arith))) reads-ret)
+    reads-here (λ p. reads-last _ (reads-field 3 v (omega arith)) (reads-last _ (reads-guard 6 p _ (ne-eqb v 7 (λ e. omega arith))) reads-ret))

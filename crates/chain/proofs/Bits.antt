@@ -7,8 +7,9 @@ use mathlib.Core.Bool.{Bool, true, false, cond}
 use lib.ListN.{length}
 use lib.Dec.{leb}
 use borrow.Author.Tests.{le-leb}
-use Rattle.chain.specs.Step.{took, refused}
+use Rattle.chain.specs.Step.{took, refused, stop}
 use Rattle.chain.specs.Bits.{bitAt, valueAt, fieldAt}
+use Rattle.chain.specs.declared.fields.Refusal.{Refusal}
 
 pub bitAt-lt : (card : List ℕ) (p : ℕ) → bitAt card p < 2
 bitAt-lt card p = omega arith
@@ -19,11 +20,11 @@ valueAt-lt card p zero = omega arith
 valueAt-lt card p (suc k) = omega (arith, valueAt-lt card p k, bitAt-lt card (p + k))
 
 -- a field is refused only as torn
-pub torn : (k : ℕ) (card : List ℕ) (p j : ℕ) → fieldAt k card p ≡ refused j → j ≡ 1
+pub torn : (k : ℕ) (card : List ℕ) (p : ℕ) (j : Refusal) → fieldAt k card p ≡ refused j → j ≡ stop 1 p
 unfolding fieldAt
 torn k card p j e = go (leb (p + k) (8 * length card)) e
   where
-    go : (b : Bool) → cond b (took (valueAt card p k) (p + k)) (refused 1) ≡ refused j → j ≡ 1
+    go : (b : Bool) → cond b (took (valueAt card p k) (p + k)) (refused (stop 1 p)) ≡ refused j → j ≡ stop 1 p
     go true e = cc
     go false e = cc
 
@@ -32,7 +33,7 @@ pub taken : (k : ℕ) (card : List ℕ) (p v n : ℕ) → fieldAt k card p ≡ t
 unfolding fieldAt
 taken k card p v n e = go (leb (p + k) (8 * length card)) e
   where
-    go : (b : Bool) → cond b (took (valueAt card p k) (p + k)) (refused 1) ≡ took v n → (v ≡ valueAt card p k) × (n ≡ p + k)
+    go : (b : Bool) → cond b (took (valueAt card p k) (p + k)) (refused (stop 1 p)) ≡ took v n → (v ≡ valueAt card p k) × (n ≡ p + k)
     go true e = (cc, cc)
     go false e = (cc, cc)
 

@@ -19,7 +19,7 @@ use Rattle.chain.specs.declared.station.Pass.{Pass}
 use Rattle.chain.specs.declared.station.Pass.the-variants.{Ntsc, Bloom, AutoGradient, Persistence, Lut, Curvature, ColorCorrection, Crt, Vignette, Scanlines}
 use Rattle.chain.specs.declared.station.Record.{Record}
 use Rattle.chain.proofs.Packed.{IsBits, joined-bits, bits-bits, length-bits, bit-packed, length-pack, Holds, holds-front, holds-back}
-use Rattle.chain.proofs.Back.{Reads, reads-then, reads-last, reads-after, reads-ret, reads-as, reads-guard, reads-field, Settled, Counted, reads-limited, reads-within, reads-gain, reads-count, reads-preset}
+use Rattle.chain.proofs.Back.{Reads, reads-then, reads-last, reads-after, reads-ret, reads-as, reads-here, reads-guard, reads-field, Settled, Counted, reads-limited, reads-within, reads-gain, reads-count, reads-preset}
 use Rattle.chain.proofs.Opening.{header-took, opens}
 
 -- a normalised pass, whose values their types hold
@@ -92,12 +92,13 @@ switch-back false = refl
 reads-record : (seen : List ℕ) (r : Record) → NormalPass (r .pass) → among (kindOf (r .pass)) seen ≡ false → Reads (recordAt seen) (recordBits r) r
 unfolding recordAt recordBits
 reads-record seen r n new =
-    reads-then _ (reads-field 4 (kindOf (r .pass)) (small (r .pass)))
-    (reads-after _ (reads-guard 4 _ (known (r .pass)))
-    (reads-after _ (reads-guard 5 _ new)
+    reads-here
+    (λ p. reads-then _ (reads-field 4 (kindOf (r .pass)) (small (r .pass)))
+    (reads-after _ (reads-guard 4 p _ (known (r .pass)))
+    (reads-after _ (reads-guard 5 p _ new)
     (reads-then _ (reads-field 1 (cond (r .on) 1 0) (switch-small (r .on)))
     (reads-last _ (reads-pass (r .pass) n)
-    (reads-as (record { on = eqb (cond (r .on) 1 0) 1; pass = r .pass }) r (ap (λ (on : Bool). record { on = on; pass = r .pass }) (switch-back (r .on))))))))
+    (reads-as (record { on = eqb (cond (r .on) 1 0) 1; pass = r .pass }) r (ap (λ (on : Bool). record { on = on; pass = r .pass }) (switch-back (r .on)))))))))
 
 reads-records : (rs done : List Record) → NormalChain done rs → Reads (recordsAt (length rs) done) (recordsBits rs) (done ++ rs)
 unfolding recordsAt recordsBits

@@ -21,7 +21,7 @@ use Rattle.chain.specs.Normal.{negZero}
 use Rattle.chain.specs.declared.station.Pass.{Pass}
 use Rattle.chain.specs.declared.station.Record.{Record}
 use Rattle.chain.specs.declared.station.Station.{Station}
-use Rattle.chain.proofs.Taken.{Gives, gives-then, gives-ret, gives-refuse, gives-guard, gives-field}
+use Rattle.chain.proofs.Taken.{Gives, gives-then, gives-ret, gives-refuse, gives-here, gives-guard, gives-field}
 use Rattle.chain.proofs.Opening.{gives-header}
 use Rattle.chain.proofs.Back.{Settled, Counted}
 use Rattle.chain.proofs.Chain.{NormalPass, NormalChain}
@@ -34,8 +34,8 @@ record Number (x : Float) : Type 0 where
 gives-finite : Gives finiteAt Number
 unfolding finiteAt
 gives-finite =
-    gives-then _ (gives-field 32)
-    (λ b h. gives-then _ (gives-guard 6 _) (λ u g. gives-ret Number _ (record { held = ofBits-fits binary32 b; number = not-false _ g })))
+    gives-here (λ p. gives-then _ (gives-field 32)
+    (λ b h. gives-then _ (gives-guard 6 p _) (λ u g. gives-ret Number _ (record { held = ofBits-fits binary32 b; number = not-false _ g }))))
 
 not-zero : (x : Float) → eq x c0·0 ≡ false → negZero x ≡ false
 unfolding eq ofBits
@@ -80,12 +80,13 @@ gives-limited high r = gives-then _ gives-finite (λ x n. gives-ret (Settled c0�
 
 gives-within : (low high : Float) → Range low high → Gives (withinAt low high) (Settled low high)
 unfolding withinAt
-gives-within low high r = gives-then _ gives-finite (λ x n. gives-then _ (gives-guard 6 _) (λ u g. gives-ret (Settled low high) _ (limit-settled low high x r n)))
+gives-within low high r =
+    gives-here (λ p. gives-then _ gives-finite (λ x n. gives-then _ (gives-guard 6 p _) (λ u g. gives-ret (Settled low high) _ (limit-settled low high x r n))))
 
 gives-count : (most : ℕ) → 1 ≤ most → Gives (countAt most) (Counted most)
 unfolding countAt
 gives-count most h =
-    gives-then _ (gives-field 8) (λ v l. gives-then _ (gives-guard 6 _) (λ u g. gives-ret (Counted most) _ (go v (ltb-false most v g) (eqb v 0) refl)))
+    gives-here (λ p. gives-then _ (gives-field 8) (λ v l. gives-then _ (gives-guard 6 p _) (λ u g. gives-ret (Counted most) _ (go v (ltb-false most v g) (eqb v 0) refl))))
   where
     go : (v : ℕ) → v ≤ most → (a : Bool) → eqb v 0 ≡ a → Counted most (cond a 1 v)
     go v l true e = record { some = omega arith; few = h }
@@ -93,7 +94,8 @@ gives-count most h =
 
 gives-preset : Gives presetAt (λ v. v < 7)
 unfolding presetAt
-gives-preset = gives-then _ (gives-field 3) (λ v l. gives-then _ (gives-guard 6 _) (λ u g. gives-ret (λ v. v < 7) v (omega (arith, eqb-false v 7 g))))
+gives-preset =
+    gives-here (λ p. gives-then _ (gives-field 3) (λ v l. gives-then _ (gives-guard 6 p _) (λ u g. gives-ret (λ v. v < 7) v (omega (arith, eqb-false v 7 g)))))
 
 -- the ranges of the settings
 range-0-1 : Range c0·0 c1·0
@@ -125,7 +127,8 @@ gives-1 = gives-limited c1·0 range-0-1
 
 gives-gain : Gives gainAt (Settled c0·0 c4·0)
 unfolding gainAt
-gives-gain = gives-then _ gives-finite (λ x n. gives-then _ (gives-guard 6 _) (λ u g. gives-ret (Settled c0·0 c4·0) _ (limit-settled c0·0 c4·0 x range-0-4 n)))
+gives-gain =
+    gives-here (λ p. gives-then _ gives-finite (λ x n. gives-then _ (gives-guard 6 p _) (λ u g. gives-ret (Settled c0·0 c4·0) _ (limit-settled c0·0 c4·0 x range-0-4 n))))
 
 -- a normalised pass of the kind k
 abbrev Of : ℕ → Pass → Type 0
@@ -153,12 +156,13 @@ New seen r = NormalPass (r .pass) × (among (kindOf (r .pass)) seen ≡ false)
 gives-record : (seen : List ℕ) → Gives (recordAt seen) (New seen)
 unfolding recordAt
 gives-record seen =
-    gives-then _ (gives-field 4)
-    (λ k hk. gives-then _ (gives-guard 4 _)
-    (λ u g₄. gives-then _ (gives-guard 5 _)
+    gives-here
+    (λ q. gives-then _ (gives-field 4)
+    (λ k hk. gives-then _ (gives-guard 4 q _)
+    (λ u g₄. gives-then _ (gives-guard 5 q _)
     (λ u g₅. gives-then _ (gives-field 1)
     (λ on ho. gives-then _ (gives-pass k)
-    (λ p hp. gives-ret (New seen) _ (hp .0, ap (λ (j : ℕ). among j seen) (hp .1) ∙ g₅))))))
+    (λ p hp. gives-ret (New seen) _ (hp .0, ap (λ (j : ℕ). among j seen) (hp .1) ∙ g₅)))))))
 
 -- n normalised records after those that are done
 record More (n : ℕ) (done rs : List Record) : Type 0 where

@@ -1,4 +1,4 @@
--- Laws that the proofs of several functions cite, and the theorems of specs/Claims.antt: Theorems, Survives, Longest; of specs/Agree.antt: Agreement, Made.
+-- Laws that the proofs of several functions cite, and the theorems of specs/Claims.antt: Theorems, Survives, Inside, Longest; of specs/Agree.antt: Agreement, Made.
 -- Runs that are computed: Examples.
 pub mod Bits
 pub mod Bools
@@ -27,6 +27,7 @@ pub mod Sheets
 pub mod Scans
 pub mod Laying
 pub mod Writing
+pub mod Inside
 pub mod Longest
 pub mod Survives
 pub mod Kept

@@ -1,4 +1,4 @@
--- Opening, over variables: what each exit of `open` cites. Assumes nothing.
+-- Opening, over variables: what each exit of `read` cites. Assumes nothing.
 use Prim.Native.Nat.{ℕ, suc, _+_, _-_, _*_, _≤_, _<_}
 use native.Mathlib.Omega.{arith}
 use native.Mathlib.Numerals.{add-one}
@@ -7,40 +7,44 @@ use mathlib.Core.Bool.{true, false}
 use mathlib.Core.List.{List, [], _∷_, _++_}
 use lib.ListN.{length, take, drop, set, replicate, length-set, take-append-drop}
 use lib.Seq.{take-suc-set, drop-set-lt, drop-drop, length-take-le}
-use Rattle.chain.specs.Step.{Step, took, refused, andThen, _>>=_, _>>_, refuseIf}
+use Rattle.chain.specs.Step.{Step, took, refused, andThen, _>>=_, _>>_, stop, refuseIf}
 use Rattle.chain.specs.Bits.{fieldAt}
 use Rattle.chain.specs.Records.{kinds, recordAt}
-use Rattle.chain.specs.Card.{unused, stationOf, headerAt, recordsAt, endsAt, endAt, stationAt, openedOf, openOf}
+use Rattle.chain.specs.Card.{unused, stationOf, headerAt, recordsAt, endsAt, endAt, stationAt, readingOf}
+use Rattle.chain.specs.declared.fields.Refusal.{Refusal}
 use Rattle.chain.specs.declared.station.Record.{Record}
 use Rattle.chain.specs.declared.station.Station.{Station}
 use borrow.Author.Tests.{ltb-false, le-ltb}
-use Rattle.chain.proofs.Steps.{Wide, field-wide, ret-wide, refuseIf-wide, then-wide}
-use Rattle.chain.proofs.Taken.{Gives, gives-then, gives-ret, gives-guard, gives-field}
+use Rattle.chain.proofs.Steps.{Wide, field-wide, ret-wide, here-wide, refuseIf-wide, then-wide}
+use Rattle.chain.proofs.Taken.{Gives, gives-then, gives-ret, gives-here, gives-guard, gives-field}
 
 -- the header is 8 bits, and takes at most ten passes
 header-wide : Wide 8 headerAt
 unfolding headerAt
-header-wide = then-wide 4 4 (field-wide 4) (λ v. then-wide 0 4 (refuseIf-wide 2 _) (λ u. then-wide 4 0 (field-wide 4) (λ n. then-wide 0 0 (refuseIf-wide 3 _) (λ u. ret-wide))))
+header-wide =
+    here-wide (λ p. then-wide 4 4 (field-wide 4) (λ v. then-wide 0 4 (refuseIf-wide 2 p _)
+    (λ u. here-wide (λ q. then-wide 4 0 (field-wide 4) (λ n. then-wide 0 0 (refuseIf-wide 3 q _) (λ u. ret-wide))))))
 
 pub gives-header : Gives headerAt (λ n. n ≤ 10)
 unfolding headerAt
 gives-header =
-    gives-then _ (gives-field 4) (λ v hv. gives-then _ (gives-guard 2 _) (λ u g. gives-then _ (gives-field 4) (λ n hn. gives-then _ (gives-guard 3 _) (λ u g. gives-ret (λ m. m ≤ 10) n (ltb-false 10 n g)))))
+    gives-here (λ p. gives-then _ (gives-field 4) (λ v hv. gives-then _ (gives-guard 2 p _)
+    (λ u g. gives-here (λ q. gives-then _ (gives-field 4) (λ n hn. gives-then _ (gives-guard 3 q _) (λ u g. gives-ret (λ m. m ≤ 10) n (ltb-false 10 n g)))))))
 
 pub header-took : (card : List ℕ) (n : ℕ) → fieldAt 4 card 0 ≡ took 1 4 → fieldAt 4 card 4 ≡ took n 8 → n ≤ 10 → headerAt card 0 ≡ took n 8
 unfolding headerAt refuseIf
 header-took card n e₁ e₂ few = simp (e₁, e₂, le-ltb 10 n few)
 
-pub no-header : (card : List ℕ) (k : ℕ) → headerAt card 0 ≡ refused k → stationAt card 0 ≡ refused k
+pub no-header : (card : List ℕ) (k : Refusal) → headerAt card 0 ≡ refused k → stationAt card 0 ≡ refused k
 unfolding stationAt
 no-header card k e = simp e
 
 module _ (card : List ℕ) (n b : ℕ) (e₁ : headerAt card 0 ≡ took n b) where
-  pub no-record : (k : ℕ) → recordsAt n [] card b ≡ refused k → stationAt card 0 ≡ refused k
+  pub no-record : (k : Refusal) → recordsAt n [] card b ≡ refused k → stationAt card 0 ≡ refused k
   unfolding stationAt
   no-record k e₂ = simp (e₁, e₂)
 
-  pub no-end : (d : ℕ) (rs : List Record) → recordsAt n [] card b ≡ took rs d → endsAt card d ≡ false → stationAt card 0 ≡ refused 7
+  pub no-end : (d : ℕ) (rs : List Record) → recordsAt n [] card b ≡ took rs d → endsAt card d ≡ false → stationAt card 0 ≡ refused (stop 7 d)
   unfolding stationAt refuseIf endAt
   no-end d rs e₂ e₃ = simp (e₁, e₂, e₃)
 
@@ -75,7 +79,7 @@ module _ (card : List ℕ) (n start : ℕ) (rs : List Record) (next i : ℕ) (d 
       let left : n - i ≡ suc (n - suc i) = omega arith in
       d .same ∙ ap (λ (k : ℕ). recordsAt k (take i rs) card next) left
 
-  pub done-refused : (k : ℕ) → recordAt (kinds (take i rs)) card next ≡ refused k → recordsAt n [] card start ≡ refused k
+  pub done-refused : (k : Refusal) → recordAt (kinds (take i rs)) card next ≡ refused k → recordsAt n [] card start ≡ refused k
   done-refused k e = turn ∙ simp e
 
   pub done-more : (r : Record) (after : ℕ) → recordAt (kinds (take i rs)) card next ≡ took r after → after ≤ next + 133 → Done card n start (set rs i r) after (i + 1)
@@ -112,6 +116,5 @@ done-all card n start rs next d =
 pub done-end : (card : List ℕ) (n start : ℕ) (rs : List Record) (next i : ℕ) → Done card n start rs next i → n ≤ i → Done card n start rs next n
 done-end card n start rs next i d h = let e : i ≡ n = omega (arith, d .within) in subst (λ (k : ℕ). Done card n start rs next k) e d
 
-pub told : (card : List ℕ) (s : Step Station) → stationAt card 0 ≡ s → openedOf s ≡ openOf card
-unfolding openOf
-told card s e = ap openedOf (sym e)
+pub told : (card : List ℕ) (s : Step Station) → stationAt card 0 ≡ s → readingOf s ≡ readingOf (stationAt card 0)
+told card s e = ap readingOf (sym e)

@@ -4,7 +4,7 @@ use native.Mathlib.Omega.{arith}
 use mathlib.Core.Path.{_≡_, refl, sym, subst}
 use mathlib.Core.Bool.{Bool, true, false, cond}
 use mathlib.Core.List.{List}
-use Rattle.chain.specs.Step.{Step, took, refused, Reader, andThen, _>>=_, ret, refuse, refuseIf}
+use Rattle.chain.specs.Step.{Step, took, refused, Reader, andThen, _>>=_, ret, stop, here, refuse, refuseIf}
 use Rattle.chain.specs.Bits.{fieldAt}
 use Rattle.chain.proofs.Bits.{taken, valueAt-lt}
 
@@ -24,11 +24,14 @@ gives-ret P a h = record { gives = λ card p b n e. let same : a ≡ b = cc in s
 pub gives-refuse : {A : Type 0} (P : A → Type 0) (k : ℕ) → Gives (refuse k) P
 gives-refuse P k = record { gives = λ card p b n e. let z : _≡_ {A = ℕ} 0 1 = cc in absurd (omega arith) }
 
-pub gives-guard : (k : ℕ) (b : Bool) → Gives (refuseIf k b) (λ u. b ≡ false)
+pub gives-here : {A : Type 0} {f : ℕ → Reader A} {P : A → Type 0} → ((p : ℕ) → Gives (f p) P) → Gives (_>>=_ here f) P
+gives-here h = record { gives = λ card p a n e. h p .gives card p a n e }
+
+pub gives-guard : (k q : ℕ) (b : Bool) → Gives (refuseIf k q b) (λ u. b ≡ false)
 unfolding refuseIf
-gives-guard k b = record { gives = λ card p u n e. go b p u n e }
+gives-guard k q b = record { gives = λ card p u n e. go b p u n e }
   where
-    go : (b : Bool) (p : ℕ) (u : Unit {0}) (n : ℕ) → cond b (refused k) (took tt p) ≡ took u n → b ≡ false
+    go : (b : Bool) (p : ℕ) (u : Unit {0}) (n : ℕ) → cond b (refused (stop k q)) (took tt p) ≡ took u n → b ≡ false
     go true p u n e = cc
     go false p u n e = refl
 

@@ -26,7 +26,7 @@ accepted-opens card s e = go (stationAt card 0) refl e
     go : (t : Step Station) → stationAt card 0 ≡ t → openedOf t ≡ accepted s → Opens s
     go (took s′ n) h e = subst Opens (ap (λ (o : Opened). o .station) e) (gives-station .gives card 0 s′ n h)
     go (refused k) h e =
-        let clash : Refused k ≡ Accepted = ap (λ (o : Opened). o .answer) e in
+        let clash : Refused (k .number) ≡ Accepted = ap (λ (o : Opened). o .answer) e in
         let z : _≡_ {A = ℕ} 0 1 = cc in
         absurd (omega arith)
 

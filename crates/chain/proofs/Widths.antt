@@ -3,7 +3,7 @@ use Prim.Native.Nat.{ℕ, zero, suc, _+_, _≤_}
 use native.Mathlib.Omega.{arith}
 use mathlib.Core.Path.{_≡_, refl}
 use mathlib.Core.List.{List}
-use Rattle.chain.specs.Step.{Step, took, refused, Reader, andThen, _>>=_, _>>_, refuse}
+use Rattle.chain.specs.Step.{Step, took, refused, Reader, andThen, _>>=_, _>>_, here, refuse}
 use Rattle.chain.specs.Passes.{ntscAt, bloomAt, autoGradientAt, persistenceAt, lutAt, curvatureAt, colorCorrectionAt, crtAt, vignetteAt, scanlinesAt, passAt}
 use Rattle.chain.specs.Records.{recordAt}
 use Rattle.chain.specs.declared.station.Pass.{Pass}
@@ -63,6 +63,9 @@ most-then {A} {B} j k {m} {f} hm hf = record { next = λ card p b n e. go card p
     go card p b n (took a q) h e = omega (arith, hm .next card p a q h, hf a .next card q b n e)
     go card p b n (refused i) h e = let z : _≡_ {A = ℕ} 0 1 = cc in omega arith
 
+most-here : {A : Type 0} {k : ℕ} {f : ℕ → Reader A} → ((p : ℕ) → Most k (f p)) → Most k (_>>=_ here f)
+most-here h = record { next = λ card p a n e. h p .next card p a n e }
+
 no-pass : Most {A = Pass} 128 (refuse 4)
 no-pass = record { next = λ card p a n e. let z : _≡_ {A = ℕ} 0 1 = cc in omega arith }
 
@@ -84,8 +87,9 @@ pass-most (suc (suc (suc (suc (suc (suc (suc (suc (suc (suc (suc k))))))))))) = 
 pub record-most : (seen : List ℕ) → Most 133 (recordAt seen)
 unfolding recordAt
 record-most seen =
-    most-then 4 129 (most 4 4 (omega arith) (field-wide 4))
-    (λ k. most-then 0 129 (most 0 0 (omega arith) (refuseIf-wide 4 _))
-    (λ u. most-then 0 129 (most 0 0 (omega arith) (refuseIf-wide 5 _))
+    most-here
+    (λ q. most-then 4 129 (most 4 4 (omega arith) (field-wide 4))
+    (λ k. most-then 0 129 (most 0 0 (omega arith) (refuseIf-wide 4 q _))
+    (λ u. most-then 0 129 (most 0 0 (omega arith) (refuseIf-wide 5 q _))
     (λ u. most-then 1 128 (most 1 1 (omega arith) (field-wide 1))
-    (λ on. most-then 128 0 (pass-most k) (λ p. most 0 0 (omega arith) ret-wide)))))
+    (λ on. most-then 128 0 (pass-most k) (λ p. most 0 0 (omega arith) ret-wide))))))

@@ -4,7 +4,7 @@ use mathlib.Core.Bool.{cond}
 use mathlib.Core.List.{List}
 use lib.ListN.{length, getD}
 use lib.Dec.{leb}
-use Rattle.chain.specs.Step.{took, refused, Reader}
+use Rattle.chain.specs.Step.{took, refused, stop, Reader}
 
 -- bit p of the bytes
 abbrev pub bitAt : List ℕ → ℕ → ℕ
@@ -17,4 +17,4 @@ valueAt card p (suc k) = valueAt card p k * 2 + bitAt card (p + k)
 
 -- a field of k bits: refused as torn where its bits run past the end
 unfoldable pub fieldAt : ℕ → Reader ℕ
-fieldAt k card p = cond (leb (p + k) (8 * length card)) (took (valueAt card p k) (p + k)) (refused 1)
+fieldAt k card p = cond (leb (p + k) (8 * length card)) (took (valueAt card p k) (p + k)) (refused (stop 1 p))

@@ -1,10 +1,10 @@
--- The card: version, number of passes, records, padding. Opening it gives the station, or a refusal by its number. Assumes nothing.
+-- The card: version, number of passes, records, padding. Opening it gives the station, or a refusal by its number, and the place where reading stops. Assumes nothing.
 use Prim.Native.Nat.{ℕ, zero, suc, _+_, _-_, _*_, _/_}
 use mathlib.Core.Bool.{Bool, false, not, _&&_}
 use mathlib.Core.List.{List, [], _∷_, _++_}
 use lib.ListN.{length, replicate}
 use lib.Dec.{ltb, eqb}
-use Rattle.chain.specs.Step.{Step, took, refused, Reader, _>>=_, _>>_, ret, refuseIf}
+use Rattle.chain.specs.Step.{Step, took, refused, Reader, _>>=_, _>>_, ret, here, refuseIf}
 use Rattle.chain.specs.Bits.{valueAt, fieldAt}
 use Rattle.num.specs.Const.{c0·0}
 use Rattle.chain.specs.Records.{kinds, recordAt}
@@ -12,6 +12,7 @@ use Rattle.chain.specs.declared.station.Pass.the-variants.{Scanlines}
 use Rattle.chain.specs.declared.station.Record.{Record}
 use Rattle.chain.specs.declared.station.Station.{Station}
 use Rattle.chain.specs.declared.reader.Opened.{Opened}
+use Rattle.chain.specs.declared.reader.Reading.{Reading}
 use Rattle.chain.specs.declared.station.Answer.the-variants.{Accepted, Refused}
 
 -- what stands in a place past n
@@ -33,15 +34,17 @@ unfoldable pub endsAt : List ℕ → ℕ → Bool
 endsAt card at = eqb (length card) ((at + 7) / 8) && eqb (valueAt card at ((at + 7) / 8 * 8 - at)) 0
 
 unfoldable pub endAt : Reader (Unit {0})
-endAt card at = refuseIf 7 (not (endsAt card at)) card at
+endAt card at = refuseIf 7 at (not (endsAt card at)) card at
 
 -- the version, then the number of passes
 unfoldable pub headerAt : Reader ℕ
 headerAt = do
+  p ← here
   version ← fieldAt 4
-  refuseIf 2 (not (eqb version 1))
+  refuseIf 2 p (not (eqb version 1))
+  q ← here
   n ← fieldAt 4
-  refuseIf 3 (ltb 10 n)
+  refuseIf 3 q (ltb 10 n)
   ret n
 
 unfoldable pub stationAt : Reader Station
@@ -53,7 +56,7 @@ stationAt = do
 
 abbrev pub openedOf : Step Station → Opened
 openedOf (took s next) = record { answer = Accepted; station = s }
-openedOf (refused k) = record { answer = Refused k; station = stationOf [] }
+openedOf (refused k) = record { answer = Refused (k .number); station = stationOf [] }
 
 -- a card that is accepted, with its station
 abbrev pub accepted : Station → Opened
@@ -61,3 +64,15 @@ accepted s = record { answer = Accepted; station = s }
 
 unfoldable pub openOf : List ℕ → Opened
 openOf card = openedOf (stationAt card 0)
+
+abbrev pub placeOf : Step Station → ℕ
+placeOf (took s next) = next
+placeOf (refused k) = k .at
+
+-- the bit place where reading stops: the first bit of the field that is refused; for 7, and for a card that is accepted, the bit after the last field
+unfoldable pub stoppedOf : List ℕ → ℕ
+stoppedOf card = placeOf (stationAt card 0)
+
+-- what is opened, with that place
+abbrev pub readingOf : Step Station → Reading
+readingOf s = record { answer = openedOf s .answer; station = openedOf s .station; at = placeOf s }

@@ -1,4 +1,4 @@
--- What is proved of cards and of single calls, as types: the proofs are in proofs/Theorems.antt, Survives.antt, Longest.antt and Untouched.antt. Assumes nothing.
+-- What is proved of cards and of single calls, as types: the proofs are in proofs/Theorems.antt, Survives.antt, Inside.antt, Longest.antt and Untouched.antt. Assumes nothing.
 use Prim.Native.Nat.{ℕ, _*_, _-_, _≤_}
 use mathlib.Core.Bool.{true}
 use mathlib.Core.List.{List}
@@ -7,7 +7,7 @@ use mathlib.Core.Path.{_≡_}
 use lib.ListN.{length, drop, replicate}
 use Rattle.chain.specs.Alike.{Alike, chainOf}
 use Rattle.chain.specs.Calls.{refusal, Framed, framed, frameReply}
-use Rattle.chain.specs.Card.{unused, accepted, openOf}
+use Rattle.chain.specs.Card.{unused, accepted, openOf, stoppedOf}
 use Rattle.chain.specs.Chain.{depth}
 use Rattle.chain.specs.Machine.{Call, State, call, after}
 use Rattle.chain.specs.Normal.{goodStation}
@@ -35,6 +35,10 @@ abbrev pub Survives : Type 0
 Survives =
     (s : Station) → goodStation s ≡ true → TypedChain (chainOf s) → s .held ≡ 0 → length (s .records) ≡ 10
     → drop (s .n) (s .records) ≡ replicate (10 - s .n) unused → openOf (cardOf s) ≡ accepted s
+
+-- reading stops in the card or at its end
+abbrev pub StoppedWithin : Type 0
+StoppedWithin = (card : List ℕ) → stoppedOf card ≤ 8 * length card
 
 -- no card is longer than 72 bytes
 abbrev pub Longest : Type 0

@@ -1,6 +1,6 @@
 -- The ten passes: each reads its settings in the order of document 01. Assumes nothing.
 use Prim.Native.Nat.{ℕ}
-use mathlib.Core.List.{[], _∷_}
+use mathlib.Core.List.{List, [], _∷_}
 use lib.ListN.{getD}
 use Rattle.chain.specs.Step.{Reader, _>>=_, ret, refuse}
 use Rattle.chain.specs.Bits.{fieldAt}
@@ -70,11 +70,12 @@ scanlinesAt = do
   strength ← limitedAt c1·0
   ret (Scanlines strength)
 
--- the settings of a kind
+-- the settings of each kind, from 0 on; 0 has none
+abbrev pub byKind : List (Reader Pass)
+byKind = refuse 4 ∷ ntscAt ∷ bloomAt ∷ autoGradientAt ∷ persistenceAt ∷ lutAt ∷ curvatureAt ∷ colorCorrectionAt ∷ crtAt ∷ vignetteAt ∷ scanlinesAt ∷ []
+
 unfoldable pub passAt : ℕ → Reader Pass
-passAt kind =
-    getD (refuse 4 ∷ ntscAt ∷ bloomAt ∷ autoGradientAt ∷ persistenceAt ∷ lutAt ∷ curvatureAt ∷ colorCorrectionAt ∷ crtAt ∷ vignetteAt ∷ scanlinesAt ∷ [])
-    kind (refuse 4)
+passAt kind = getD byKind kind (refuse 4)
 
 abbrev pub kindOf : Pass → ℕ
 kindOf (Ntsc strength bleed) = 1

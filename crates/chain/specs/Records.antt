@@ -3,7 +3,7 @@ use Prim.Native.Nat.{ℕ}
 use mathlib.Core.Bool.{Bool, false, _||_}
 use mathlib.Core.List.{List, [], _∷_, map}
 use lib.Dec.{ltb, eqb}
-use Rattle.chain.specs.Step.{Reader, _>>=_, _>>_, ret, refuseIf}
+use Rattle.chain.specs.Step.{Reader, _>>=_, _>>_, ret, here, refuseIf}
 use Rattle.chain.specs.Bits.{fieldAt}
 use Rattle.chain.specs.Passes.{passAt, kindOf}
 use Rattle.chain.specs.declared.station.Record.{Record}
@@ -18,9 +18,10 @@ among k (j ∷ js) = eqb j k || among k js
 -- `seen` are the kinds already read
 unfoldable pub recordAt : List ℕ → Reader Record
 recordAt seen = do
+  p ← here
   kind ← fieldAt 4
-  refuseIf 4 (eqb kind 0 || ltb 10 kind)
-  refuseIf 5 (among kind seen)
+  refuseIf 4 p (eqb kind 0 || ltb 10 kind)
+  refuseIf 5 p (among kind seen)
   on ← fieldAt 1
   pass ← passAt kind
   ret (record { on = eqb on 1; pass = pass })

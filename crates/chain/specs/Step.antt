@@ -1,7 +1,9 @@
--- Reading a card: a reader is given the card's bytes and a bit place, and takes a value, with the next place, or refuses by a number of document 01. Assumes nothing.
+-- Reading a card: a reader is given the card's bytes and a bit place, and takes a value, with the next place, or refuses by a number of document 01 and
+-- the place of what is refused. Assumes nothing.
 use Prim.Native.Nat.{ℕ}
 use mathlib.Core.List.{List}
 use mathlib.Core.Bool.{Bool, cond}
+use Rattle.chain.specs.declared.fields.Refusal.{Refusal}
 use Rattle.chain.specs.declared.fields.FieldRead.{FieldRead}
 use Rattle.chain.specs.declared.fields.FieldRead.the-variants as F
 use Rattle.chain.specs.declared.fields.ByteRead.{ByteRead}
@@ -18,7 +20,11 @@ use lib.Ieee.{Float}
 
 pub data Step (A : Type 0) : Type 0 where
   took : A → ℕ → Step A
-  refused : ℕ → Step A
+  refused : Refusal → Step A
+
+-- the refusal with that number, at that place
+abbrev pub stop : ℕ → ℕ → Refusal
+stop k p = record { number = k; at = p }
 
 abbrev pub Reader : Type 0 → Type 0
 Reader A = List ℕ → ℕ → Step A
@@ -34,15 +40,19 @@ _>>=_ m f = λ card at. andThen (m card at) (λ a next. f a card next)
 abbrev pub ret : {A : Type 0} → A → Reader A
 ret a = λ card at. took a at
 
+-- the place itself
+abbrev pub here : Reader ℕ
+here = λ card at. took at at
+
 abbrev pub refuse : {A : Type 0} → ℕ → Reader A
-refuse k = λ card at. refused k
+refuse k = λ card at. refused (stop k at)
 
 abbrev pub _>>_ : {A B : Type 0} → Reader A → Reader B → Reader B
 _>>_ m n = _>>=_ m (λ a. n)
 
--- refuse with k where b holds
-unfoldable pub refuseIf : ℕ → Bool → Reader (Unit {0})
-refuseIf k b card at = cond b (refused k) (took tt at)
+-- refuse what stands at p with k where b holds
+unfoldable pub refuseIf : ℕ → ℕ → Bool → Reader (Unit {0})
+refuseIf k p b card at = cond b (refused (stop k p)) (took tt at)
 
 -- the code's answers, as steps
 abbrev pub fieldStep : FieldRead → Step ℕ
@@ -65,7 +75,7 @@ abbrev pub recordStep : RecordRead → Step Record
 recordStep (C.Value x next) = took x next
 recordStep (C.Refused k) = refused k
 
--- the number of a refusal, 0 for none
-abbrev pub refusalOf : {A : Type 0} → Step A → ℕ
-refusalOf (took a next) = 0
+-- the refusal of a step, 0 for none
+abbrev pub refusalOf : {A : Type 0} → Step A → Refusal
+refusalOf (took a next) = stop 0 0
 refusalOf (refused k) = k

@@ -5,10 +5,17 @@ ghost use Rattle.chain.specs.Step.{fieldStep, byteStep, realStep, refusa
 ghost use Rattle.chain.specs.Bits.{bitAt, fieldAt};
 ghost use Rattle.chain.specs.Settings.{finiteAt, limitedAt, withinAt, gainAt, countAt, presetAt};
 
-// What reading a field answers: its value and the next bit place, or a refusal by its number.
+// Why a card is refused, by the number of document 01, and where: `at` is the first bit of the field that is refused, and for 7 the
+// bit after the last field.
+pub struct Refusal {
+    pub number: u8,
+    pub at: usize,
+}
+
+// What reading a field answers: its value and the next bit place, or a refusal.
 pub enum FieldRead {
     Value(u32, usize),
-    Refused(u8),
+    Refused(Refusal),
 }
 
 // The bit of the card at the place p.
@@ -31,13 +38,13 @@ pub(crate) fn field(card: &[u8], at: usize, width: usize) -> FieldRead
         }
         FieldRead::Value(value, at + width)
     } else {
-        FieldRead::Refused(1)
+        FieldRead::Refused(Refusal { number: 1, at })
     }
 }
 
 pub enum ByteRead {
     Value(u8, usize),
-    Refused(u8),
+    Refused(Refusal),
 }
 
 // A field of at most 8 bits.
@@ -46,14 +53,14 @@ pub(crate) fn byte(card: &[u8], at: usize, width: usize) -> ByteRead
     ensures { λ r. ⌜ byteStep r ≡ fieldAt width (now (card .entry)) at ⌝ }
 {
     let FieldRead::Value(v, next) = field(card, at, width) else {
-        return ByteRead::Refused(1);
+        return ByteRead::Refused(Refusal { number: 1, at });
     };
     ByteRead::Value(v as u8, next)
 }
 
 pub enum RealRead {
     Value(f32, usize),
-    Refused(u8),
+    Refused(Refusal),
 }
 
 // A setting F: a finite number.
@@ -62,10 +69,10 @@ pub(crate) fn finite(card: &[u8], at: usize) -> RealRead
     ensures { λ r. ⌜ realStep r ≡ finiteAt (now (card .entry)) at ⌝ }
 {
     let FieldRead::Value(bits, next) = field(card, at, 32) else {
-        return RealRead::Refused(1);
+        return RealRead::Refused(Refusal { number: 1, at });
     };
     if bits % 0x8000_0000 / 0x80_0000 == 255 {
-        return RealRead::Refused(6);
+        return RealRead::Refused(Refusal { number: 6, at });
     }
     RealRead::Value(f32::from_bits(bits), next)
 }
@@ -92,10 +99,10 @@ pub(crate) fn within(card: &[u8], at: usize, low: f32, high: f32) -> RealRead
         return r;
     };
     if x < low {
-        return RealRead::Refused(6);
+        return RealRead::Refused(Refusal { number: 6, at });
     }
     if high < x {
-        return RealRead::Refused(6);
+        return RealRead::Refused(Refusal { number: 6, at });
     }
     RealRead::Value(num::steps::limit(x, low, high), next)
 }
@@ -110,7 +117,7 @@ pub(crate) fn gain(card: &[u8], at: usize) -> RealRead
         return r;
     };
     if 4.0 < x {
-        return RealRead::Refused(6);
+        return RealRead::Refused(Refusal { number: 6, at });
     }
     RealRead::Value(num::steps::limit(x, 0.0, 4.0), next)
 }
@@ -125,7 +132,7 @@ pub(crate) fn count(card: &[u8], at: usize, most: u8) -> ByteRead
         return r;
     };
     if most < v {
-        return ByteRead::Refused(6);
+        return ByteRead::Refused(Refusal { number: 6, at });
     }
     if v == 0 {
         return ByteRead::Value(1, next);
@@ -143,26 +150,26 @@ pub(crate) fn preset(card: &[u8], at: usize) -> ByteRead
         return r;
     };
     if v == 7 {
-        return ByteRead::Refused(6);
+        return ByteRead::Refused(Refusal { number: 6, at });
     }
     r
 }
 
-// The number of a refusal.
-pub(crate) fn real_refusal(r: RealRead) -> u8
+// The refusal that was answered.
+pub(crate) fn real_refusal(r: RealRead) -> Refusal
     ensures { λ k. ⌜ k ≡ refusalOf (realStep r) ⌝ }
 {
     match r {
-        RealRead::Value(_, _) => 0,
+        RealRead::Value(_, _) => Refusal { number: 0, at: 0 },
         RealRead::Refused(k) => k,
     }
 }
 
-pub(crate) fn byte_refusal(r: ByteRead) -> u8
+pub(crate) fn byte_refusal(r: ByteRead) -> Refusal
     ensures { λ k. ⌜ k ≡ refusalOf (byteStep r) ⌝ }
 {
     match r {
-        ByteRead::Value(_, _) => 0,
+        ByteRead::Value(_, _) => Refusal { number: 0, at: 0 },
         ByteRead::Refused(k) => k,
     }
 }

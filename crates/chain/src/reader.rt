@@ -4,11 +4,12 @@ ghost use Prim.Native.Nat.{_+_, _*_, _^_, _<_, _≤_};
 ghost use Rattle.chain.specs.Step.{byteStep, passStep, recordStep, refusalOf, refused};
 ghost use Rattle.chain.specs.Passes.{ntscAt, bloomAt, autoGradientAt, persistenceAt, lutAt, curvatureAt, colorCorrectionAt, crtAt, vignetteAt, scanlinesAt, passAt};
 ghost use Rattle.chain.specs.Records.{kinds, recordAt};
-ghost use Rattle.chain.specs.Card.{unused, openedOf, headerAt, endsAt, openOf};
+ghost use Rattle.chain.specs.Card.{unused, headerAt, endsAt, stationAt, readingOf, openOf, stoppedOf};
 ghost use lib.ListN.{take};
 use super::fields::ByteRead;
 use super::fields::FieldRead;
 use super::fields::RealRead;
+use super::fields::Refusal;
 use super::fields::byte;
 use super::fields::byte_refusal;
 use super::fields::count;
@@ -26,7 +27,7 @@ use super::station::holds;
 
 pub enum PassRead {
     Value(Pass, usize),
-    Refused(u8),
+    Refused(Refusal),
 }
 
 pub(crate) fn ntsc(card: &[u8], at: usize) -> PassRead
@@ -201,11 +202,11 @@ pub(crate) fn scanlines(card: &[u8], at: usize) -> PassRead
     PassRead::Value(Pass::Scanlines { strength }, at)
 }
 
-pub(crate) fn pass_refusal(r: PassRead) -> u8
+pub(crate) fn pass_refusal(r: PassRead) -> Refusal
     ensures { λ k. ⌜ k ≡ refusalOf (passStep r) ⌝ }
 {
     match r {
-        PassRead::Value(_, _) => 0,
+        PassRead::Value(_, _) => Refusal { number: 0, at: 0 },
         PassRead::Refused(k) => k,
     }
 }
@@ -226,20 +227,20 @@ pub(crate) fn settings(card: &[u8], at: usize, kind: u8) -> PassRead
         8 => crt(card, at),
         9 => vignette(card, at),
         10 => scanlines(card, at),
-        _ => PassRead::Refused(4),
+        _ => PassRead::Refused(Refusal { number: 4, at }),
     }
 }
 
 pub enum RecordRead {
     Value(Record, usize),
-    Refused(u8),
+    Refused(Refusal),
 }
 
-pub(crate) fn record_refusal(r: RecordRead) -> u8
+pub(crate) fn record_refusal(r: RecordRead) -> Refusal
     ensures { λ k. ⌜ k ≡ refusalOf (recordStep r) ⌝ }
 {
     match r {
-        RecordRead::Value(_, _) => 0,
+        RecordRead::Value(_, _) => Refusal { number: 0, at: 0 },
         RecordRead::Refused(k) => k,
     }
 }
@@ -250,19 +251,19 @@ pub(crate) fn read_record(card: &[u8], at: usize, records: [Record; 10], n: usiz
     ensures { λ r. ⌜ recordStep r ≡ recordAt (kinds (take n records)) (now (card .entry)) at ⌝ }
 {
     let r1 = byte(card, at, 4);
-    let ByteRead::Value(kind, at) = r1 else {
+    let ByteRead::Value(kind, next) = r1 else {
         return RecordRead::Refused(byte_refusal(r1));
     };
     if kind == 0 {
-        return RecordRead::Refused(4);
+        return RecordRead::Refused(Refusal { number: 4, at });
     }
     if 10 < kind {
-        return RecordRead::Refused(4);
+        return RecordRead::Refused(Refusal { number: 4, at });
     }
     if holds(records, n, kind) {
-        return RecordRead::Refused(5);
+        return RecordRead::Refused(Refusal { number: 5, at });
     }
-    let r2 = byte(card, at, 1);
+    let r2 = byte(card, next, 1);
     let ByteRead::Value(on, at) = r2 else {
         return RecordRead::Refused(byte_refusal(r2));
     };
@@ -287,8 +288,15 @@ pub(crate) fn filler() -> Record
     Record { on: false, pass }
 }
 
-pub(crate) fn refused(k: u8) -> Opened
-    ensures { λ r. ⌜ r ≡ openedOf (refused k) ⌝ }
+// What reading a whole card answers, with the station and the place where it stopped. An enum cannot hold the station, which has an array.
+pub struct Reading {
+    pub answer: Answer,
+    pub station: Station,
+    pub at: usize,
+}
+
+pub(crate) fn refused(k: Refusal) -> Reading
+    ensures { λ r. ⌜ r ≡ readingOf (refused k) ⌝ }
 {
     let f = filler();
     let records = [f; 10];
@@ -297,9 +305,10 @@ pub(crate) fn refused(k: u8) -> Opened
         n: 0,
         held: 0,
     };
-    Opened {
-        answer: Answer::Refused(k),
+    Reading {
+        answer: Answer::Refused(k.number),
         station,
+        at: k.at,
     }
 }
 
@@ -327,21 +336,21 @@ pub(crate) fn header(card: &[u8]) -> ByteRead
         return r1;
     };
     if version != 1 {
-        return ByteRead::Refused(2);
+        return ByteRead::Refused(Refusal { number: 2, at: 0 });
     }
     let r2 = byte(card, at, 4);
     let ByteRead::Value(n, _) = r2 else {
         return r2;
     };
     if 10 < n {
-        return ByteRead::Refused(3);
+        return ByteRead::Refused(Refusal { number: 3, at });
     }
     r2
 }
 
-// The station of a card, or why the card is refused.
-pub fn open(card: &[u8]) -> Opened
-    ensures { λ r. ⌜ r ≡ openOf (now (card .entry)) ⌝ }
+// The way through a card: the header, the records one by one, the end.
+pub(crate) fn read(card: &[u8]) -> Reading
+    ensures { λ r. ⌜ r ≡ readingOf (stationAt (now (card .entry)) 0) ⌝ }
 {
     let r1 = header(card);
     let ByteRead::Value(count, at) = r1 else {
@@ -362,15 +371,37 @@ pub fn open(card: &[u8]) -> Opened
         i += 1;
     }
     if !ends(card, next) {
-        return refused(7);
+        return refused(Refusal {
+            number: 7,
+            at: next,
+        });
     }
     let station = Station {
         records,
         n,
         held: 0,
     };
-    Opened {
+    Reading {
         answer: Answer::Accepted,
         station,
+        at: next,
     }
+}
+
+// The station of a card, or why the card is refused.
+pub fn open(card: &[u8]) -> Opened
+    ensures { λ r. ⌜ r ≡ openOf (now (card .entry)) ⌝ }
+{
+    let r = read(card);
+    let answer = r.answer;
+    let station = r.station;
+    Opened { answer, station }
+}
+
+// The bit place where reading the card stops.
+pub fn stopped(card: &[u8]) -> usize
+    ensures { λ r. ⌜ r ≡ stoppedOf (now (card .entry)) ⌝ }
+{
+    let r = read(card);
+    r.at
 }

@@ -26,8 +26,8 @@ took-is :
 took-is c =
     taken _ _ _ _ _ (sym (c .before .before .field .ensures) ∙ ap fieldStep (c .v .given .1))
 
-cast-t7 : tie.Need-cast-t7
-cast-t7 c =
+cast-t8 : tie.Need-cast-t8
+cast-t8 c =
     let a = c .before .before .before .before .before .args in
     omega (
       arith,
@@ -40,4 +40,4 @@ returns-2 : tie.Need-returns-2
 returns-2 c = sym (sym (c .before .before .before .field .ensures) ∙ ap fieldStep (c .before .v .given .1))
 
 pub byte-spec : {M : Type 1} → statement M
-byte-spec = tie.close (tie.spec (λ c κs. search needs) (λ c. search needs) (λ c. search needs) returns cast-t7 returns-2)
+byte-spec = tie.close (tie.spec (λ c κs. search needs) (λ c. search needs) (λ c. search needs) returns cast-t8 returns-2)

@@ -10,4 +10,4 @@ unfolding headerAt
 header-spec =
     tie.close
     (tie.spec (λ c κs. search needs) (λ c. search needs) (λ c. search needs) (λ c. search steps) (λ c. search steps) (λ c κs. search steps) (λ c. search needs)
-    (λ c. search needs) (λ c. search steps) (λ c. search steps) (λ c. search steps))
+    (λ c. search needs) (λ c. search steps) (λ c. search steps depth 7) (λ c. search steps depth 7))
