@@ -1,0 +1,2 @@
+// Frames as bytes.
+pub mod pixels; // three bytes a pixel: words from bytes, and bytes from words
