@@ -1,12 +1,12 @@
 -- Words and bytes, there and back. Assumes nothing.
-use Prim.Native.Nat.{ℕ, zero, suc, _+_, _*_, _/_, _%_, _^_, _≤_, _<_}
-use mathlib.Core.Path.{_≡_, refl, sym, ap, ap₂, _∙_}
-use mathlib.Core.List.{List, [], _∷_, _++_, map}
-use native.Mathlib.Nat.{not-suc-le-zero, mod-eq-of-lt}
+use Prim.Native.Nat.{ℕ, zero, suc, _*_, _/_, _%_, _^_, _<_}
+use mathlib.Core.Path.{_≡_, refl, ap₂, _∙_}
+use mathlib.Core.List.{List, [], _∷_, map}
+use native.Mathlib.Nat.{mod-eq-of-lt}
 use native.Mathlib.Omega.{arith}
 use lib.ListN.{length, getD, take}
 use Rattle.raster.specs.Claims.{WordsBack, WordsSame, BytesBack}
-use Rattle.raster.specs.Pixels.{packed, bytesOf, packedBytes, unpacked}
+use Rattle.raster.specs.Pixels.{packed, packedBytes, unpacked}
 
 pub words-back : WordsBack
 unfolding unpacked packedBytes
