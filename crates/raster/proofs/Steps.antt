@@ -3,8 +3,9 @@ use Prim.Native.Nat.{ℕ}
 use mathlib.Core.Path.{_≡_, refl, ap, sym, _∙_}
 use mathlib.Core.Bool.{Bool, true, false, not, _||_}
 pub use borrow.Author.Tests.{eq-eqb, ne-eqb, lt-ltb, le-ltb}
-use Rattle.raster.specs.Step.{Step, took, refused, andThen, refuseIf, refusalOf}
-use Rattle.raster.specs.Ppm.{Size, size, numberStep, parsedStep, parsedOf}
+use Rattle.raster.specs.Step.{Step, took, refused, andThen, refuseIf}
+use Rattle.raster.specs.Ppm.{Size, size, parsedOf}
+use Rattle.raster.specs.Private.{numberStep, headerStep, refusalOf}
 use Rattle.raster.specs.declared.ppm.NumberRead.{NumberRead}
 use Rattle.raster.specs.declared.ppm.NumberRead.the-variants as N
 use Rattle.raster.specs.declared.ppm.Parsed.{Parsed}
@@ -18,11 +19,11 @@ pub number-stops : {D : Type 0} (r : NumberRead) (s : Step ℕ) (k j : ℕ) (f :
 number-stops r s k j f e h w =
     ap refused (w ∙ ap (λ (r : NumberRead). refusalOf (numberStep r)) h) ∙ sym (ap (λ (s : Step ℕ). andThen s f) (sym e ∙ ap numberStep h))
 
-pub header-then : (r : Parsed) (s : Step Size) (w h n : ℕ) (f : Size → ℕ → Step Size) (t : Step Size) → parsedStep r ≡ s → r ≡ Frame w h n → t ≡ f (size w h) n → t ≡ andThen s f
-header-then r s w h n f t e g k = k ∙ sym (ap (λ (s : Step Size). andThen s f) (sym e ∙ ap parsedStep g))
+pub header-then : (r : Parsed) (s : Step Size) (w h n : ℕ) (f : Size → ℕ → Step Size) (t : Step Size) → headerStep r ≡ s → r ≡ Frame w h n → t ≡ f (size w h) n → t ≡ andThen s f
+header-then r s w h n f t e g k = k ∙ sym (ap (λ (s : Step Size). andThen s f) (sym e ∙ ap headerStep g))
 
-pub header-stops : (r : Parsed) (s : Step Size) (k : ℕ) (f : Size → ℕ → Step Size) → parsedStep r ≡ s → r ≡ Refused k → parsedStep r ≡ andThen s f
-header-stops r s k f e h = ap parsedStep h ∙ sym (ap (λ (s : Step Size). andThen s f) (sym e ∙ ap parsedStep h))
+pub header-stops : (r : Parsed) (s : Step Size) (k : ℕ) (f : Size → ℕ → Step Size) → headerStep r ≡ s → r ≡ Refused k → headerStep r ≡ andThen s f
+header-stops r s k f e h = ap headerStep h ∙ sym (ap (λ (s : Step Size). andThen s f) (sym e ∙ ap headerStep h))
 
 pub guard-then : {D : Type 0} (k : ℕ) (b : Bool) (n : ℕ) (f : Unit {0} → ℕ → Step D) (t : Step D) → b ≡ false → t ≡ f tt n → t ≡ andThen (refuseIf k b n) f
 unfolding refuseIf
@@ -33,7 +34,7 @@ unfolding refuseIf
 guard-stops k b n f e = rw e refl
 
 -- the answer is made from the step
-pub ended : (r : Parsed) (s : Step Size) → parsedStep r ≡ s → r ≡ parsedOf s
+pub ended : (r : Parsed) (s : Step Size) → headerStep r ≡ s → r ≡ parsedOf s
 ended (Frame w h start) s e = ap parsedOf e
 ended (Refused k) s e = ap parsedOf e
 

@@ -8,7 +8,8 @@ use borrow.Author.Tests.{leb-false, ltb-false, eqb-false}
 use lib.Dec.{leb, ltb, eqb}
 use lib.ListN.{length, drop}
 use Rattle.raster.specs.Step.{Step, took, refused, Reader, andThen, refuseIf}
-use Rattle.raster.specs.Ppm.{headerCut, badHeader, valueOf, digitsEnd, gapIn, digitsIn, numberIn, Size, size, headerIn, frameIn, numberStep, parsedStep, parsedOf, parseOf}
+use Rattle.raster.specs.Ppm.{headerCut, badHeader, valueOf, digitsEnd, gapIn, digitsIn, numberIn, Size, size, headerIn, frameIn, parsedOf, parseOf}
+use Rattle.raster.specs.Private.{numberStep, headerStep}
 use Rattle.raster.specs.Claims.{Whole, TakenWhole}
 use Rattle.raster.specs.declared.ppm.NumberRead.{NumberRead}
 use Rattle.raster.specs.declared.ppm.NumberRead.the-variants as N
@@ -63,8 +64,8 @@ header-inside bytes s n h =
 pub after-number : (r : NumberRead) (bytes : List ℕ) (at v n : ℕ) → numberStep r ≡ numberIn bytes at → r ≡ N.Value v n → n < length bytes
 after-number r bytes at v n e h = number-inside bytes at v n (sym e ∙ ap numberStep h)
 
-pub after-header : (r : Parsed) (bytes : List ℕ) (w h start : ℕ) → parsedStep r ≡ headerIn bytes 0 → r ≡ Frame w h start → start ≤ length bytes
-after-header r bytes w h start e g = header-inside bytes (size w h) start (sym e ∙ ap parsedStep g)
+pub after-header : (r : Parsed) (bytes : List ℕ) (w h start : ℕ) → headerStep r ≡ headerIn bytes 0 → r ≡ Frame w h start → start ≤ length bytes
+after-header r bytes w h start e g = header-inside bytes (size w h) start (sym e ∙ ap headerStep g)
 
 -- ## A frame that is taken
 

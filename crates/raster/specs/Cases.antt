@@ -39,7 +39,7 @@ file width height maximum n = 80 ∷ 54 ∷ 10 ∷ (width ++ 32 ∷ (height ++ 1
 abbrev pub parsed : List (Parsed × Parsed)
 parsed =
     (parseOf 1 (file n1 n1 n255 3), Frame 1 1 11)
-    -- `P6#`, a line's end, a tab, `001`, byte 12, a comment with `2#` in it, `2`, byte 11, `255`, a carriage return
+    -- `P6`, a comment of no byte up to a carriage return, a tab, `001`, byte 12, the comment `2#`, `2`, byte 11, `255`, a carriage return
     ∷ (parseOf 2 (80 ∷ 54 ∷ 35 ∷ 13 ∷ 9 ∷ 48 ∷ 48 ∷ 49 ∷ 12 ∷ 35 ∷ 50 ∷ 35 ∷ 10 ∷ 50 ∷ 11 ∷ 50 ∷ 53 ∷ 53 ∷ 13 ∷ replicate 6 0), Frame 1 2 19)
     ∷ (parseOf 9999 [], Refused empty)
     -- `P5`; `P`
@@ -50,7 +50,7 @@ parsed =
     ∷ (parseOf 9999 (80 ∷ 54 ∷ 32 ∷ 35 ∷ 49 ∷ []), Refused headerCut)
     ∷ (parseOf 9999 (80 ∷ 54 ∷ 32 ∷ 49 ∷ []), Refused headerCut)
     ∷ (parseOf 9999 (80 ∷ 54 ∷ 32 ∷ 49 ∷ 32 ∷ 49 ∷ 32 ∷ n255), Refused headerCut)
-    -- `P61`; `P6 x`; `1x`; the maximum `255#`
+    -- `P61`; `P6 x`; `P6 1x`; `#` after the maximum
     ∷ (parseOf 9999 (80 ∷ 54 ∷ 49 ∷ []), Refused badHeader)
     ∷ (parseOf 9999 (80 ∷ 54 ∷ 32 ∷ 120 ∷ []), Refused badHeader)
     ∷ (parseOf 9999 (80 ∷ 54 ∷ 32 ∷ 49 ∷ 120 ∷ []), Refused badHeader)

@@ -6,8 +6,6 @@ use lib.Dec.{eqb, leb, ltb}
 use lib.ListN.{length, drop}
 use Rattle.raster.specs.Pixels.{byteAt}
 use Rattle.raster.specs.Step.{Step, took, refused, Reader, _>>=_, _>>_, ret, place, skip, byteIn, refuseIf}
-use Rattle.raster.specs.declared.ppm.NumberRead.{NumberRead}
-use Rattle.raster.specs.declared.ppm.NumberRead.the-variants as N
 use Rattle.raster.specs.declared.ppm.Parsed.{Parsed}
 use Rattle.raster.specs.declared.ppm.Parsed.the-variants.{Frame, Refused}
 
@@ -134,6 +132,7 @@ pub record Size : Type 0 where
 abbrev pub size : ℕ → ℕ → Size
 size w h = record { width = w; height = h }
 
+-- There is a byte after the maximum: digits that end with the bytes are refused.
 unfoldable pub headerIn : List ℕ → Reader Size
 headerIn bytes = do
   refuseIf empty (eqb (length bytes) 0)
@@ -147,9 +146,9 @@ headerIn bytes = do
   refuseIf otherMaximum (not (eqb maximum 255))
   ret (size width height)
 
--- ## The frame
+-- ## The file
 
--- how many bytes its pixels have
+-- how many bytes the pixels have
 abbrev pub bytesIn : Size → ℕ
 bytesIn s = 3 * (s .width * s .height)
 
@@ -162,16 +161,6 @@ frameIn most bytes = do
   refuseIf pixelsCut (ltb (length bytes) (start + bytesIn s))
   refuseIf leftOver (ltb (start + bytesIn s) (length bytes))
   ret s
-
--- ## The code's answers, as steps and from a step
-
-abbrev pub numberStep : NumberRead → Step ℕ
-numberStep (N.Value v next) = took v next
-numberStep (N.Refused k) = refused k
-
-abbrev pub parsedStep : Parsed → Step Size
-parsedStep (Frame w h start) = took (size w h) start
-parsedStep (Refused k) = refused k
 
 abbrev pub parsedOf : Step Size → Parsed
 parsedOf (took s start) = Frame (s .width) (s .height) start

@@ -38,8 +38,3 @@ byteIn bytes at = took (byteAt bytes at) (at + 1)
 -- refuse with k where b holds
 unfoldable pub refuseIf : ℕ → Bool → Reader (Unit {0})
 refuseIf k b at = cond b (refused k) (took tt at)
-
--- the number of a refusal, 0 for none
-abbrev pub refusalOf : {A : Type 0} → Step A → ℕ
-refusalOf (took a next) = 0
-refusalOf (refused k) = k

@@ -36,7 +36,7 @@ pub fn unpack(words: &mut [u32], bytes: &[u8])
     }
 }
 
-// Three bytes from each word; its top byte is left out, and so are the bytes past the last word's.
+// Three bytes from each word, whose top byte is left out. Bytes past the last word's stay.
 pub fn pack(bytes: &mut [u8], words: &[u32])
     requires { ⌜ 3 * length (now words) ≤ length (now bytes) ⌝ }
     ensures { λ _. ⌜ now (bytes .exit) ≡ packedBytes (now (words .entry)) ++ drop (3 * length (now (words .entry))) (now (bytes .entry)) ⌝ }

@@ -2,8 +2,8 @@
 ghost use mathlib.Core.Path.{_≡_};
 ghost use Prim.Native.Nat.{_≤_};
 ghost use lib.ListN.{drop};
-ghost use Rattle.raster.specs.Step.{refusalOf};
-ghost use Rattle.raster.specs.Ppm.{isWhite, endsLine, isDigit, inGap, inComment, grow, valueOf, gapEnd, digitsEnd, numberIn, isP6, headerIn, numberStep, parsedStep, parseOf};
+ghost use Rattle.raster.specs.Ppm.{isWhite, endsLine, isDigit, inGap, inComment, grow, valueOf, gapEnd, digitsEnd, numberIn, isP6, headerIn, parseOf};
+ghost use Rattle.raster.specs.Private.{numberStep, headerStep, refusalOf};
 
 // Refusals.
 const EMPTY: u8 = 1; // no byte at all
@@ -184,7 +184,7 @@ fn is_p6(bytes: &[u8]) -> bool
 
 // The header, up to the first pixel; the size is not looked at.
 fn header(bytes: &[u8]) -> Parsed
-    ensures { λ r. ⌜ parsedStep r ≡ headerIn (now (bytes .entry)) 0 ⌝ }
+    ensures { λ r. ⌜ headerStep r ≡ headerIn (now (bytes .entry)) 0 ⌝ }
 {
     if bytes.len() == 0 {
         return Parsed::Refused(EMPTY);
