@@ -1,6 +1,5 @@
--- Laws of the input: Sizes, Pixels. Of lines: Lines, Spoken. Of the cases of an event: Cases. The claims of specs/Reading: Reading, Unlooked.
+-- Laws of the input: Sizes. Of lines: Lines, Spoken. Of the cases of an event: Cases. The claims of specs/Reading: Reading, Unlooked.
 pub mod Sizes
-pub mod Pixels
 pub mod Lines
 pub mod Spoken
 pub mod Cases

@@ -8,7 +8,8 @@ use borrow.Author.Tests.{ne-eqb, eqb-true, eqb-false, lt-ltb, le-ltb, ltb-true, 
 use lib.Dec.{eqb, ltb}
 use lib.ListN.{length, take}
 use lib.Seq.{length-take-le, getD-take}
-use Rattle.events.specs.Events.{byteAt, headWanted, letterIn, countIn, badSize, frameWanted, eventWanted}
+use Rattle.raster.specs.Pixels.{byteAt}
+use Rattle.events.specs.Events.{headWanted, letterIn, countIn, badSize, frameWanted, eventWanted}
 use Rattle.events.specs.Reading.{Piecewise, Pieces}
 use Rattle.events.specs.Text.{F, S}
 use Rattle.events.proofs.Sizes.{some-wanted}

@@ -8,7 +8,8 @@ use native.Mathlib.Omega.{arith}
 use borrow.Author.Tests.{ltb-false}
 use lib.Dec.{eqb, ltb}
 use lib.ListN.{length}
-use Rattle.events.specs.Events.{byteAt, headWanted, widthIn, heightIn, countIn, outside, badSize, frameFault, Whole}
+use Rattle.raster.specs.Pixels.{byteAt}
+use Rattle.events.specs.Events.{headWanted, widthIn, heightIn, countIn, outside, badSize, frameFault, Whole}
 
 -- the length byte is wanted at least
 pub some-wanted : (bytes : List ℕ) → 1 ≤ headWanted bytes

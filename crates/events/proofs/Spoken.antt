@@ -13,7 +13,8 @@ use Rattle.chain.specs.declared.station.Answer.{Answer}
 use Rattle.chain.specs.declared.station.Answer.the-variants.{Accepted, Refused}
 use Rattle.chain.specs.declared.station.Station.{Station}
 use Rattle.events.specs.Buffers.{Printed}
-use Rattle.events.specs.Events.{widthIn, heightIn, unpacked}
+use Rattle.raster.specs.Pixels.{unpacked}
+use Rattle.events.specs.Events.{widthIn, heightIn}
 use Rattle.events.specs.Play.{spoken, pictured, refusalLine, openText, isOpen, shown, framePlayed}
 use Rattle.events.specs.Promises.{Says, Gives}
 use Rattle.events.specs.Text.{F, L, line, numberOf, numbersOf, pixelsOf}

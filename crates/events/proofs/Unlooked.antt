@@ -11,7 +11,8 @@ use lib.ListN.{length, take, drop}
 use lib.Seq.{getD-take, take-all, take-take, take-nil, drop-nil}
 use Rattle.chain.specs.Calls.{switchReply}
 use Rattle.chain.specs.declared.station.Station.{Station}
-use Rattle.events.specs.Events.{byteAt, headWanted, cardIn, letterIn, countIn, badSize, kindIn, positionIn, frameWanted, eventWanted, frameFault, switchFault, eventFault, pixelAt, unpacked}
+use Rattle.raster.specs.Pixels.{byteAt, pixelAt, unpacked}
+use Rattle.events.specs.Events.{headWanted, cardIn, letterIn, countIn, badSize, kindIn, positionIn, frameWanted, eventWanted, frameFault, switchFault, eventFault}
 use Rattle.events.specs.Play.{Outcome, answered, framePlayed, called, unlessFault, playedOf}
 use Rattle.events.specs.Program.{eventBytes, headBytes}
 use Rattle.events.specs.Reading.{Unlooked}

@@ -1,13 +1,11 @@
 -- The input of program `station`: a length byte and the card, then events. Assumes nothing.
-use Prim.Native.Nat.{ℕ, zero, suc, _+_, _-_, _*_, _≤_}
+use Prim.Native.Nat.{ℕ, _+_, _-_, _*_, _≤_}
 use mathlib.Core.Bool.{Bool, _||_, cond}
-use mathlib.Core.List.{List, [], _∷_}
+use mathlib.Core.List.{List, []}
 use lib.Dec.{eqb, ltb}
-use lib.ListN.{length, getD, take, drop}
+use lib.ListN.{length, take, drop}
+use Rattle.raster.specs.Pixels.{byteAt}
 use Rattle.events.specs.Text.{F, L, R, S}
-
-abbrev pub byteAt : List ℕ → ℕ → ℕ
-byteAt bytes i = getD bytes i 0
 
 -- ## The card
 
@@ -78,16 +76,3 @@ eventFault bytes =
 pub record Whole (bytes : List ℕ) : Type 0 where
   pub long : 3 + 3 * countIn bytes ≤ length bytes
   pub small : countIn bytes ≤ 1024
-
--- ## Pixels
-
-abbrev pub packed : ℕ → ℕ → ℕ → ℕ
-packed r g b = r * 65536 + g * 256 + b
-
-abbrev pub pixelAt : List ℕ → ℕ → ℕ
-pixelAt bytes i = packed (byteAt bytes i) (byteAt bytes (i + 1)) (byteAt bytes (i + 2))
-
--- n pixels of three bytes
-unfoldable pub unpacked : ℕ → List ℕ → List ℕ
-unpacked zero bytes = []
-unpacked (suc n) bytes = pixelAt bytes 0 ∷ unpacked n (drop 3 bytes)

@@ -8,7 +8,8 @@ use Rattle.chain.specs.Calls.{Report, refusal, acceptance, Reply, Framed, reset
 use Rattle.chain.specs.declared.station.Answer.{Answer}
 use Rattle.chain.specs.declared.station.Answer.the-variants.{Accepted, Refused}
 use Rattle.chain.specs.declared.station.Station.{Station}
-use Rattle.events.specs.Events.{letterIn, widthIn, heightIn, countIn, kindIn, positionIn, eventFault, unpacked}
+use Rattle.raster.specs.Pixels.{unpacked}
+use Rattle.events.specs.Events.{letterIn, widthIn, heightIn, countIn, kindIn, positionIn, eventFault}
 use Rattle.events.specs.Text.{F, L, R, S, E, numberOf, numbersOf, pixelsOf, line}
 
 -- ## Lines

@@ -19,7 +19,8 @@ use Rattle.chain.specs.Passes.{passAt, scanlinesAt}
 use Rattle.chain.specs.Records.{recordAt}
 use Rattle.chain.specs.Settings.{finiteAt, limitedAt}
 use Rattle.chain.specs.Step.{refuseIf}
-use Rattle.events.specs.Events.{headWanted, cardIn, outside, frameWanted, eventWanted, frameFault, eventFault, unpacked}
+use Rattle.raster.specs.Pixels.{unpacked}
+use Rattle.events.specs.Events.{headWanted, cardIn, outside, frameWanted, eventWanted, frameFault, eventFault}
 use Rattle.events.specs.Play.{called, unlessFault, playedOf}
 use Rattle.events.specs.Program.{eventLines, printed}
 use Rattle.events.specs.Text.{F, R, E, space, newline, decimal, pixelsOf}

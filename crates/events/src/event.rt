@@ -1,17 +1,10 @@
 // The input: a length byte and the card, then events. How many bytes each takes, and what is wrong with it.
 ghost use mathlib.Core.Path.{_≡_};
 ghost use mathlib.Core.Bool.{_||_};
-ghost use Prim.Native.Nat.{_+_, _*_, _<_, _≤_};
+ghost use Prim.Native.Nat.{_<_, _≤_};
 ghost use lib.ListN.{length};
 ghost use Rattle.events.specs.Events as Events;
-
-// Byte i.
-pub(crate) fn at(bytes: &[u8], i: usize) -> usize
-    requires { ⌜ i < length (now bytes) ⌝ }
-    ensures { λ r. ⌜ (r ≡ Events.byteAt (now (bytes .entry)) i) × (r ≤ 255) ⌝ }
-{
-    bytes[i] as usize
-}
+use raster::pixels::at;
 
 // How many bytes the length byte and the card take, as far as these bytes tell.
 pub fn head_wanted(bytes: &[u8]) -> usize
@@ -109,28 +102,5 @@ pub(crate) fn event_fault(bytes: &[u8]) -> u8
         b'S' => switch_fault(bytes),
         b'R' | b'L' => 0,
         _ => 1,
-    }
-}
-
-// The pixel of the three bytes from i on.
-fn pixel(bytes: &[u8], i: usize) -> u32
-    requires { ⌜ i + 2 < length (now bytes) ⌝ }
-    ensures { λ r. ⌜ r ≡ Events.pixelAt (now (bytes .entry)) i ⌝ }
-{
-    let red = at(bytes, i);
-    let green = at(bytes, i + 1);
-    let blue = at(bytes, i + 2);
-    (red * 65536 + green * 256 + blue) as u32
-}
-
-// The words of a frame, from three bytes each.
-pub(crate) fn unpack(frame: &mut [u32], bytes: &[u8])
-    requires { ⌜ 3 * length (now frame) ≤ length (now bytes) ⌝ }
-    ensures { λ _. ⌜ now (frame .exit) ≡ Events.unpacked (length (now (frame .entry))) (now (bytes .entry)) ⌝ }
-{
-    let mut i = 0;
-    while i < frame.len() {
-        frame[i] = pixel(bytes, 3 * i);
-        i += 1;
     }
 }

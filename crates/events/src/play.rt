@@ -6,15 +6,14 @@ ghost use lib.ListN.{length};
 ghost use Rattle.chain.specs.Answers.{reported, reportedStep};
 ghost use Rattle.chain.specs.Calls.{resetReply, switchReply, stepReply, frameReply};
 ghost use Rattle.chain.specs.Card.{openOf};
-ghost use Rattle.events.specs.Events.{cardIn, unpacked, Whole};
+ghost use Rattle.events.specs.Events.{cardIn, Whole};
 ghost use Rattle.events.specs.Play.{spoken, pictured, openText, isOpen, shown, framePlayed, playedOf};
 ghost use Rattle.events.specs.Buffers.{Printed};
 ghost use Rattle.events.specs.Promises.{Lent, Room, Says, Gives};
 ghost use Rattle.events.specs.Text.{L, R, S};
-use super::event::at;
+ghost use Rattle.raster.specs.Pixels.{unpacked};
 use super::event::event_fault;
 use super::event::head_wanted;
-use super::event::unpack;
 use super::text::frame_line;
 use super::text::letter_line;
 use super::text::number_line;
@@ -24,6 +23,8 @@ use chain::reader;
 use chain::reader::Opened;
 use chain::station::Answer;
 use chain::station::Station;
+use raster::pixels::at;
+use raster::pixels::unpack;
 
 pub struct Played {
     pub station: Station,

@@ -6,7 +6,7 @@ use native.Mathlib.Omega.{arith}
 use lib.ListN.{length}
 use Rattle.chain.specs.Answers.{reported}
 use Rattle.chain.specs.Calls.{framed}
-use Rattle.events.specs.Events.{unpacked}
+use Rattle.raster.specs.Pixels.{unpacked}
 use Rattle.events.proofs.Spoken.{shows, same-reply}
 use Rattle.events.proofs.play.show.Statement.{statement}
 use Rattle.events.proofs.play.show.Tie as tie

@@ -1,9 +1,9 @@
--- `events::event::at` meets its contract: a byte is below 256. Assumes nothing.
+-- `raster::pixels::at` meets its contract: a byte is below 256. Assumes nothing.
 use borrow.Author.Needs.{needs}
 use mathlib.Core.Path.{refl}
 use native.Mathlib.Omega.{arith}
-use Rattle.events.proofs.event.at.Statement.{statement}
-use Rattle.events.proofs.event.at.Tie as tie
+use Rattle.raster.proofs.pixels.at.Statement.{statement}
+use Rattle.raster.proofs.pixels.at.Tie as tie
 
 cast-result : tie.Need-cast-result
 cast-result c = omega (arith, c .shared-slice-known .given (c .before .args .i))

@@ -1,16 +1,16 @@
--- `events::event::unpack` meets its contract: pixel after pixel. Assumes nothing.
+-- `raster::pixels::unpack` meets its contract: pixel after pixel. Assumes nothing.
 use Prim.Native.Nat.{_-_}
 use native.Mathlib.Omega.{arith}
 use lib.ListN.{length}
-use Rattle.events.proofs.Pixels.{Stored, none, more, all}
-use Rattle.events.proofs.event.unpack.Statement.{statement}
-use Rattle.events.proofs.event.unpack.Tie as tie
+use Rattle.raster.proofs.Unpacking.{Stored, none, more, all}
+use Rattle.raster.proofs.pixels.unpack.Statement.{statement}
+use Rattle.raster.proofs.pixels.unpack.Tie as tie
 
 abbrev Inv-loop : tie.InvT-loop
-Inv-loop frame₀ bytes i₀ frame i = Stored i bytes frame₀ frame
+Inv-loop words₀ bytes i₀ words i = Stored i bytes words₀ words
 
 abbrev μ-loop : tie.MeasureT-loop
-μ-loop frame₀ bytes i₀ frame i = length frame₀ - i
+μ-loop words₀ bytes i₀ words i = length words₀ - i
 
 pub unpack-spec : {M : Type 1} → statement M
 unpack-spec =

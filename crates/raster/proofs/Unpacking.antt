@@ -1,4 +1,4 @@
--- Pixels, one by one: a loop that has stored the first i. Assumes nothing.
+-- Words from bytes, one by one: a loop that has stored the first i. Assumes nothing.
 use Prim.Native.Nat.{ℕ, zero, suc, _+_, _*_, _≤_, _<_}
 use mathlib.Core.Path.{_≡_, refl, sym, ap, _∙_}
 use mathlib.Core.List.{List, [], _∷_, _++_, append-nil}
@@ -7,7 +7,7 @@ use native.Mathlib.Numerals.{add-one}
 use native.Mathlib.Omega.{arith}
 use lib.ListN.{length, set, drop, length-set}
 use lib.Seq.{getD-drop, drop-length}
-use Rattle.events.specs.Events.{byteAt, pixelAt, unpacked}
+use Rattle.raster.specs.Pixels.{byteAt, pixelAt, unpacked}
 
 module _ (bytes : List ℕ) (i : ℕ) where
   byte-on : (k : ℕ) → byteAt (drop 3 bytes) (3 * i + k) ≡ byteAt bytes (3 * suc i + k)
