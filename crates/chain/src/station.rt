@@ -68,7 +68,7 @@ pub enum Answer {
 }
 
 // The kind number of a pass.
-pub(crate) fn kind_of(pass: Pass) -> u8
+pub fn kind_of(pass: Pass) -> u8
     ensures { λ r. ⌜ r ≡ kindOf pass ⌝ }
 {
     match pass {

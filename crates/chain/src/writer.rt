@@ -37,7 +37,7 @@ pub(crate) fn put(s: Sheet, width: usize, v: u32) -> Sheet
 }
 
 // The bits of a float; every NaN by the one pattern of the definition.
-pub(crate) fn real_bits(x: f32) -> u32
+pub fn real_bits(x: f32) -> u32
     ensures { λ r. ⌜ r ≡ toBits binary32 x ⌝ }
 {
     if x != x {

@@ -1,0 +1,2 @@
+-- The settings of a pass: Settings.
+pub mod Settings
