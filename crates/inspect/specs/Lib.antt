@@ -1,2 +1,3 @@
--- The settings of a pass: Settings.
+-- The settings of a pass: Settings. The first difference of two chains: Difference.
 pub mod Settings
+pub mod Difference

@@ -1,2 +1,3 @@
-// What a desk program decides about cards.
-pub mod settings; // the settings of a pass, one by one
+// What a desk program decides about cards: the settings of a pass one by one, the first difference of two cards.
+pub mod settings; // the settings of a pass
+pub mod difference; // the first difference of two chains
