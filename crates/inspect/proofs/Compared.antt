@@ -13,7 +13,6 @@ use Rattle.chain.proofs.Scans.{past}
 use Rattle.chain.specs.declared.station.Record.{Record}
 use Rattle.inspect.specs.Settings.{placed}
 use Rattle.inspect.specs.Difference.{isAlike, firstOf, sameSetting, settingsDifference, recordDifference, chainDifference}
-use Rattle.inspect.specs.declared.difference.Difference.{Difference}
 use Rattle.inspect.specs.declared.difference.Difference.the-variants.{Alike, Length}
 use Rattle.inspect.specs.declared.difference.Difference.the-variants as differs
 use Rattle.inspect.specs.declared.settings.Setting.{Setting}

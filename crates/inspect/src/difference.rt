@@ -22,7 +22,7 @@ pub enum Difference {
     Kind(usize),
     // They are of one kind, and one is on, the other off.
     Switch(usize),
-    // They are of one kind, both on or both off, and differ in the setting at the second place.
+    // They are of one kind and both on or both off, and of their settings the one at the second number is the first that differs.
     Setting(usize, usize),
 }
 
@@ -38,7 +38,7 @@ fn is_alike(d: Difference) -> bool
     }
 }
 
-// Real settings by their bits, whole ones as numbers.
+// Real settings by their bits, as they stand on a card, and not as numbers: a NaN is the same as itself. Whole ones as numbers.
 fn same_setting(a: Setting, b: Setting) -> bool
     ensures { λ r. ⌜ r ≡ sameSetting a b ⌝ }
 {

@@ -115,7 +115,7 @@ fn fill(text: &[u8], out: &mut [u8])
     }
 }
 
-// The bytes of a text at the start of the buffer, and how many they are. Where there are none to give nothing is written.
+// The bytes of a text at the start of the buffer, and how many they are. On any other answer nothing is written.
 pub fn decode(text: &[u8], out: &mut [u8]) -> Decoded
     ensures { λ r. ⌜ (r ≡ decodeAnswer (now (text .entry)) (now (out .entry))) × (now (out .exit) ≡ decodeInto (now (text .entry)) (now (out .entry))) ⌝ }
 {

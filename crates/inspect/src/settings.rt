@@ -28,14 +28,15 @@ fn place(j: usize, a: Setting, b: Setting, c: Setting, d: Setting) -> Setting
 pub fn setting_at(pass: Pass, j: usize) -> Setting
     ensures { λ r. ⌜ r ≡ settingOf pass j ⌝ }
 {
+    let none = Setting::Absent;
     match pass {
         Pass::Ntsc { strength, bleed } => {
             place(
                 j,
                 Setting::Real(strength),
                 Setting::Whole(bleed),
-                Setting::Absent,
-                Setting::Absent,
+                none,
+                none,
             )
         }
         Pass::Bloom {
@@ -48,7 +49,7 @@ pub fn setting_at(pass: Pass, j: usize) -> Setting
                 Setting::Whole(threshold),
                 Setting::Real(strength),
                 Setting::Whole(radius),
-                Setting::Absent,
+                none,
             )
         }
         Pass::AutoGradient {
@@ -61,36 +62,22 @@ pub fn setting_at(pass: Pass, j: usize) -> Setting
                 Setting::Real(strength),
                 Setting::Real(vertical),
                 Setting::Real(horizontal),
-                Setting::Absent,
+                none,
             )
         }
         Pass::Persistence { amount, depth } => {
-            place(
-                j,
-                Setting::Real(amount),
-                Setting::Whole(depth),
-                Setting::Absent,
-                Setting::Absent,
-            )
+            place(j, Setting::Real(amount), Setting::Whole(depth), none, none)
         }
         Pass::Lut { preset, strength } => {
             place(
                 j,
                 Setting::Whole(preset),
                 Setting::Real(strength),
-                Setting::Absent,
-                Setting::Absent,
+                none,
+                none,
             )
         }
-        Pass::Curvature { amount } => {
-            place(
-                j,
-                Setting::Real(amount),
-                Setting::Absent,
-                Setting::Absent,
-                Setting::Absent,
-            )
-        }
+        Pass::Curvature { amount } => { place(j, Setting::Real(amount), none, none, none) }
         Pass::ColorCorrection {
             brightness,
             contrast,
@@ -105,32 +92,8 @@ pub fn setting_at(pass: Pass, j: usize) -> Setting
                 Setting::Real(gamma),
             )
         }
-        Pass::Crt { strength } => {
-            place(
-                j,
-                Setting::Real(strength),
-                Setting::Absent,
-                Setting::Absent,
-                Setting::Absent,
-            )
-        }
-        Pass::Vignette { strength } => {
-            place(
-                j,
-                Setting::Real(strength),
-                Setting::Absent,
-                Setting::Absent,
-                Setting::Absent,
-            )
-        }
-        Pass::Scanlines { strength } => {
-            place(
-                j,
-                Setting::Real(strength),
-                Setting::Absent,
-                Setting::Absent,
-                Setting::Absent,
-            )
-        }
+        Pass::Crt { strength } => { place(j, Setting::Real(strength), none, none, none) }
+        Pass::Vignette { strength } => { place(j, Setting::Real(strength), none, none, none) }
+        Pass::Scanlines { strength } => { place(j, Setting::Real(strength), none, none, none) }
     }
 }

@@ -1,15 +1,15 @@
 -- `inspect::hexadecimal::fill` meets its contract: the bytes that are read stand at the start of the buffer. Assumes nothing.
 use borrow.Author.Needs.{needs}
-use Prim.Native.Nat.{ℕ, suc, _+_, _-_, _≤_, _<_}
+use Prim.Native.Nat.{ℕ, suc, _+_, _-_, _<_}
 use native.Mathlib.Numerals.{add-one}
 use native.Mathlib.Omega.{arith}
 use mathlib.Core.List.{List, [], _∷_, _++_}
-use mathlib.Core.Path.{_≡_, refl, ap, sym, subst, _∙_}
+use mathlib.Core.Path.{_≡_, refl, ap, sym, _∙_}
 use denote.Ref.{now}
 use lib.ListN.{length, drop, set, getD, length-append, length-set}
 use lib.Seq.{append-snoc, drop-cons, set-at}
 use Rattle.chain.proofs.Bools.{false-true}
-use Rattle.inspect.specs.Hexadecimal.{Hex, isHex, bytesOf, hexOf}
+use Rattle.inspect.specs.Hexadecimal.{Hex, isHex, bytesOf}
 use Rattle.inspect.proofs.Tokens.{Read, read-none, read-space, read-pair, read-other, read-all, read-few}
 use Rattle.inspect.proofs.hexadecimal.fill.Statement.{statement}
 use Rattle.inspect.proofs.hexadecimal.fill.Tie as tie

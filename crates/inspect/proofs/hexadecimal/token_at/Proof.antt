@@ -1,7 +1,6 @@
 -- `inspect::hexadecimal::token_at` meets its contract. Assumes nothing.
 use native.Mathlib.Omega.{arith}
 use mathlib.Core.Path.{_∙_}
-use denote.Ref.{now}
 use Rattle.inspect.proofs.Tokens.{a-space, a-last, a-pair}
 use Rattle.inspect.proofs.hexadecimal.token_at.Statement.{statement}
 use Rattle.inspect.proofs.hexadecimal.token_at.Tie as tie
