@@ -1,0 +1,123 @@
+-- Worked cases. Each list pairs what a definition gives with what it should give, and one proof by computation holds the whole list. Assumes nothing.
+use Prim.Native.Nat.{ℕ}
+use mathlib.Core.Bool.{true, false}
+use mathlib.Core.List.{List, [], _∷_}
+use mathlib.Core.Path.{refl}
+use lib.Ieee.{Float, nan, ofBits, toBits, lt, eq, neg}
+use lib.ListN.{replicate}
+use Rattle.num.specs.Cases.{Hold}
+use Rattle.num.specs.Const.{c0·0, c0·5, c1·0}
+use Rattle.num.specs.Steps.{clampOf, plusZeroOf, limitOf}
+use Rattle.chain.specs.Step.{refuseIf}
+use Rattle.chain.specs.Bits.{valueAt, fieldAt}
+use Rattle.chain.specs.Settings.{finiteAt, limitedAt}
+use Rattle.chain.specs.Passes.{passAt, scanlinesAt, vignetteAt}
+use Rattle.chain.specs.Records.{recordAt}
+use Rattle.chain.specs.Card.{stationOf, headerAt, recordsAt, endsAt, endAt, stationAt, openOf}
+use Rattle.chain.specs.declared.station.Pass.the-variants.{Bloom, Scanlines}
+use Rattle.chain.specs.declared.station.Record.{Record}
+use Rattle.inspect.specs.Difference.{settingsDifference, recordDifference, chainDifference, differenceOf}
+use Rattle.inspect.specs.Hexadecimal.{digitOf, hexOf, decodeAnswer, decodeInto}
+use Rattle.inspect.specs.declared.difference.Difference.{Difference}
+use Rattle.inspect.specs.declared.difference.Difference.the-variants.{Alike, Length, Kind, Switch, Setting}
+use Rattle.inspect.specs.declared.hexadecimal.Decoded.{Decoded}
+use Rattle.inspect.specs.declared.hexadecimal.Decoded.the-variants.{Bytes, Text, Long}
+
+-- ## The first difference
+
+-- of the chains that two cards open
+abbrev pub between : List ℕ → List ℕ → Difference
+between card other = differenceOf (openOf card .station) (openOf other .station)
+
+-- a card of one pass: the second byte begins with its kind and its switch, and the bits of its one setting follow
+abbrev single : (second third : ℕ) → List ℕ
+single second third = 0x11 ∷ second ∷ third ∷ 0 ∷ 0 ∷ 0 ∷ []
+
+-- Scanlines at 2.0 and at 1.0, at 0.5 and at 1.0; none and one pass; scanlines on and off; scanlines and vignette.
+abbrev pub of-cards : List (Difference × Difference)
+of-cards =
+    (between (single 0xaa 0) (single 0xa9 0xfc), Alike)
+    ∷ (between (single 0xa9 0xf8) (single 0xa9 0xfc), Setting 0 0)
+    ∷ (between (0x10 ∷ []) (single 0xa9 0xfc), Length 0)
+    ∷ (between (single 0xa9 0xfc) (single 0xa1 0xfc), Switch 0)
+    ∷ (between (single 0xa9 0xfc) (single 0x99 0xfc), Kind 0)
+    ∷ []
+
+pub of-cards-hold : Hold of-cards
+unfolding openOf stationAt headerAt fieldAt valueAt refuseIf recordsAt endAt endsAt recordAt passAt scanlinesAt vignetteAt limitedAt finiteAt
+    ofBits toBits lt eq limitOf plusZeroOf clampOf differenceOf chainDifference recordDifference settingsDifference
+of-cards-hold = refl
+
+-- scanlines at a strength, and bloom after them, off, with a radius
+abbrev lines : Float → Record
+lines strength = record { on = true; pass = Scanlines strength }
+
+abbrev glowing : ℕ → Record
+glowing radius = record { on = false; pass = Bloom 128 c0·5 radius }
+
+-- of two chains, in stations as opened
+abbrev chains : List Record → List Record → Difference
+chains rs qs = differenceOf (stationOf rs) (stationOf qs)
+
+-- The third setting of the second pass; one pass more; the first of two differences; 0 and -0, which differ in a bit; a NaN and itself.
+abbrev pub of-chains : List (Difference × Difference)
+of-chains =
+    (chains (lines c1·0 ∷ glowing 3 ∷ []) (lines c1·0 ∷ glowing 4 ∷ []), Setting 1 2)
+    ∷ (chains (lines c1·0 ∷ glowing 3 ∷ []) (lines c1·0 ∷ []), Length 1)
+    ∷ (chains (lines c1·0 ∷ glowing 3 ∷ []) (lines c0·5 ∷ []), Setting 0 0)
+    ∷ (chains (lines c0·0 ∷ []) (lines (neg c0·0) ∷ []), Setting 0 0)
+    ∷ (chains (lines nan ∷ []) (lines nan ∷ []), Alike)
+    ∷ []
+
+pub of-chains-hold : Hold of-chains
+unfolding ofBits toBits neg differenceOf chainDifference recordDifference settingsDifference
+of-chains-hold = refl
+
+-- ## Hexadecimal text
+
+-- The ends of the three ranges of digits, and the bytes beside them.
+abbrev pub digits : List (ℕ × ℕ)
+digits =
+    (digitOf 48, 0)
+    ∷ (digitOf 57, 9)
+    ∷ (digitOf 65, 10)
+    ∷ (digitOf 70, 15)
+    ∷ (digitOf 97, 10)
+    ∷ (digitOf 102, 15)
+    ∷ (digitOf 47, 16)
+    ∷ (digitOf 58, 16)
+    ∷ (digitOf 64, 16)
+    ∷ (digitOf 71, 16)
+    ∷ (digitOf 96, 16)
+    ∷ (digitOf 103, 16)
+    ∷ []
+
+pub digits-hold : Hold digits
+digits-hold = refl
+
+-- the answer, and what is left of a buffer of n sevens
+abbrev pub decoded : List ℕ → ℕ → Decoded × List ℕ
+decoded text n = (decodeAnswer text (replicate n 7), decodeInto text (replicate n 7))
+
+-- `11 a9F800 00 00`: scanlines at 0.5
+abbrev half : List ℕ
+half = 49 ∷ 49 ∷ 32 ∷ 97 ∷ 57 ∷ 70 ∷ 56 ∷ 48 ∷ 48 ∷ 32 ∷ 48 ∷ 48 ∷ 32 ∷ 48 ∷ 48 ∷ []
+
+-- The card, with room to spare, with just enough, and with a byte too little; nothing; two spaces; a pair between spaces; a lone digit; `1g`; `1 1`; a pair and a lone digit.
+abbrev pub texts : List ((Decoded × List ℕ) × (Decoded × List ℕ))
+texts =
+    (decoded half 8, (Bytes 6, 0x11 ∷ 0xa9 ∷ 0xf8 ∷ 0 ∷ 0 ∷ 0 ∷ 7 ∷ 7 ∷ []))
+    ∷ (decoded half 6, (Bytes 6, 0x11 ∷ 0xa9 ∷ 0xf8 ∷ 0 ∷ 0 ∷ 0 ∷ []))
+    ∷ (decoded half 5, (Long, replicate 5 7))
+    ∷ (decoded [] 2, (Bytes 0, replicate 2 7))
+    ∷ (decoded (32 ∷ 32 ∷ []) 2, (Bytes 0, replicate 2 7))
+    ∷ (decoded (32 ∷ 49 ∷ 49 ∷ 32 ∷ []) 2, (Bytes 1, 0x11 ∷ 7 ∷ []))
+    ∷ (decoded (49 ∷ []) 2, (Text, replicate 2 7))
+    ∷ (decoded (49 ∷ 103 ∷ []) 2, (Text, replicate 2 7))
+    ∷ (decoded (49 ∷ 32 ∷ 49 ∷ []) 2, (Text, replicate 2 7))
+    ∷ (decoded (49 ∷ 49 ∷ 49 ∷ []) 2, (Text, replicate 2 7))
+    ∷ []
+
+pub texts-hold : Hold texts
+unfolding decodeAnswer decodeInto hexOf
+texts-hold = refl

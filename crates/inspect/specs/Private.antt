@@ -1,0 +1,24 @@
+-- What private functions promise one another; cited by no public contract. Assumes nothing.
+use Prim.Native.Nat.{ℕ, _+_, _*_}
+use mathlib.Core.Bool.{cond, _&&_}
+use mathlib.Core.List.{List, [], _∷_}
+use lib.Dec.{eqb}
+use lib.ListN.{length}
+use Rattle.inspect.specs.Hexadecimal.{Hex, bytes, none, digitOf, isDigit, space}
+use Rattle.inspect.specs.declared.hexadecimal.Token.{Token}
+use Rattle.inspect.specs.declared.hexadecimal.Token.the-variants.{Space, Pair, Other}
+use Rattle.inspect.specs.declared.hexadecimal.Counted.{Counted}
+use Rattle.inspect.specs.declared.hexadecimal.Counted.the-variants.{Bytes, Text}
+
+abbrev pub pairOf : ℕ → ℕ → Token
+pairOf a b = cond (isDigit a && isDigit b) (Pair (digitOf a * 16 + digitOf b)) Other
+
+-- what a text begins with
+abbrev pub tokenOf : List ℕ → Token
+tokenOf [] = Other
+tokenOf (a ∷ []) = cond (eqb a space) Space Other
+tokenOf (a ∷ b ∷ rest) = cond (eqb a space) Space (pairOf a b)
+
+abbrev pub countOf : Hex → Counted
+countOf (bytes bs) = Bytes (length bs)
+countOf none = Text
