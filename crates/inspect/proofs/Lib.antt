@@ -1,6 +1,10 @@
--- Laws that the proofs of several functions cite: Arms, Compared, Tokens. The theorems of specs/Claims.antt: Theorems, on SameBits.
+-- Laws that the proofs of several functions cite: Arms, Compared, Tokens; of decimal digits: Digits, Powers, Values. The theorems of specs/Claims.antt: Theorems,
+-- on SameBits.
 pub mod Arms
 pub mod Compared
 pub mod Tokens
+pub mod Digits
+pub mod Powers
+pub mod Values
 pub mod SameBits
 pub mod Theorems

@@ -1,6 +1,7 @@
--- The settings of a pass: Settings. The first difference of two chains: Difference; what is proved of it: Claims. Hexadecimal text: Hexadecimal.
--- What private functions promise: Private. Worked cases: Cases.
+-- The settings of a pass: Settings. Exact decimal digits: Decimal. The first difference of two chains: Difference; what is proved of it: Claims.
+-- Hexadecimal text: Hexadecimal. What private functions promise: Private. Worked cases: Cases.
 pub mod Settings
+pub mod Decimal
 pub mod Difference
 pub mod Claims
 pub mod Hexadecimal

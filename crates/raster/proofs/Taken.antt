@@ -74,19 +74,19 @@ neither true b h = let z : _≡_ {A = ℕ} 0 1 = cc in absurd (omega arith)
 neither false b h = (refl, h)
 
 -- no test refused it
-whole : (most : ℕ) (bytes : List ℕ) (w h start : ℕ) → (eqb w 0 || eqb h 0) ≡ false → (ltb 1024 w || (ltb 1024 h || ltb most (w * h))) ≡ false
-    → ltb (length bytes) (start + 3 * (w * h)) ≡ false → ltb (start + 3 * (w * h)) (length bytes) ≡ false → Whole most bytes w h start
+whole : (most : ℕ) (bytes : List ℕ) (w h start : ℕ) → (eqb w 0 || eqb h 0) ≡ false → (ltb 1024 w || (ltb 1024 h || ltb most (h * w))) ≡ false
+    → ltb (length bytes) (start + 3 * (h * w)) ≡ false → ltb (start + 3 * (h * w)) (length bytes) ≡ false → Whole most bytes w h start
 whole most bytes w h start sides fits there ends =
     let zero = neither (eqb w 0) (eqb h 0) sides in
-    let wide = neither (ltb 1024 w) (ltb 1024 h || ltb most (w * h)) fits in
-    let high = neither (ltb 1024 h) (ltb most (w * h)) (wide .1) in
+    let wide = neither (ltb 1024 w) (ltb 1024 h || ltb most (h * w)) fits in
+    let high = neither (ltb 1024 h) (ltb most (h * w)) (wide .1) in
     record {
       some-width = omega (arith, eqb-false w 0 (zero .0));
       some-height = omega (arith, eqb-false h 0 (zero .1));
       small-width = ltb-false _ _ (wide .0);
       small-height = ltb-false _ _ (high .0);
       few = ltb-false _ _ (high .1);
-      ends = omega (arith, ltb-false (length bytes) (start + 3 * (w * h)) there, ltb-false (start + 3 * (w * h)) (length bytes) ends);
+      ends = omega (arith, ltb-false (length bytes) (start + 3 * (h * w)) there, ltb-false (start + 3 * (h * w)) (length bytes) ends);
     }
 
 -- whatever an answer takes is whole

@@ -41,8 +41,8 @@ pub record Whole (most : ℕ) (bytes : List ℕ) (width height start : ℕ) : Ty
   pub some-height : 1 ≤ height
   pub small-width : width ≤ 1024
   pub small-height : height ≤ 1024
-  pub few : width * height ≤ most
-  pub ends : start + 3 * (width * height) ≡ length bytes
+  pub few : height * width ≤ most
+  pub ends : start + 3 * (height * width) ≡ length bytes
 
 abbrev pub TakenWhole : Type 0
 TakenWhole = (most : ℕ) (bytes : List ℕ) (width height start : ℕ) → parseOf most bytes ≡ Frame width height start → Whole most bytes width height start

@@ -150,13 +150,13 @@ headerIn bytes = do
 
 -- how many bytes the pixels have
 abbrev pub bytesIn : Size → ℕ
-bytesIn s = 3 * (s .width * s .height)
+bytesIn s = 3 * (s .height * s .width)
 
 unfoldable pub frameIn : ℕ → List ℕ → Reader Size
 frameIn most bytes = do
   s ← headerIn bytes
   refuseIf emptyPicture (eqb (s .width) 0 || eqb (s .height) 0)
-  refuseIf tooLarge (ltb 1024 (s .width) || (ltb 1024 (s .height) || ltb most (s .width * s .height)))
+  refuseIf tooLarge (ltb 1024 (s .width) || (ltb 1024 (s .height) || ltb most (s .height * s .width)))
   start ← place
   refuseIf pixelsCut (ltb (length bytes) (start + bytesIn s))
   refuseIf leftOver (ltb (start + bytesIn s) (length bytes))

@@ -233,7 +233,7 @@ pub fn parse(bytes: &[u8], most: usize) -> Parsed
     if 1024 < height {
         return Parsed::Refused(TOO_LARGE);
     }
-    let count = width * height;
+    let count = height * width;
     if most < count {
         return Parsed::Refused(TOO_LARGE);
     }

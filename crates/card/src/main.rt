@@ -1,0 +1,52 @@
+// Program `card`: prints one card or two in words. What it prints of a card is decided by proved functions: whether it is opened and where reading stopped
+// (chain::reader), its normalised bytes (chain::writer), its settings one by one, their exact decimal digits, and the first difference of two cards (inspect).
+mod names; // passes, settings and presets by name
+mod numbers; // numbers in decimal and hexadecimal
+mod show; // a card in words
+mod compare; // two cards
+
+use cli::input;
+use libc::STDERR_FILENO;
+
+fn usage() {
+    io::write_all(
+        STDERR_FILENO,
+        b"usage: card CARD [CARD]   (a card is a file, or its bytes in hexadecimal, as \"11 A9 FC 00 00 00\")\n",
+    );
+}
+
+fn one() {
+    let mut card = io::buffer();
+    let loaded = input::card(1, &mut card);
+    if !loaded.ok {
+        return;
+    }
+    let n = loaded.length;
+    show::titled(1, &card[..n]);
+}
+
+fn two() {
+    let mut card = io::buffer();
+    let loaded = input::card(1, &mut card);
+    if !loaded.ok {
+        return;
+    }
+    let n = loaded.length;
+    let mut other = io::buffer();
+    let loaded = input::card(2, &mut other);
+    if !loaded.ok {
+        return;
+    }
+    let m = loaded.length;
+    show::titled(1, &card[..n]);
+    show::titled(2, &other[..m]);
+    compare::compared(&card[..n], &other[..m]);
+}
+
+fn main() {
+    match os::arg_count() {
+        2 => one(),
+        3 => two(),
+        _ => usage(),
+    }
+}

@@ -1,0 +1,138 @@
+// A card in words: its passes in order, or why it is refused; then its normalised bytes.
+use crate::names;
+use crate::names::text;
+use crate::numbers;
+use chain::reader;
+use chain::station::Answer;
+use chain::station::Record;
+use chain::station::Station;
+use chain::station::kind_of;
+use chain::writer;
+use chain::writer::Written;
+use cli::input;
+use cli::words;
+use inspect::settings::Setting;
+use inspect::settings::setting_at;
+use libc::STDOUT_FILENO;
+
+// The value of a setting of that kind of pass.
+pub fn value(kind: u8, s: Setting) {
+    match s {
+        Setting::Real(x) => numbers::exact(x),
+        Setting::Whole(v) => {
+            numbers::byte(v);
+            if kind == 5 {
+                names::preset(v);
+            }
+        }
+        Setting::Absent => text(b"none"),
+    }
+}
+
+fn is_there(s: Setting) -> bool {
+    match s {
+        Setting::Real(_) => true,
+        Setting::Whole(_) => true,
+        Setting::Absent => false,
+    }
+}
+
+// The setting at place j of the pass of a record, if it has one.
+fn setting(r: Record, j: usize) {
+    let pass = r.pass;
+    let s = setting_at(pass, j);
+    if !is_there(s) {
+        return;
+    }
+    if j == 0 {
+        text(b": ");
+    } else {
+        text(b", ");
+    }
+    let kind = kind_of(pass);
+    names::setting(kind, j);
+    text(b" ");
+    value(kind, s);
+}
+
+// A line for the pass at place i, counted from 1. No pass has more than four settings.
+fn record(r: Record, i: usize) {
+    text(b"  ");
+    numbers::whole(i);
+    text(b"  ");
+    let pass = r.pass;
+    let on = r.on;
+    names::kind(kind_of(pass));
+    text(b", ");
+    names::switch(on);
+    setting(r, 0);
+    setting(r, 1);
+    setting(r, 2);
+    setting(r, 3);
+    text(b"\n");
+}
+
+// A line for each pass of the chain.
+fn passes(station: Station) {
+    let n = station.n;
+    let records = station.records;
+    if n == 0 {
+        text(b"  no pass: the picture is the frame\n");
+    }
+    let mut i = 0;
+    while i < 10 {
+        if i < n {
+            let r = records[i];
+            record(r, i + 1);
+        }
+        i += 1;
+    }
+}
+
+// The card as every card of this station is written.
+fn normalised(station: Station) {
+    let mut card = [0u8; 72];
+    let written = writer::write(station, &mut card);
+    match written {
+        Written::Length(n) => {
+            text(b"  normalised:");
+            prefix(&card, n);
+            text(b"\n");
+        }
+        Written::Refused(_) => text(b"  no card\n"),
+    }
+}
+
+// The first n bytes, as far as there are so many.
+fn prefix(card: &[u8], n: usize) {
+    if n <= card.len() {
+        numbers::bytes(&card[..n]);
+    }
+}
+
+// The card in words.
+fn described(card: &[u8]) {
+    let opened = reader::open(card);
+    let answer = opened.answer;
+    let station = opened.station;
+    match answer {
+        Answer::Accepted => {
+            passes(station);
+            normalised(station);
+        }
+        Answer::Refused(k) => {
+            text(b"  ");
+            words::refused(STDOUT_FILENO, card, k);
+        }
+    }
+}
+
+// The card that argument i gave, below that argument.
+pub fn titled(i: usize, card: &[u8]) {
+    let mut name = io::buffer();
+    let given = input::argument(i, &mut name);
+    let n = given.length;
+    text(&name[..n]);
+    text(b"\n");
+    described(card);
+}

@@ -1,0 +1,104 @@
+// A file that holds one frame as binary PPM, under a station: the frame's pixels are replaced by the picture's, and the header stays.
+ghost use mathlib.Core.Path.{_≡_};
+ghost use Prim.Native.Nat.{_*_};
+ghost use lib.ListN.{length};
+ghost use Rattle.raster.specs.Pixels.{unpacked};
+ghost use Rattle.chain.specs.Answers.{reported};
+ghost use Rattle.chain.specs.Calls.{frameReply};
+ghost use Rattle.frames.specs.Frames.{Room, Shows, Filters, filteredOf, outcomeOf, numberOf};
+use chain::pipeline;
+use chain::station::Answer;
+use chain::station::Station;
+use raster::pixels;
+use raster::ppm;
+use raster::ppm::Parsed;
+
+// What became of a file.
+pub enum Outcome {
+    // It holds the picture.
+    Shown,
+    // It is no frame that can be taken, by the number of raster::ppm.
+    NoFrame(u8),
+    // The station refused the frame, by the number of document 01's table.
+    Refused(u8),
+}
+
+pub struct Filtered {
+    pub outcome: Outcome,
+    pub station: Station,
+}
+
+fn answered(answer: Answer) -> Outcome
+    ensures { λ r. ⌜ r ≡ outcomeOf (reported answer) ⌝ }
+{
+    match answer {
+        Answer::Accepted => Outcome::Shown,
+        Answer::Refused(k) => Outcome::Refused(k),
+    }
+}
+
+// A frame: its pixels and its words, just as many as it has.
+fn show(
+    station: Station,
+    pixels: &mut [u8],
+    width: usize,
+    height: usize,
+    words: &mut [u32],
+    history: &mut [u32],
+    floats: &mut [f32],
+    ints: &mut [u32],
+) -> Filtered
+    requires { ⌜ Room (height * width) (now words) (now pixels) ⌝ }
+    ensures { λ r. ⌜ Shows (frameReply width height station (unpacked (height * width) (now (pixels .entry))) (now (history .entry)) (length (now (floats .entry))) (length (now (ints .entry)))) r (now (pixels .exit)) (now (words .exit)) (now (history .exit)) ⌝ }
+{
+    pixels::unpack(words, pixels);
+    let called = pipeline::apply(station, words, width, height, history, floats, ints);
+    pixels::pack(pixels, words);
+    let answer = called.answer;
+    let after = called.station;
+    Filtered {
+        outcome: answered(answer),
+        station: after,
+    }
+}
+
+// The number of a refusal.
+fn number(r: Parsed) -> u8
+    ensures { λ k. ⌜ k ≡ numberOf r ⌝ }
+{
+    match r {
+        Parsed::Frame(_, _, _) => 0,
+        Parsed::Refused(k) => k,
+    }
+}
+
+// Filters the frame that the file holds. A frame may have as many pixels as there are words.
+pub fn filter(
+    station: Station,
+    file: &mut [u8],
+    words: &mut [u32],
+    history: &mut [u32],
+    floats: &mut [f32],
+    ints: &mut [u32],
+) -> Filtered
+    ensures { λ r. ⌜ Filters (filteredOf station (now (file .entry)) (now (words .entry)) (now (history .entry)) (length (now (floats .entry))) (length (now (ints .entry)))) r (now (file .exit)) (now (words .exit)) (now (history .exit)) ⌝ }
+{
+    let r = ppm::parse(file, words.len());
+    let Parsed::Frame(width, height, start) = r else {
+        return Filtered {
+            outcome: Outcome::NoFrame(number(r)),
+            station,
+        };
+    };
+    let count = height * width;
+    show(
+        station,
+        &mut file[start..],
+        width,
+        height,
+        &mut words[..count],
+        history,
+        floats,
+        ints,
+    )
+}
