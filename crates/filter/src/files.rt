@@ -1,0 +1,123 @@
+// Frames: read, looked at, and shown.
+ghost use Rattle.io.specs.Counts.{Counts};
+use crate::says;
+use chain::station::Station;
+use cli::input;
+use cli::input::Loaded;
+use frames::Outcome;
+use libc::STDOUT_FILENO;
+use raster::ppm;
+use raster::ppm::Parsed;
+
+// The file that argument i names.
+fn load(i: usize, file: &mut [u8]) -> Loaded
+    ensures { λ r. ⌜ Counts (r .length) (now (file .exit)) ⌝ }
+{
+    let mut name = io::buffer();
+    let given = input::argument(i, &mut name);
+    let n = given.length;
+    input::file(&name[..n], file)
+}
+
+// Why the file is no frame, 0 where it is one. `more` says that it goes on past these bytes, which are as many as any frame that is taken can have.
+fn fault(file: &[u8], more: bool) -> u8 {
+    let parsed = ppm::parse(file, 61440);
+    match parsed {
+        Parsed::Frame(_, _, _) => {
+            if more {
+                return 9;
+            }
+            0
+        }
+        Parsed::Refused(k) => {
+            if more && k == 8 {
+                return 10;
+            }
+            k
+        }
+    }
+}
+
+// Whether argument i names a frame that can be taken; says why not.
+pub fn is_taken(i: usize, file: &mut [u8]) -> bool {
+    let loaded = load(i, file);
+    if !loaded.ok {
+        return false;
+    }
+    let n = loaded.length;
+    let more = loaded.more;
+    let k = fault(&file[..n], more);
+    if k != 0 {
+        says::no_frame(i, k);
+        return false;
+    }
+    true
+}
+
+// The station after a frame, and whether to go on.
+pub struct Turn {
+    pub station: Station,
+    pub more: bool,
+}
+
+// Writes the picture, or says why there is none.
+fn write(i: usize, outcome: Outcome, file: &[u8]) -> bool {
+    match outcome {
+        Outcome::Shown => {
+            let written = io::write_all(STDOUT_FILENO, file);
+            if !written {
+                os::fail(b"standard output");
+            }
+            written
+        }
+        Outcome::NoFrame(k) => {
+            says::no_frame(i, k);
+            false
+        }
+        Outcome::Refused(k) => {
+            says::no_picture(i, k);
+            false
+        }
+    }
+}
+
+// Filters the frame in these bytes and writes the picture.
+fn show(
+    station: Station,
+    i: usize,
+    file: &mut [u8],
+    words: &mut [u32; 61440],
+    history: &mut [u32; 491520],
+    floats: &mut [f32; 368640],
+    ints: &mut [u32; 61440],
+) -> Turn {
+    let filtered = frames::filter(station, file, words, history, floats, ints);
+    let outcome = filtered.outcome;
+    let after = filtered.station;
+    let more = write(i, outcome, file);
+    Turn {
+        station: after,
+        more,
+    }
+}
+
+// The frame that argument i names.
+pub fn play(
+    station: Station,
+    i: usize,
+    file: &mut [u8],
+    words: &mut [u32; 61440],
+    history: &mut [u32; 491520],
+    floats: &mut [f32; 368640],
+    ints: &mut [u32; 61440],
+) -> Turn {
+    let loaded = load(i, file);
+    if !loaded.ok {
+        return Turn {
+            station,
+            more: false,
+        };
+    }
+    let n = loaded.length;
+    show(station, i, &mut file[..n], words, history, floats, ints)
+}
