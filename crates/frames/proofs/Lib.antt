@@ -1,2 +1,3 @@
--- The laws of crate `frames`: Parts, what is lent of a file and of the framebuffer.
+-- What is lent of a file and of the framebuffer: Parts. The theorem of specs/Claims.antt: Kept.
 pub mod Parts
+pub mod Kept
