@@ -44,6 +44,10 @@ fn two() {
 }
 
 fn main() {
+    if input::is_option(1) {
+        usage();
+        return;
+    }
     match os::arg_count() {
         2 => one(),
         3 => two(),

@@ -41,6 +41,15 @@ pub fn argument(i: usize, out: &mut [u8; 4096]) -> Loaded
     }
 }
 
+// Whether argument i begins with `-`. No option is known: it asks for help. A file with such a name is written `./-NAME`.
+pub fn is_option(i: usize) -> bool {
+    let mut name = io::buffer();
+    if os::arg(i, &mut name) == 0 {
+        return false;
+    }
+    name[0] == b'-'
+}
+
 // What the next byte is: 1 where there is one, 0 at the end, below 0 where it cannot be read.
 fn next(fd: i32) -> isize {
     let mut one = [0u8; 1];

@@ -38,20 +38,22 @@ fn fault(file: &[u8], more: bool) -> u8 {
     }
 }
 
-// Whether argument i names a frame that can be taken; says why not.
-pub fn is_taken(i: usize, file: &mut [u8]) -> bool {
+// How many bytes the frame that argument i names has, at the start of the buffer; 0 where it cannot be taken, and then it is said why.
+pub fn taken(i: usize, file: &mut [u8]) -> usize
+    ensures { λ r. ⌜ Counts r (now (file .exit)) ⌝ }
+{
     let loaded = load(i, file);
     if !loaded.ok {
-        return false;
+        return 0;
     }
     let n = loaded.length;
     let more = loaded.more;
     let k = fault(&file[..n], more);
     if k != 0 {
         says::no_frame(i, k);
-        return false;
+        return 0;
     }
-    true
+    n
 }
 
 // The station after a frame, and whether to go on.
@@ -81,8 +83,8 @@ fn write(i: usize, outcome: Outcome, file: &[u8]) -> bool {
     }
 }
 
-// Filters the frame in these bytes and writes the picture.
-fn show(
+// Filters the frame in these bytes, which argument i named, and writes the picture.
+pub fn show(
     station: Station,
     i: usize,
     file: &mut [u8],

@@ -22,7 +22,7 @@ fn usage() {
 fn all_taken(count: usize, file: &mut [u8]) -> bool {
     let mut i = 2;
     while i < count {
-        if !files::is_taken(i, file) {
+        if files::taken(i, file) == 0 {
             return false;
         }
         i += 1;
@@ -55,8 +55,33 @@ fn show_all(station: Station, count: usize, file: &mut [u8]) {
     }
 }
 
+// A single frame, in these bytes.
+fn show_one(station: Station, file: &mut [u8]) {
+    let mut words = memory::words();
+    let mut history = memory::history();
+    let mut floats = memory::floats();
+    let mut ints = memory::ints();
+    files::show(
+        station,
+        2,
+        file,
+        &mut words,
+        &mut history,
+        &mut floats,
+        &mut ints,
+    );
+}
+
+// A single frame is read once, so it may come from a pipe. Several are read twice: all are looked at before the first picture is written.
 fn run(station: Station, count: usize) {
     let mut file = memory::file();
+    if count == 3 {
+        let n = files::taken(2, &mut file);
+        if 0 < n {
+            show_one(station, &mut file[..n]);
+        }
+        return;
+    }
     if all_taken(count, &mut file) {
         show_all(station, count, &mut file);
     }
@@ -74,7 +99,7 @@ fn open(card: &[u8], count: usize) {
 
 fn main() {
     let count = os::arg_count();
-    if count < 3 {
+    if count < 3 || input::is_option(1) {
         usage();
         return;
     }

@@ -13,8 +13,8 @@ abbrev μ-loop : tie.MeasureT-loop
 μ-loop count file₀ i₀ file i = count - i
 
 -- a turn keeps the buffer's length
-kept : (c : tie.After-is-taken Inv-loop μ-loop) → length (c .is-taken .last .1 .0) ≡ length (c .before .before .before .before .before .args .file .now)
-kept c = c .is-taken .kept .1 .0 ∙ c .before .before .before .loop .inv
+kept : (c : tie.After-taken Inv-loop μ-loop) → length (c .taken .last .1 .0) ≡ length (c .before .before .before .before .before .args .file .now)
+kept c = c .taken .kept .1 .0 ∙ c .before .before .before .loop .inv
 
 pub all-taken-spec : {M : Type 1} → statement M
 all-taken-spec =
