@@ -10,7 +10,7 @@ use lib.Ieee.{Float, nan, inf, fin, binary32, up, down, odd, ofFields, ofBits, t
 use lib.Ieee.Bits.{ofBits-toBits}
 use lib.Ieee.Exact.{HasValue, odd-sign}
 use lib.Ieee.Scale.{finite}
-use Rattle.inspect.specs.Decimal.{Units}
+use Rattle.inspect.specs.Private.{Units}
 
 of-bits : (bits b x t : ℕ) → bits % 2 ^ 31 ≡ b → b / 2 ^ 23 ≡ x → b % 2 ^ 23 ≡ t → ofBits binary32 bits ≡ ofFields binary32 (leb (2 ^ 31) bits) x t
 unfolding ofBits

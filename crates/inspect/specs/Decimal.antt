@@ -1,10 +1,9 @@
 -- Decimal digits, the last one first; the number that they write; and what it is for digits and a point to be a binary32 exactly. Assumes nothing.
-use Prim.Native.Nat.{ℕ, _+_, _*_, _%_, _^_, _<_, _≤_}
+use Prim.Native.Nat.{ℕ, _+_, _*_, _^_, _<_, _≤_}
 use mathlib.Core.Path.{_≡_}
 use mathlib.Core.Bool.{true}
 use mathlib.Core.List.{List, [], _∷_}
-use lib.Dec.{leb}
-use lib.Ieee.{Float, binary32, ofBits}
+use lib.Ieee.{Float}
 use lib.Ieee.Exact.{HasValue}
 use lib.Ieee.Scale.{finite}
 use lib.ListN.{length, getD}
@@ -19,10 +18,6 @@ number (d ∷ ds) = d + 10 * number ds
 pub record Digits (ds : List ℕ) : Type 0 where
   pub long : length ds ≡ 150
   pub each : (i : ℕ) → getD ds i 0 < 10
-
--- n units are the size of the value whose pattern is b without its sign; a unit is the smallest positive value, 2 ^ -149
-abbrev pub Units : ℕ → ℕ → Type 0
-Units b n = (bits : ℕ) → bits % 2 ^ 31 ≡ b → HasValue (ofBits binary32 bits) (leb (2 ^ 31) bits) n (2 ^ 149)
 
 -- The digits and the point are x: a finite x has the sign that is given, and its size is the number that the digits write over ten to the number of places.
 pub record Exactly (x : Float) (r : Point) (ds : List ℕ) : Type 0 where

@@ -1,10 +1,10 @@
 // A binary32 number exactly, in decimal digits. A finite one is n / 2^p for whole numbers n and p, and so n * 5^p / 10^p: the digits of n * 5^p, with the
 // point before the last p of them. What the digits say: specs/Decimal.antt.
 ghost use mathlib.Core.Path.{_≡_};
-ghost use mathlib.Core.Bool.{false};
 ghost use Prim.Native.Nat.{_+_, _*_, _^_, _<_, _≤_};
 ghost use lib.ListN.{length};
-ghost use Rattle.inspect.specs.Decimal.{number, Digits, Units, Exactly};
+ghost use Rattle.inspect.specs.Decimal.{number, Digits, Exactly};
+ghost use Rattle.inspect.specs.Private.{Units};
 use chain::writer::real_bits;
 
 // The digits are now those of the number times `by`, and `more`.
