@@ -6,8 +6,6 @@ use cli::input;
 use cli::input::Loaded;
 use frames::Outcome;
 use libc::STDOUT_FILENO;
-use raster::ppm;
-use raster::ppm::Parsed;
 
 // The file that argument i names.
 fn load(i: usize, file: &mut [u8]) -> Loaded
@@ -17,25 +15,6 @@ fn load(i: usize, file: &mut [u8]) -> Loaded
     let given = input::argument(i, &mut name);
     let n = given.length;
     input::file(&name[..n], file)
-}
-
-// Why the file is no frame, 0 where it is one. `more` says that it goes on past these bytes, which are as many as any frame that is taken can have.
-fn fault(file: &[u8], more: bool) -> u8 {
-    let parsed = ppm::parse(file, 61440);
-    match parsed {
-        Parsed::Frame(_, _, _) => {
-            if more {
-                return 9;
-            }
-            0
-        }
-        Parsed::Refused(k) => {
-            if more && k == 8 {
-                return 10;
-            }
-            k
-        }
-    }
 }
 
 // How many bytes the frame that argument i names has, at the start of the buffer; 0 where it cannot be taken, and then it is said why.
@@ -48,7 +27,7 @@ pub fn taken(i: usize, file: &mut [u8]) -> usize
     }
     let n = loaded.length;
     let more = loaded.more;
-    let k = fault(&file[..n], more);
+    let k = frames::fault(&file[..n], more, 61440);
     if k != 0 {
         says::no_frame(i, k);
         return 0;

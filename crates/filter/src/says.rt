@@ -22,7 +22,7 @@ pub fn card(card: &[u8], number: u8) {
     words::refused(STDERR_FILENO, card, number);
 }
 
-// A file that is no frame, by the numbers of raster::ppm; above them, one that has more bytes than any frame.
+// A file that is no frame, by the numbers of raster::ppm, and 10 of frames::fault.
 pub fn no_frame(i: usize, number: u8) {
     name(i);
     match number {

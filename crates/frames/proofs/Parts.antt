@@ -1,9 +1,11 @@
 -- A file taken apart into its header and its pixels, and a framebuffer of which a frame is lent its words. Assumes nothing.
 use Prim.Native.Nat.{ℕ, zero, suc, _+_, _-_, _*_, _≤_}
 use mathlib.Core.Path.{_≡_, refl, sym, ap, ap₂, _∙_, subst}
+use mathlib.Core.Bool.{Bool, true, false}
 use mathlib.Core.List.{List, [], _∷_, _++_, append-nil}
 use native.Mathlib.Nat.{mul-le-mul}
 use native.Mathlib.Omega.{arith}
+use borrow.Author.Tests.{ne-eqb}
 use lib.ListN.{length, take, drop, length-drop}
 use lib.Seq.{length-take-le, take-all, drop-length}
 use Rattle.raster.specs.Claims.{Whole}
@@ -13,7 +15,7 @@ use Rattle.raster.specs.declared.ppm.Parsed.{Parsed}
 use Rattle.raster.specs.declared.ppm.Parsed.the-variants as Parsed
 use Rattle.chain.specs.Calls.{Framed, framed, frameReply}
 use Rattle.chain.specs.declared.station.Station.{Station}
-use Rattle.frames.specs.Frames.{Result, filteredOf, byParsed, numberOf, outcomeOf, Shows, Filters}
+use Rattle.frames.specs.Frames.{Result, filteredOf, byParsed, numberOf, outcomeOf, faultOf, Shows, Filters}
 use Rattle.frames.specs.declared.Outcome.{Outcome}
 use Rattle.frames.specs.declared.Outcome.the-variants.{NoFrame}
 use Rattle.frames.specs.declared.Filtered.{Filtered}
@@ -78,3 +80,18 @@ module _ (s : Station) (file words past : List ℕ) (floats ints : ℕ) where
 -- the count of a frame that is taken
 pub few : (most : ℕ) (file : List ℕ) (w h start : ℕ) → Whole most file w h start → h * w ≤ 1048576
 few most file w h start t = mul-le-mul (t .small-height) (t .small-width)
+
+-- ## Fault: k was told of the first bytes, which is the definition's n
+
+module _ (more : Bool) (k n : ℕ) (told : k ≡ n) where
+  pub fault-all : more ≡ false → k ≡ faultOf more n
+  fault-all e = rw e told
+
+  pub fault-left : more ≡ true → k ≡ 0 → 9 ≡ faultOf more n
+  fault-left e z = rw (e, ← told, z) refl
+
+  pub fault-cut : more ≡ true → k ≡ 8 → 10 ≡ faultOf more n
+  fault-cut e z = rw (e, ← told, z) refl
+
+  pub fault-other : more ≡ true → (k ≡ 0 → ⊥) → (k ≡ 8 → ⊥) → k ≡ faultOf more n
+  fault-other e a b = rw (e, ← told, ne-eqb k 0 a, ne-eqb k 8 b) refl

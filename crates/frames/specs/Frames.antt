@@ -2,10 +2,12 @@
 -- anything, before and after. Assumes nothing.
 use Prim.Native.Nat.{ℕ, _*_}
 use mathlib.Core.Path.{_≡_}
+use mathlib.Core.Bool.{Bool, cond}
 use mathlib.Core.List.{List, _++_}
 use lib.ListN.{length, take, drop}
 use Rattle.raster.specs.Pixels.{unpacked, packedBytes}
-use Rattle.raster.specs.Ppm.{parseOf}
+use lib.Dec.{eqb}
+use Rattle.raster.specs.Ppm.{pixelsCut, leftOver, parseOf}
 use Rattle.raster.specs.declared.ppm.Parsed.{Parsed}
 use Rattle.raster.specs.declared.ppm.Parsed.the-variants as Parsed
 use Rattle.chain.specs.Calls.{Report, refusal, acceptance, Framed, frameReply}
@@ -23,6 +25,14 @@ outcomeOf (acceptance ns) = Shown
 abbrev pub numberOf : Parsed → ℕ
 numberOf (Parsed.Frame w h start) = 0
 numberOf (Parsed.Refused k) = k
+
+-- the file has more bytes than were read, and they end inside the pixels
+abbrev pub unread : ℕ
+unread = 10
+
+-- why a file is no frame, 0 for none: k is told of its first bytes, and `more` says whether there are others
+abbrev pub faultOf : Bool → ℕ → ℕ
+faultOf more k = cond more (cond (eqb k 0) leftOver (cond (eqb k pixelsCut) unread k)) k
 
 pub record Result : Type 0 where
   pub outcome : Outcome

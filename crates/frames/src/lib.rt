@@ -3,9 +3,10 @@ ghost use mathlib.Core.Path.{_≡_};
 ghost use Prim.Native.Nat.{_*_};
 ghost use lib.ListN.{length};
 ghost use Rattle.raster.specs.Pixels.{unpacked};
+ghost use Rattle.raster.specs.Ppm.{parseOf};
 ghost use Rattle.chain.specs.Answers.{reported};
 ghost use Rattle.chain.specs.Calls.{frameReply};
-ghost use Rattle.frames.specs.Frames.{Room, Shows, Filters, filteredOf, outcomeOf, numberOf};
+ghost use Rattle.frames.specs.Frames.{Room, Shows, Filters, filteredOf, outcomeOf, numberOf, faultOf};
 use chain::pipeline;
 use chain::station::Answer;
 use chain::station::Station;
@@ -69,6 +70,23 @@ fn number(r: Parsed) -> u8
     match r {
         Parsed::Frame(_, _, _) => 0,
         Parsed::Refused(k) => k,
+    }
+}
+
+// Why a file is no frame of at most `most` pixels, 0 where it is one. `more` says that the file goes on past these bytes. Where they end inside the pixels it
+// is then not cut off: it has more bytes than were read (10).
+pub fn fault(file: &[u8], more: bool, most: usize) -> u8
+    ensures { λ r. ⌜ r ≡ faultOf more (numberOf (parseOf most (now (file .entry)))) ⌝ }
+{
+    let r = ppm::parse(file, most);
+    let k = number(r);
+    if !more {
+        return k;
+    }
+    match k {
+        0 => 9,
+        8 => 10,
+        _ => k,
     }
 }
 
