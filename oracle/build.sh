@@ -56,12 +56,12 @@ modules() {
     done
 }
 
-# Proves program `station` and leaves it in target/bin. What is proved already is not proved again.
-build_station() {
+# Proves the named programs and leaves them in target/bin. What is proved already is not proved again.
+build_programs() {
     mkdir -p target/oracle || return 1
-    if ! rt check station >target/oracle/station.log 2>&1; then
-        echo "The program was not built. \`rt check station\` said:" >&2
-        cat target/oracle/station.log >&2
+    if ! rt check "$@" >target/oracle/programs.log 2>&1; then
+        echo "The programs were not built. \`rt check $*\` said:" >&2
+        cat target/oracle/programs.log >&2
         return 1
     fi
 }

@@ -1,6 +1,7 @@
 //! The comparison of the number steps with Rust's own, of cards with a reading of document 01, of the
 //! passes with the original's, of program `station` with recorded answers and with a model of document
-//! 01 over the original's pipeline, and of runs of calls with such a model. Beside it the measurement of both.
+//! 01 over the original's pipeline, of program `card` with a text from that reading, of program `filter`
+//! with the original's pipeline, and of runs of calls with such a model. Beside it the measurement of both.
 //! Five scripts build and start it from the repository's root: `oracle/compare`, `oracle/bench`, `oracle/counts`,
 //! `oracle/record` and `oracle/fuzz`. They set `with_original` where they find the original: without it there are
 //! no passes to compare, and no model. `oracle/fuzz` compiles it once more, with `fuzz` set, as a library that
@@ -23,6 +24,7 @@ mod met;
 mod passes;
 mod patterns;
 mod probe;
+mod programs;
 mod race;
 mod random;
 #[cfg(with_original)]
@@ -61,6 +63,8 @@ fn main() -> ExitCode {
         ["runs", "quick"] => only(runs::compare::run, Mode::Quick),
         #[cfg(with_original)]
         ["runs", "full"] => only(runs::compare::run, Mode::Full),
+        ["programs", "quick"] => programs(Mode::Quick),
+        ["programs", "full"] => programs(Mode::Full),
         ["quick"] => compare(Mode::Quick, None),
         ["full"] => compare(Mode::Full, None),
         ["quick", original] => compare(Mode::Quick, Some(Path::new(original))),
@@ -68,7 +72,7 @@ fn main() -> ExitCode {
         _ => {
             eprintln!(
                 "expected: bench; measure and what; record and a file; seeds, station or bridge, and a folder; \
-                 passes or runs, and quick or full; quick or full and then the original's folder, if any"
+                 passes, runs or programs, and quick or full; quick or full and then the original's folder, if any"
             );
             ExitCode::from(2)
         }
@@ -86,8 +90,10 @@ fn compare(mode: Mode, original: Option<&Path>) -> ExitCode {
     }
     steps::run(mode, &mut total);
     cards::compare::run(mode, &mut total);
-    if let Err(what) = station::compare::run(mode, &mut total) {
-        eprintln!("the program was not compared: {what}");
+    let programs = station::compare::run(mode, &mut total)
+        .and_then(|()| programs::compare::run(mode, &mut total));
+    if let Err(what) = programs {
+        eprintln!("the programs were not compared: {what}");
         return ExitCode::FAILURE;
     }
     #[cfg(with_original)]
@@ -103,6 +109,16 @@ fn compare(mode: Mode, original: Option<&Path>) -> ExitCode {
 fn only(part: fn(Mode, &mut Total), mode: Mode) -> ExitCode {
     let mut total = Total::default();
     part(mode, &mut total);
+    verdict(&total)
+}
+
+/// The programs `card` and `filter` by themselves.
+fn programs(mode: Mode) -> ExitCode {
+    let mut total = Total::default();
+    if let Err(what) = programs::compare::run(mode, &mut total) {
+        eprintln!("the programs were not compared: {what}");
+        return ExitCode::FAILURE;
+    }
     verdict(&total)
 }
 

@@ -325,6 +325,8 @@ const SHOWN_BYTES: usize = 400;
 /// The count of inputs to a program.
 pub struct ProgramTally {
     name: &'static str,
+    /// What its inputs are.
+    unit: &'static str,
     inputs: u64,
     lines: u64,
     different: u64,
@@ -334,8 +336,13 @@ pub struct ProgramTally {
 
 impl ProgramTally {
     pub fn new(name: &'static str) -> Self {
+        ProgramTally::of(name, "inputs")
+    }
+
+    pub fn of(name: &'static str, unit: &'static str) -> Self {
         ProgramTally {
             name,
+            unit,
             inputs: 0,
             lines: 0,
             different: 0,
@@ -410,6 +417,7 @@ impl fmt::Display for ProgramTally {
     fn fmt(&self, f: &mut fmt::Formatter) -> fmt::Result {
         let ProgramTally {
             name,
+            unit,
             inputs,
             lines,
             different,
@@ -417,7 +425,109 @@ impl fmt::Display for ProgramTally {
         } = self;
         writeln!(
             f,
-            "{name}: {inputs} inputs, {lines} lines compared, {different} different"
+            "{name}: {inputs} {unit}, {lines} lines compared, {different} different"
+        )?;
+        for (_, text) in shown {
+            writeln!(f, "    different at {text}")?;
+        }
+        Ok(())
+    }
+}
+
+/// What a program wrote to standard output and to standard error.
+type Written<'a> = (&'a [u8], &'a [u8]);
+
+/// The count of runs of files through a program.
+pub struct FileTally {
+    name: &'static str,
+    runs: u64,
+    files: u64,
+    frames: u64,
+    pixels: u64,
+    different: u64,
+    /// The first few differences, each with the place of its run.
+    shown: Vec<(usize, String)>,
+}
+
+impl FileTally {
+    pub fn new(name: &'static str) -> Self {
+        FileTally {
+            name,
+            runs: 0,
+            files: 0,
+            frames: 0,
+            pixels: 0,
+            different: 0,
+            shown: Vec::new(),
+        }
+    }
+
+    /// Counts a run of so many files, which has to show frames of so many pixels each.
+    pub fn begin(&mut self, files: usize, frames: &[usize]) {
+        self.runs += 1;
+        self.files += files as u64;
+        self.frames += frames.len() as u64;
+        self.pixels += frames.iter().sum::<usize>() as u64;
+    }
+
+    /// Holds what the program wrote to what is asked. `at` is the place of the run.
+    pub fn check(
+        &mut self,
+        at: usize,
+        here: Written,
+        asked: Written,
+        what: impl FnOnce() -> String,
+    ) {
+        if here == asked {
+            return;
+        }
+        self.different += 1;
+        if self.shown.len() < SHOWN {
+            let place = (0..).find(|&n| here.0.get(n) != asked.0.get(n) || n >= asked.0.len());
+            let place = place.unwrap_or_default();
+            self.shown.push((
+                at,
+                format!(
+                    "{}: here {} bytes and {:?}, asked {} bytes and {:?}; byte {place}: here {:02x?}, asked {:02x?}",
+                    what(),
+                    here.0.len(),
+                    String::from_utf8_lossy(here.1),
+                    asked.0.len(),
+                    String::from_utf8_lossy(asked.1),
+                    here.0.get(place),
+                    asked.0.get(place)
+                ),
+            ));
+        }
+    }
+
+    /// Adds the count of another thread.
+    pub fn join(&mut self, other: FileTally) {
+        self.runs += other.runs;
+        self.files += other.files;
+        self.frames += other.frames;
+        self.pixels += other.pixels;
+        self.different += other.different;
+        self.shown.extend(other.shown);
+        self.shown.sort_by_key(|&(at, _)| at);
+        self.shown.truncate(SHOWN);
+    }
+}
+
+impl fmt::Display for FileTally {
+    fn fmt(&self, f: &mut fmt::Formatter) -> fmt::Result {
+        let FileTally {
+            name,
+            runs,
+            files,
+            frames,
+            pixels,
+            different,
+            shown,
+        } = self;
+        writeln!(
+            f,
+            "{name}: {runs} runs of {files} files, {frames} frames of {pixels} pixels compared, {different} different"
         )?;
         for (_, text) in shown {
             writeln!(f, "    different at {text}")?;
@@ -536,7 +646,7 @@ impl fmt::Display for RunTally {
     }
 }
 
-/// The count over all steps, cards, passes and inputs of the program.
+/// The count over all steps, cards, passes, calls and inputs of the programs.
 #[derive(Default)]
 pub struct Total {
     compared: u64,
@@ -569,6 +679,15 @@ impl Total {
     pub fn add_programs(&mut self, tally: &ProgramTally) {
         print!("{tally}");
         self.inputs += tally.inputs;
+        self.different += tally.different;
+    }
+
+    /// Prints the count of runs of files and adds it.
+    pub fn add_files(&mut self, tally: &FileTally) {
+        print!("{tally}");
+        self.inputs += tally.runs;
+        self.frames += tally.frames;
+        self.words += tally.pixels;
         self.different += tally.different;
     }
 
@@ -608,7 +727,7 @@ impl fmt::Display for Total {
         }
         write!(
             f,
-            " and {inputs} inputs of the program compared, {different} different"
+            " and {inputs} inputs of the programs compared, {different} different"
         )?;
         if *unmet > 0 {
             write!(f, ", {unmet} cases not met")?;

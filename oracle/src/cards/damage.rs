@@ -122,7 +122,7 @@ fn setting(field: Field, bits: &mut Vec<bool>, random: &mut Random, odd: bool) {
 
 /// The card's bytes, as they are in most cases; else torn at any bit, with a bit changed, with a
 /// padding bit set or with bytes left over.
-fn damaged(mut bits: Vec<bool>, random: &mut Random) -> Vec<u8> {
+pub fn damaged(mut bits: Vec<bool>, random: &mut Random) -> Vec<u8> {
     match random.below(8) {
         0 => bits.truncate(random.below(bits.len() + 1)),
         1 => {

@@ -4,3 +4,4 @@
 pub mod compare;
 pub mod damage;
 pub mod paper;
+pub mod spelling;

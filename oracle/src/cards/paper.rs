@@ -3,6 +3,13 @@
 /// A refusal's number.
 pub type Number = u32;
 
+/// A refusal, and the first bit of the field that is refused; for 7 the bit after the last field.
+#[derive(Clone, Copy)]
+pub struct Refusal {
+    pub number: Number,
+    pub at: usize,
+}
+
 /// A card once it is opened.
 #[derive(Clone)]
 pub struct Opened {
@@ -17,7 +24,7 @@ pub struct Record {
 }
 
 /// A setting once it is normalised.
-#[derive(Clone, Copy)]
+#[derive(Clone, Copy, PartialEq)]
 pub enum Value {
     /// With its bits on the card.
     Whole(u32, usize),
@@ -65,9 +72,9 @@ struct Bits<'a> {
 
 impl Bits<'_> {
     /// A field: torn where its bits run past the end.
-    fn take(&mut self, width: usize) -> Result<u32, Number> {
+    fn take(&mut self, width: usize) -> Result<u32, Refusal> {
         if self.at + width > 8 * self.card.len() {
-            return Err(1);
+            return Err(refusal(1, self.at));
         }
         let bits = (self.at..self.at + width).map(|p| self.card[p / 8] >> (7 - p % 8) & 1);
         self.at += width;
@@ -75,28 +82,33 @@ impl Bits<'_> {
     }
 }
 
+fn refusal(number: Number, at: usize) -> Refusal {
+    Refusal { number, at }
+}
+
 impl Field {
-    fn read(self, bits: &mut Bits) -> Result<Value, Number> {
+    fn read(self, bits: &mut Bits) -> Result<Value, Refusal> {
+        let bad = refusal(6, bits.at);
         match self {
             Field::Byte => Ok(Value::Whole(bits.take(8)?, 8)),
             Field::Count(most) => match bits.take(8)? {
                 0 => Ok(Value::Whole(1, 8)),
                 count if count <= most => Ok(Value::Whole(count, 8)),
-                _ => Err(6),
+                _ => Err(bad),
             },
             Field::Preset => match bits.take(3)? {
-                7 => Err(6),
+                7 => Err(bad),
                 preset => Ok(Value::Whole(preset, 3)),
             },
             Field::Limited(_) | Field::Within(..) | Field::Gain(_) => {
                 let x = f32::from_bits(bits.take(32)?);
                 if !x.is_finite() {
-                    return Err(6);
+                    return Err(bad);
                 }
                 let x = match self {
                     Field::Limited(high) if x > high => high,
-                    Field::Within(low, high) if x < low || x > high => return Err(6),
-                    Field::Gain(high) if x > high => return Err(6),
+                    Field::Within(low, high) if x < low || x > high => return Err(bad),
+                    Field::Gain(high) if x > high => return Err(bad),
                     Field::Limited(_) | Field::Gain(_) if x < 0.0 => 0.0,
                     _ => x,
                 };
@@ -109,23 +121,29 @@ impl Field {
 
 /// Reads a card field by field.
 pub fn open(card: &[u8]) -> Result<Opened, Number> {
+    read(card).map_err(|refusal| refusal.number)
+}
+
+/// The same, with the place of a refusal.
+pub fn read(card: &[u8]) -> Result<Opened, Refusal> {
     let mut bits = Bits { card, at: 0 };
     if bits.take(4)? != 1 {
-        return Err(2);
+        return Err(refusal(2, 0));
     }
     let n = bits.take(4)?;
     if n > 10 {
-        return Err(3);
+        return Err(refusal(3, 4));
     }
     let mut records: Vec<Record> = Vec::new();
     for _ in 0..n {
+        let at = bits.at;
         let kind = bits.take(4)?;
-        let fields = fields(kind).ok_or(4u32)?;
+        let fields = fields(kind).ok_or(refusal(4, at))?;
         if records.iter().any(|record| record.kind == kind) {
-            return Err(5);
+            return Err(refusal(5, at));
         }
         let on = bits.take(1)? == 1;
-        let settings: Result<Vec<Value>, Number> =
+        let settings: Result<Vec<Value>, Refusal> =
             fields.iter().map(|field| field.read(&mut bits)).collect();
         records.push(Record {
             kind,
@@ -134,9 +152,10 @@ pub fn open(card: &[u8]) -> Result<Opened, Number> {
         });
     }
     // Zero bits to the byte's end, and no byte after it.
-    let rest = 8 * card.len() - bits.at;
+    let end = bits.at;
+    let rest = 8 * card.len() - end;
     if rest >= 8 || bits.take(rest)? != 0 {
-        return Err(7);
+        return Err(refusal(7, end));
     }
     Ok(Opened { records })
 }

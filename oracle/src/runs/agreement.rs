@@ -9,6 +9,7 @@ use super::noise::Noise;
 use super::sides::Held;
 use super::station::Station;
 use crate::bridge::{self, Answer, Lent, State};
+use crate::cards::spelling;
 use crate::met::Met;
 use crate::passes::chain::PERSISTENCE;
 use crate::random::Random;
@@ -67,7 +68,7 @@ fn pair(random: &mut Random, met: &mut Met<Point>) -> Held<(Own, Own)> {
     let other = if random.one_in(4) {
         card.clone()
     } else {
-        cards::respelt(&station.opened, random)
+        spelling::respelt(&station.opened, random)
     };
     if card != other {
         met.note(Point::Respelt);

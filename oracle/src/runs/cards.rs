@@ -1,7 +1,8 @@
-//! Cards that are taken, with the settings that the passes are compared on, and other spellings of them.
+//! Cards that are taken, with the settings that the passes are compared on.
 
 use crate::cards::damage::{bytes, chain};
-use crate::cards::paper::{self, put, Field, Opened, Record, Value};
+use crate::cards::paper::{self, put, Field, Record, Value};
+use crate::cards::spelling::head;
 use crate::passes::chain::PERSISTENCE;
 use crate::passes::settings::{self, Setting};
 use crate::passes::table::of_kind;
@@ -34,13 +35,6 @@ fn of(kinds: &[u32], random: &mut Random) -> Vec<u8> {
     bytes(&bits)
 }
 
-fn head(n: usize) -> Vec<bool> {
-    let mut bits = Vec::new();
-    put(&mut bits, 1, 4);
-    put(&mut bits, n as u32, 4);
-    bits
-}
-
 /// A record that a card may hold. Some boundaries of the original's settings lie outside: then again.
 fn record(kind: u32, random: &mut Random) -> Vec<bool> {
     loop {
@@ -69,39 +63,6 @@ fn raw(setting: &Setting, place: usize, field: Field, bits: &mut Vec<bool>) {
         Field::Byte | Field::Count(_) => put(bits, setting.whole(place) as u32, 8),
         Field::Preset => put(bits, setting.whole(place) as u32, 3),
     }
-}
-
-/// Another card that normalises alike, or the same.
-pub fn respelt(opened: &Opened, random: &mut Random) -> Vec<u8> {
-    let mut bits = head(opened.records.len());
-    for record in &opened.records {
-        put(&mut bits, record.kind, 4);
-        put(&mut bits, u32::from(record.on), 1);
-        let fields = paper::fields(record.kind).unwrap_or_default();
-        for (field, value) in fields.iter().zip(&record.settings) {
-            other(*field, *value, &mut bits, random);
-        }
-    }
-    bytes(&bits)
-}
-
-/// A value that becomes the same once it is normalised: beyond an end that it stands at, or the other zero.
-fn other(field: Field, value: Value, bits: &mut Vec<bool>, random: &mut Random) {
-    let x = match value {
-        Value::Whole(1, 8) if matches!(field, Field::Count(_)) => {
-            return put(bits, random.below(2) as u32, 8);
-        }
-        Value::Whole(n, width) => return put(bits, n, width),
-        Value::Float(x) => x,
-    };
-    let far = random.unit() * random.choose(&[1.0, 1e-30, 1e30, f32::MAX]);
-    let spelt = match field {
-        Field::Limited(high) if x == high => random.choose(&[x, x.max(far), f32::MAX]),
-        Field::Limited(_) | Field::Gain(_) if x == 0.0 => random.choose(&[0.0, -0.0, -far]),
-        Field::Within(..) if x == 0.0 => random.choose(&[0.0, -0.0]),
-        _ => x,
-    };
-    put(bits, spelt.to_bits(), 32);
 }
 
 /// Nanoseconds that both sides together take for a word of a frame, very roughly.

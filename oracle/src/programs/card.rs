@@ -1,0 +1,241 @@
+//! What program `card` prints: made from the reading of document 01 in cards/paper.rs alone.
+
+use super::cards::Given;
+use super::cases::{OfCard, OfPair};
+use super::process::Said;
+use crate::cards::paper::{self, Opened, Record, Refusal, Value};
+use crate::met::Met;
+
+/// For one card.
+pub fn one(given: &Given, met: &mut Met<OfCard>) -> Said {
+    met.note(OfCard::Given(given.way));
+    match &given.card {
+        Err(why) => Said::refusal(&given.argument, why),
+        Ok(card) => {
+            note(card, met);
+            Said::output(titled(&given.argument, card))
+        }
+    }
+}
+
+/// For two.
+pub fn two(given: &[Given; 2], met: &mut Met<OfPair>) -> Said {
+    let [first, second] = given;
+    let (one, other) = match (&first.card, &second.card) {
+        (Err(why), _) => {
+            met.note(OfPair::FirstMissing);
+            return Said::refusal(&first.argument, why);
+        }
+        (_, Err(why)) => {
+            met.note(OfPair::SecondMissing);
+            return Said::refusal(&second.argument, why);
+        }
+        (Ok(one), Ok(other)) => (one, other),
+    };
+    let titles = titled(&first.argument, one) + &titled(&second.argument, other);
+    let last = match (paper::open(one), paper::open(other)) {
+        (Err(_), second) => {
+            met.note(match second {
+                Ok(_) => OfPair::FirstRefused,
+                Err(_) => OfPair::BothRefused,
+            });
+            "not compared: the first card is refused".to_string()
+        }
+        (_, Err(_)) => {
+            met.note(OfPair::SecondRefused);
+            "not compared: the second card is refused".to_string()
+        }
+        (Ok(a), Ok(b)) => match difference(&a.records, &b.records, met) {
+            Some(difference) => format!("not alike: {difference}"),
+            None => {
+                met.note(if one == other {
+                    OfPair::Same
+                } else {
+                    OfPair::Respelt
+                });
+                "alike: the two cards show the same picture".to_string()
+            }
+        },
+    };
+    Said::output(titles + &last + "\n")
+}
+
+/// The argument, and the card in words below it.
+fn titled(argument: &str, card: &[u8]) -> String {
+    let words = match paper::read(card) {
+        Ok(opened) => described(&opened),
+        Err(refusal) => format!("  {}\n", refused(refusal)),
+    };
+    format!("{argument}\n{words}")
+}
+
+/// By the table of document 01.
+pub fn refused(Refusal { number, at }: Refusal) -> String {
+    let word = match number {
+        1 => "torn card",
+        2 => "foreign card",
+        3 => "overfull card",
+        4 => "unknown pass",
+        5 => "doubled pass",
+        6 => "bad setting",
+        7 => "long card",
+        _ => panic!("no card is refused by {number}"),
+    };
+    format!("refused: {number}, {word}; reading stopped at bit {at}")
+}
+
+fn described(opened: &Opened) -> String {
+    let mut text = String::new();
+    if opened.records.is_empty() {
+        text.push_str("  no pass: the picture is the frame\n");
+    }
+    for (place, record) in opened.records.iter().enumerate() {
+        let (name, settings) = names(record.kind);
+        let settings = settings.iter().zip(&record.settings);
+        let settings = settings.map(|(setting, &value)| format!("{setting} {}", shown(value)));
+        let settings: Vec<String> = settings.collect();
+        let number = place + 1;
+        let on = switch(record.on);
+        text.push_str(&format!(
+            "  {number}  {name}, {on}: {}\n",
+            settings.join(", ")
+        ));
+    }
+    let bytes = opened.written();
+    let bytes: Vec<String> = bytes.iter().map(|byte| format!("{byte:02X}")).collect();
+    text.push_str(&format!("  normalised: {}\n", bytes.join(" ")));
+    text
+}
+
+/// A pass and its settings, as the paper's table calls them.
+fn names(kind: u32) -> (&'static str, &'static [&'static str]) {
+    match kind {
+        1 => ("NTSC", &["strength", "bleed"]),
+        2 => ("bloom", &["threshold", "strength", "radius"]),
+        3 => ("gradient", &["strength", "vertical", "horizontal"]),
+        4 => ("persistence", &["amount", "depth"]),
+        5 => ("LUT", &["preset", "strength"]),
+        6 => ("curvature", &["amount"]),
+        7 => ("colour", &["brightness", "contrast", "saturation", "gamma"]),
+        8 => ("CRT", &["strength"]),
+        9 => ("vignette", &["strength"]),
+        10 => ("scanlines", &["strength"]),
+        _ => panic!("there is no kind {kind}"),
+    }
+}
+
+/// In the order of `LutPreset`.
+const PRESETS: [&str; 7] = [
+    "identity",
+    "warm CRT",
+    "cool CRT",
+    "composite",
+    "Game Boy",
+    "amber",
+    "high contrast",
+];
+
+fn switch(on: bool) -> &'static str {
+    if on {
+        "on"
+    } else {
+        "off"
+    }
+}
+
+fn shown(value: Value) -> String {
+    match value {
+        // A preset is the only setting of three bits.
+        Value::Whole(preset, 3) => format!("{preset} ({})", PRESETS[preset as usize]),
+        Value::Whole(n, _) => n.to_string(),
+        Value::Float(x) => exact(x),
+    }
+}
+
+/// All digits. No f32 has more than 149 places behind the point.
+fn exact(x: f32) -> String {
+    let text = format!("{x:.149}");
+    let text = text.trim_end_matches('0');
+    text.trim_end_matches('.').to_string()
+}
+
+/// The first difference of two chains.
+fn difference(a: &[Record], b: &[Record], met: &mut Met<OfPair>) -> Option<String> {
+    for place in 0..a.len().max(b.len()) {
+        let pass = format!("pass {}", place + 1);
+        let (r, s) = match (a.get(place), b.get(place)) {
+            (Some(r), Some(s)) => (r, s),
+            (_, None) => {
+                met.note(OfPair::FirstLonger);
+                return Some(format!("{pass} is on the first card only"));
+            }
+            (None, _) => {
+                met.note(OfPair::SecondLonger);
+                return Some(format!("{pass} is on the second card only"));
+            }
+        };
+        let (name, settings) = names(r.kind);
+        if r.kind != s.kind {
+            met.note(OfPair::Kind);
+            return Some(format!("{pass} is {name} and {}", names(s.kind).0));
+        }
+        if r.on != s.on {
+            met.note(OfPair::Switch);
+            let (on, other) = (switch(r.on), switch(s.on));
+            return Some(format!("{pass}, {name}, is {on} and {other}"));
+        }
+        let values = || r.settings.iter().zip(&s.settings);
+        if let Some(place) = values().position(|(x, y)| x != y) {
+            met.note(OfPair::Setting(place));
+            let setting = settings[place];
+            let (x, y) = (shown(r.settings[place]), shown(s.settings[place]));
+            return Some(format!("{pass}, {name}: {setting} {x} and {y}"));
+        }
+    }
+    None
+}
+
+/// What happens at a card.
+fn note(card: &[u8], met: &mut Met<OfCard>) {
+    let opened = match paper::read(card) {
+        Ok(opened) => opened,
+        Err(refusal) => {
+            let rest = 8 * card.len() - refusal.at;
+            return met.note(match refusal.number {
+                1 if rest == 0 => OfCard::TornBefore,
+                1 => OfCard::TornInside,
+                7 if rest < 8 => OfCard::Padding,
+                7 => OfCard::LeftOver,
+                number => OfCard::Refused(number),
+            });
+        }
+    };
+    met.note(if opened.written() == card {
+        OfCard::Normal
+    } else {
+        OfCard::Limited
+    });
+    if opened.records.is_empty() {
+        met.note(OfCard::NoPass);
+    }
+    for record in &opened.records {
+        met.note(OfCard::Pass(record.kind, record.on));
+        for &value in &record.settings {
+            match value {
+                Value::Whole(preset, 3) => met.note(OfCard::Preset(preset)),
+                Value::Whole(..) => {}
+                Value::Float(x) => {
+                    let places = shown(value).split_once('.').map(|(_, places)| places.len());
+                    let cases = [
+                        (x < 0.0, OfCard::Negative),
+                        (x.is_subnormal(), OfCard::Subnormal),
+                        (places == Some(149), OfCard::Longest),
+                    ];
+                    for (_, case) in cases.iter().filter(|(is, _)| *is) {
+                        met.note(*case);
+                    }
+                }
+            }
+        }
+    }
+}

@@ -1,0 +1,205 @@
+//! What may happen at a card, at a pair of cards or at a run of files. A comparison that does not meet all of it has
+//! failed.
+
+use super::cards::Way;
+use crate::met::Listed;
+
+/// At a card.
+#[derive(Clone, Copy, PartialEq, Debug)]
+pub enum OfCard {
+    Given(Way),
+    /// Its normalised bytes are those that were given, or others.
+    Normal,
+    Limited,
+    NoPass,
+    /// A pass of this kind, off or on.
+    Pass(u32, bool),
+    Preset(u32),
+    /// A setting below 0, one that is subnormal, and one with all the places that a setting can have.
+    Negative,
+    Subnormal,
+    Longest,
+    /// Refusals by number, apart from those below.
+    Refused(u32),
+    /// Torn: no bit of the field is there, or some are.
+    TornBefore,
+    TornInside,
+    /// Too long: a padding bit is set, or a byte is left over.
+    Padding,
+    LeftOver,
+}
+
+impl Listed for OfCard {
+    const ALL: &'static [OfCard] = &[
+        OfCard::Given(Way::Close),
+        OfCard::Given(Way::Spaced),
+        OfCard::Given(Way::Anyhow),
+        OfCard::Given(Way::CloseSmall),
+        OfCard::Given(Way::SpacedSmall),
+        OfCard::Given(Way::AnyhowBoth),
+        OfCard::Given(Way::NoByte),
+        OfCard::Given(Way::AlsoFile),
+        OfCard::Given(Way::File),
+        OfCard::Given(Way::NearlyHexadecimal),
+        OfCard::Given(Way::Missing),
+        OfCard::Given(Way::Folder),
+        OfCard::Normal,
+        OfCard::Limited,
+        OfCard::NoPass,
+        OfCard::Pass(1, false),
+        OfCard::Pass(1, true),
+        OfCard::Pass(2, false),
+        OfCard::Pass(2, true),
+        OfCard::Pass(3, false),
+        OfCard::Pass(3, true),
+        OfCard::Pass(4, false),
+        OfCard::Pass(4, true),
+        OfCard::Pass(5, false),
+        OfCard::Pass(5, true),
+        OfCard::Pass(6, false),
+        OfCard::Pass(6, true),
+        OfCard::Pass(7, false),
+        OfCard::Pass(7, true),
+        OfCard::Pass(8, false),
+        OfCard::Pass(8, true),
+        OfCard::Pass(9, false),
+        OfCard::Pass(9, true),
+        OfCard::Pass(10, false),
+        OfCard::Pass(10, true),
+        OfCard::Preset(0),
+        OfCard::Preset(1),
+        OfCard::Preset(2),
+        OfCard::Preset(3),
+        OfCard::Preset(4),
+        OfCard::Preset(5),
+        OfCard::Preset(6),
+        OfCard::Negative,
+        OfCard::Subnormal,
+        OfCard::Longest,
+        OfCard::TornBefore,
+        OfCard::TornInside,
+        OfCard::Refused(2),
+        OfCard::Refused(3),
+        OfCard::Refused(4),
+        OfCard::Refused(5),
+        OfCard::Refused(6),
+        OfCard::Padding,
+        OfCard::LeftOver,
+    ];
+}
+
+/// At a pair of cards.
+#[derive(Clone, Copy, PartialEq, Debug)]
+pub enum OfPair {
+    /// Alike, with the same bytes or spelt differently.
+    Same,
+    Respelt,
+    /// The first difference: one chain is longer, another kind, another switch, or the setting at this place. Gamma, at
+    /// place 3, is always 1.
+    FirstLonger,
+    SecondLonger,
+    Kind,
+    Switch,
+    Setting(usize),
+    FirstRefused,
+    SecondRefused,
+    BothRefused,
+    /// No card could be read.
+    FirstMissing,
+    SecondMissing,
+}
+
+impl Listed for OfPair {
+    const ALL: &'static [OfPair] = &[
+        OfPair::Same,
+        OfPair::Respelt,
+        OfPair::FirstLonger,
+        OfPair::SecondLonger,
+        OfPair::Kind,
+        OfPair::Switch,
+        OfPair::Setting(0),
+        OfPair::Setting(1),
+        OfPair::Setting(2),
+        OfPair::FirstRefused,
+        OfPair::SecondRefused,
+        OfPair::BothRefused,
+        OfPair::FirstMissing,
+        OfPair::SecondMissing,
+    ];
+}
+
+#[cfg(with_original)]
+pub use of_run::OfRun;
+
+#[cfg(with_original)]
+mod of_run {
+    use super::super::ppm::Fault;
+    use crate::met::Listed;
+
+    /// At a run of program `filter`.
+    #[derive(Clone, Copy, PartialEq, Debug)]
+    pub enum OfRun {
+        /// So many frames were shown.
+        Frames(usize),
+        /// A frame through a chain without persistence, or with persistence off.
+        Frame,
+        /// A frame that fills the history, one that meets it, and one that meets it in another shape.
+        Refill,
+        Blend,
+        BlendTurned,
+        /// A frame of this size: the smallest, and the largest that are taken.
+        Size(usize, usize),
+        /// A header with a comment in it, one with other white bytes than space and newline, and one with neither.
+        Comment,
+        OtherWhite,
+        Plain,
+        /// A file of as many bytes as are read.
+        Full,
+        CardMissing,
+        CardRefused,
+        /// A file is refused, at the first place of the run or at a later one.
+        First,
+        Later,
+        /// Why it is refused.
+        Refused(Fault),
+        FileMissing,
+    }
+
+    impl Listed for OfRun {
+        const ALL: &'static [OfRun] = &[
+            OfRun::Frames(1),
+            OfRun::Frames(2),
+            OfRun::Frames(3),
+            OfRun::Frames(4),
+            OfRun::Frames(5),
+            OfRun::Frames(6),
+            OfRun::Frame,
+            OfRun::Refill,
+            OfRun::Blend,
+            OfRun::BlendTurned,
+            OfRun::Size(1, 1),
+            OfRun::Size(256, 240),
+            OfRun::Size(60, 1024),
+            OfRun::Size(1024, 60),
+            OfRun::Comment,
+            OfRun::OtherWhite,
+            OfRun::Plain,
+            OfRun::Full,
+            OfRun::CardMissing,
+            OfRun::CardRefused,
+            OfRun::First,
+            OfRun::Later,
+            OfRun::Refused(Fault::Empty),
+            OfRun::Refused(Fault::OtherFormat),
+            OfRun::Refused(Fault::HeaderCut),
+            OfRun::Refused(Fault::BadHeader),
+            OfRun::Refused(Fault::OtherMaximum),
+            OfRun::Refused(Fault::NoPixel),
+            OfRun::Refused(Fault::TooLarge),
+            OfRun::Refused(Fault::PixelsCut),
+            OfRun::Refused(Fault::LeftOver),
+            OfRun::Refused(Fault::TooLong),
+            OfRun::FileMissing,
+        ];
+    }
+}

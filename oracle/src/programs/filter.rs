@@ -1,0 +1,112 @@
+//! What program `filter` writes: the files as ppm.rs reads them, under the original's pipeline of the card. The frames
+//! of a run go through one pipeline, and each picture stands in the file of its frame, with the header as it was.
+
+use super::card::refused;
+use super::cases::OfRun;
+use super::files::Run;
+use super::ppm::{self, Frame};
+use super::process::Said;
+use crate::cards::paper;
+use crate::met::Met;
+use crate::passes::chain::{built, PERSISTENCE};
+
+/// What is written, and how many pixels the frames have, each of them.
+pub fn run(run: &Run, met: &mut Met<OfRun>) -> (Said, Vec<usize>) {
+    match played(run, met) {
+        Ok((output, counts)) => (Said::output(output), counts),
+        Err(refusal) => (refusal, Vec::new()),
+    }
+}
+
+fn played(run: &Run, met: &mut Met<OfRun>) -> Result<(Vec<u8>, Vec<usize>), Said> {
+    let argument = &run.card.argument;
+    let card = run.card.card.as_ref().map_err(|why| {
+        met.note(OfRun::CardMissing);
+        Said::refusal(argument, why)
+    })?;
+    let opened = paper::read(card).map_err(|refusal| {
+        met.note(OfRun::CardRefused);
+        Said::refusal(argument, &refused(refusal))
+    })?;
+
+    // Every file is looked at before anything is written.
+    let mut files = Vec::new();
+    for (place, file) in run.files.iter().enumerate() {
+        let at = if place == 0 {
+            OfRun::First
+        } else {
+            OfRun::Later
+        };
+        let bytes = file.bytes.as_ref().map_err(|why| {
+            met.note(at);
+            met.note(OfRun::FileMissing);
+            Said::refusal(&file.name, why)
+        })?;
+        let frame = ppm::taken(bytes).map_err(|fault| {
+            met.note(at);
+            met.note(OfRun::Refused(fault));
+            Said::refusal(&file.name, fault.words())
+        })?;
+        files.push((frame, bytes));
+    }
+
+    let remembers = |r: &paper::Record| r.kind == PERSISTENCE && r.on;
+    let remembers = opened.records.iter().any(remembers);
+    let pipeline = built(&opened.records);
+    let mut written = Vec::new();
+    let mut counts = Vec::new();
+    let mut held = None;
+    for (frame, bytes) in files {
+        note(&frame, bytes, held, remembers, met);
+        held = Some((frame.width, frame.height));
+        let (header, pixels) = bytes.split_at(frame.start);
+        let word = |rgb: &[u8]| u32::from_be_bytes([0, rgb[0], rgb[1], rgb[2]]);
+        let mut words: Vec<u32> = pixels.chunks(3).map(word).collect();
+        pipeline.apply(&mut words, frame.width, frame.height);
+        written.extend_from_slice(header);
+        for word in &words {
+            written.extend_from_slice(&word.to_be_bytes()[1..]);
+        }
+        counts.push(words.len());
+    }
+    met.note(OfRun::Frames(counts.len()));
+    Ok((written, counts))
+}
+
+/// What happens at a frame. `held` is the size of the one before it.
+fn note(
+    frame: &Frame,
+    file: &[u8],
+    held: Option<(usize, usize)>,
+    remembers: bool,
+    met: &mut Met<OfRun>,
+) {
+    let &Frame {
+        width,
+        height,
+        start,
+    } = frame;
+    met.note(match held {
+        _ if !remembers => OfRun::Frame,
+        Some((w, h)) if w * h != width * height => OfRun::Refill,
+        Some(before) if before != (width, height) => OfRun::BlendTurned,
+        Some(_) => OfRun::Blend,
+        None => OfRun::Refill,
+    });
+    let size = OfRun::Size(width, height);
+    if met.listed(size) {
+        met.note(size);
+    }
+    if file.len() == ppm::ROOM {
+        met.note(OfRun::Full);
+    }
+    let header = &file[..start];
+    let other = |byte: &u8| matches!(byte, b'\t' | 0x0b | 0x0c | b'\r');
+    met.note(if header.contains(&b'#') {
+        OfRun::Comment
+    } else if header.iter().any(other) {
+        OfRun::OtherWhite
+    } else {
+        OfRun::Plain
+    });
+}
