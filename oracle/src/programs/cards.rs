@@ -1,5 +1,5 @@
 //! Cards for the programs: good ones with settings of every size, damaged ones, and pairs that are alike or differ in
-//! one thing. And the ways in which an argument gives a card.
+//! one thing or two. And the ways in which an argument gives a card.
 
 use super::process::{Bytes, FOLDER, MISSING};
 use crate::cards::damage::{self, bytes, chain, damaged};
@@ -113,14 +113,16 @@ fn number(high: f32, random: &mut Random) -> f32 {
         .min(high)
 }
 
-/// Two cards: spelt differently, different in one thing, or in any.
+/// Two cards: spelt differently, different in one thing or two, or in any.
 pub fn pair(random: &mut Random) -> [Vec<u8>; 2] {
     let first = good(random);
     let mut opened = paper::open(&first).expect("the card is a good one");
     let second = match random.below(16) {
         0 => first.clone(),
         1..14 => {
-            change(&mut opened, random);
+            for _ in 0..random.choose(&[1, 1, 2]) {
+                change(&mut opened, random);
+            }
             respelt(&opened, random)
         }
         14 => good(random),
@@ -307,10 +309,13 @@ fn nearly(random: &mut Random) -> String {
 }
 
 impl Given {
-    /// To be given again.
+    /// With the first bytes of its file.
     pub fn shown(&self) -> String {
         match &self.file {
-            Some(bytes) => format!("{:?} with the file {bytes:02x?}", self.argument),
+            Some(bytes) => {
+                let first = &bytes[..bytes.len().min(80)];
+                format!("{:?} with the file {first:02x?}", self.argument)
+            }
             None => format!("{:?}", self.argument),
         }
     }

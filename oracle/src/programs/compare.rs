@@ -35,7 +35,7 @@ fn each_card(mode: Mode, total: &mut Total) -> Result<(), String> {
         tally.check(at, bytes(&given), &text(&here), &text(&asked), what);
         Ok(())
     };
-    let (tally, met) = share("card", times(mode, 6_000), new, ProgramTally::join, compare)?;
+    let (tally, met) = share("card", times(mode, 5_000), new, ProgramTally::join, compare)?;
     total.add_programs(&tally);
     total.unmet += met.report();
     Ok(())
@@ -67,7 +67,7 @@ fn each_pair(mode: Mode, total: &mut Total) -> Result<(), String> {
     };
     let (tally, met) = share(
         "pairs",
-        times(mode, 3_000),
+        times(mode, 2_500),
         new,
         ProgramTally::join,
         compare,

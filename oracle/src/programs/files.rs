@@ -39,7 +39,7 @@ pub fn run(seed: u64) -> Run {
             bytes: Ok(frame(size, random)),
         });
     }
-    if random.one_in(3) {
+    if random.one_in(2) {
         // Where two are damaged, the first of them is told.
         for _ in 0..random.choose(&[1, 1, 1, 2]) {
             let place = random.below(files.len());
@@ -254,8 +254,10 @@ fn damaged(random: &mut Random) -> Vec<u8> {
             let other = random.choose(&["", "P", "P3", "P5", "P7", "p6", "6P", "\u{89}PNG", " P6"]);
             file.splice(..2, other.bytes());
         }
-        4..7 => file.truncate(random.below(head)),
-        7..11 => alter(&mut file, head, random),
+        4..6 => file.truncate(random.below(head)),
+        6..10 => alter(&mut file, head, random),
+        // No white byte after the maximum.
+        10 => file[head - 1] = random.choose(b"#,0x"),
         11 | 12 => {
             let numbers = [&*width, &*height, random.choose(&MAXIMA)];
             file.splice(..head, spelt(numbers, random));
