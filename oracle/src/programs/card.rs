@@ -6,9 +6,15 @@ use super::process::Said;
 use crate::cards::paper::{self, Opened, Record, Refusal, Value};
 use crate::met::Met;
 
+const USAGE: &str =
+    "usage: card CARD [CARD]   (a card is a file, or its bytes in hexadecimal, as \"11 A9 FC 00 00 00\")";
+
 /// For one card.
 pub fn one(given: &Given, met: &mut Met<OfCard>) -> Said {
     met.note(OfCard::Given(given.way));
+    if given.is_option() {
+        return Said::error(USAGE);
+    }
     match &given.card {
         Err(why) => Said::refusal(&given.argument, why),
         Ok(card) => {
@@ -21,6 +27,10 @@ pub fn one(given: &Given, met: &mut Met<OfCard>) -> Said {
 /// For two.
 pub fn two(given: &[Given; 2], met: &mut Met<OfPair>) -> Said {
     let [first, second] = given;
+    if first.is_option() {
+        met.note(OfPair::Help);
+        return Said::error(USAGE);
+    }
     let (one, other) = match (&first.card, &second.card) {
         (Err(why), _) => {
             met.note(OfPair::FirstMissing);

@@ -190,6 +190,8 @@ pub enum Way {
     File,
     /// A file whose name is nearly hexadecimal.
     NearlyHexadecimal,
+    /// A file whose name begins with `-`: as the first argument that asks for help.
+    Option,
     /// No file.
     Missing,
     Folder,
@@ -209,12 +211,13 @@ const LONGEST: usize = 4096;
 
 /// Names of files that are nowhere near hexadecimal.
 const NAMES: [&str; 8] = [
-    "a.card", "the card", "card", "x", "-", "..card", "~", "0x11",
+    "a.card", "the card", "card", "x", "./-", "..card", "~", "0x11",
 ];
+const OPTIONS: [&str; 4] = ["-", "-h", "--help", "-11"];
 
 pub fn given(card: &[u8], random: &mut Random) -> Given {
-    let way = match random.below(32) {
-        0..22 => random.choose(&[
+    let way = match random.below(64) {
+        0..44 => random.choose(&[
             Way::Close,
             Way::Spaced,
             Way::Anyhow,
@@ -222,14 +225,17 @@ pub fn given(card: &[u8], random: &mut Random) -> Given {
             Way::SpacedSmall,
             Way::AnyhowBoth,
         ]),
-        22..24 => Way::AlsoFile,
-        24..28 => Way::File,
-        28..31 => Way::NearlyHexadecimal,
-        _ => random.choose(&[Way::Missing, Way::Missing, Way::Folder]),
+        44..48 => Way::AlsoFile,
+        48..55 => Way::File,
+        55..61 => Way::NearlyHexadecimal,
+        61 => Way::Option,
+        62 => Way::Missing,
+        _ => random.choose(&[Way::Missing, Way::Folder]),
     };
     let argument = match way {
         Way::File => random.choose(&NAMES).to_string(),
         Way::NearlyHexadecimal => nearly(random),
+        Way::Option => random.choose(&OPTIONS).to_string(),
         Way::Missing if random.one_in(2) => nearly(random),
         Way::Missing => "no-such.card".to_string(),
         Way::Folder => random.choose(&[".", "..", "./"]).to_string(),
@@ -243,7 +249,9 @@ pub fn given(card: &[u8], random: &mut Random) -> Given {
         _ => (way, argument),
     };
     let (file, card) = match way {
-        Way::File | Way::NearlyHexadecimal => (Some(card.to_vec()), Ok(card.to_vec())),
+        Way::File | Way::NearlyHexadecimal | Way::Option => {
+            (Some(card.to_vec()), Ok(card.to_vec()))
+        }
         Way::AlsoFile => (Some(good(random)), Ok(card.to_vec())),
         Way::Missing => (None, MISSING),
         Way::Folder => (None, FOLDER),
@@ -286,14 +294,15 @@ fn text(card: &[u8], way: Way, random: &mut Random) -> String {
     }
 }
 
-/// What is hexadecimal but for one thing: a digit too few, a pair torn apart, a letter that is no digit, a tab.
+/// What is hexadecimal but for one thing: a digit too few, a pair torn apart, a byte that is no digit, a tab, the folder
+/// before it.
 fn nearly(random: &mut Random) -> String {
     let bytes: Vec<u8> = (0..random.within(1, 6))
         .map(|_| random.word() as u8)
         .collect();
     let way = random.choose(&[Way::Close, Way::Spaced, Way::SpacedSmall]);
     let mut text = text(&bytes, way, random);
-    match random.below(4) {
+    match random.below(5) {
         0 => {
             text.pop();
         }
@@ -303,7 +312,8 @@ fn nearly(random: &mut Random) -> String {
             let other = random.choose(&["G", "g", "@", "`", ":", ".", "x"]);
             text.replace_range(place..=place, other);
         }
-        _ => text.insert(2, '\t'),
+        3 => text.insert(2, '\t'),
+        _ => text.insert_str(0, "./"),
     }
     text
 }
@@ -318,6 +328,17 @@ impl Given {
             }
             None => format!("{:?}", self.argument),
         }
+    }
+
+    /// Whether it asks for help, as the first argument.
+    pub fn is_option(&self) -> bool {
+        self.argument.starts_with('-')
+    }
+
+    /// Whether both name one file, and it is there.
+    pub fn shares_file(&self, other: &Given) -> bool {
+        let name = |given: &Given| given.argument.trim_start_matches("./").to_string();
+        name(self) == name(other) && (self.file.is_some() || other.file.is_some())
     }
 
     pub fn files(&self) -> Option<(&str, &[u8])> {

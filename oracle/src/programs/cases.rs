@@ -41,6 +41,7 @@ impl Listed for OfCard {
         OfCard::Given(Way::AlsoFile),
         OfCard::Given(Way::File),
         OfCard::Given(Way::NearlyHexadecimal),
+        OfCard::Given(Way::Option),
         OfCard::Given(Way::Missing),
         OfCard::Given(Way::Folder),
         OfCard::Normal,
@@ -107,6 +108,7 @@ pub enum OfPair {
     /// No card could be read.
     FirstMissing,
     SecondMissing,
+    Help,
 }
 
 impl Listed for OfPair {
@@ -125,6 +127,7 @@ impl Listed for OfPair {
         OfPair::BothRefused,
         OfPair::FirstMissing,
         OfPair::SecondMissing,
+        OfPair::Help,
     ];
 }
 
@@ -155,6 +158,9 @@ mod of_run {
         Plain,
         /// A file of as many bytes as are read.
         Full,
+        /// A frame that came through a pipe.
+        Piped,
+        Help,
         CardMissing,
         CardRefused,
         /// A file is refused, at the first place of the run or at a later one.
@@ -185,6 +191,8 @@ mod of_run {
             OfRun::OtherWhite,
             OfRun::Plain,
             OfRun::Full,
+            OfRun::Piped,
+            OfRun::Help,
             OfRun::CardMissing,
             OfRun::CardRefused,
             OfRun::First,

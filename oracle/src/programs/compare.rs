@@ -48,8 +48,7 @@ fn each_pair(mode: Mode, total: &mut Total) -> Result<(), String> {
         let [one, other] = cards::pair(random);
         let given = loop {
             let given = [&one, &other].map(|card| cards::given(card, random));
-            // A name stands for one file.
-            if given[0].argument != given[1].argument || given.iter().all(|g| g.file.is_none()) {
+            if !given[0].shares_file(&given[1]) {
                 break given;
             }
         };

@@ -3,7 +3,7 @@
 
 use super::cards::{self, Given};
 use super::ppm::{PIXELS, ROOM};
-use super::process::{Bytes, FOLDER, MISSING};
+use super::process::{Bytes, FOLDER, MISSING, PIPE};
 use crate::cards::{damage, paper};
 use crate::passes::frames::Picture;
 use crate::random::Random;
@@ -50,6 +50,10 @@ pub fn run(seed: u64) -> Run {
         // The same file twice in a row.
         files.extend(files.last().cloned());
         pixels += size.0 * size.1;
+    }
+    if files.len() == 1 && files[0].bytes.is_ok() && random.one_in(4) {
+        // Several cannot: they are read twice.
+        files[0].name = PIPE.to_string();
     }
     let card = if random.one_in(24) {
         damage::card(random)

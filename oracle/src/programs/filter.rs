@@ -5,10 +5,13 @@ use super::card::refused;
 use super::cases::OfRun;
 use super::files::Run;
 use super::ppm::{self, Frame};
-use super::process::Said;
+use super::process::{Said, PIPE};
 use crate::cards::paper;
 use crate::met::Met;
 use crate::passes::chain::{built, PERSISTENCE};
+
+const USAGE: &str = "usage: filter CARD FRAME..   \
+    (a card as a file or in hexadecimal; frames as binary PPM, up to 256 by 240 pixels)";
 
 /// What is written, and how many pixels the frames have, each of them.
 pub fn run(run: &Run, met: &mut Met<OfRun>) -> (Said, Vec<usize>) {
@@ -19,6 +22,10 @@ pub fn run(run: &Run, met: &mut Met<OfRun>) -> (Said, Vec<usize>) {
 }
 
 fn played(run: &Run, met: &mut Met<OfRun>) -> Result<(Vec<u8>, Vec<usize>), Said> {
+    if run.card.is_option() {
+        met.note(OfRun::Help);
+        return Err(Said::error(USAGE));
+    }
     let argument = &run.card.argument;
     let card = run.card.card.as_ref().map_err(|why| {
         met.note(OfRun::CardMissing);
@@ -70,6 +77,9 @@ fn played(run: &Run, met: &mut Met<OfRun>) -> Result<(Vec<u8>, Vec<usize>), Said
         counts.push(words.len());
     }
     met.note(OfRun::Frames(counts.len()));
+    if run.files[0].name == PIPE {
+        met.note(OfRun::Piped);
+    }
     Ok((written, counts))
 }
 
