@@ -1,7 +1,8 @@
 //! A file of binary PPM, read as netpbm describes the format, with nothing of the library: `P6`, width, height and
 //! maximum in decimal, each after white space; one white byte; then three bytes a pixel. From `#` to the end of its line is
-//! a comment, which counts as white space, as netpbm's own reader takes it. White are the bytes that C's `isspace` says.
-//! Here the maximum is 255, its white byte is no comment, and the file ends after its last pixel.
+//! a comment. Where the description leaves room it goes by docs/DECISIONS.md: a comment counts as white space, but not
+//! after the maximum; white are the bytes that C's `isspace` says; the maximum is 255, and the file ends after its last
+//! pixel.
 
 /// Why a file is refused, in the order in which that is looked for.
 #[derive(Clone, Copy, PartialEq, Debug)]
