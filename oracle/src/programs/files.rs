@@ -262,20 +262,19 @@ fn damaged(random: &mut Random) -> Vec<u8> {
         6..10 => alter(&mut file, head, random),
         // No white byte after the maximum.
         10 => file[head - 1] = random.choose(b"#,0x"),
-        11 | 12 => {
-            let numbers = [&*width, &*height, random.choose(&MAXIMA)];
+        11..18 => {
+            let mut numbers = [&*width, &*height, "255"];
+            // Where two are wrong, it is told by the first that is looked at.
+            for _ in 0..random.choose(&[1, 1, 2]) {
+                let side = random.below(2);
+                match random.below(7) {
+                    0 | 1 => numbers[2] = random.choose(&MAXIMA),
+                    2 => numbers[side] = "0",
+                    3 | 4 => numbers[side] = random.choose(&LARGE),
+                    _ => (numbers[0], numbers[1]) = random.choose(&ABOVE),
+                }
+            }
             file.splice(..head, spelt(numbers, random));
-        }
-        13 | 14 => {
-            let (width, height) = random.choose(&[("0", &*height), (&*width, "0"), ("0", "0")]);
-            file.splice(..head, spelt([width, height, "255"], random));
-        }
-        15..18 => {
-            let large = random.choose(&LARGE);
-            let above = random.choose(&ABOVE);
-            let sizes = [(large, &*height), (&*width, large), above, above];
-            let (width, height) = random.choose(&sizes);
-            file.splice(..head, spelt([width, height, "255"], random));
         }
         18..21 => {
             let any = random.below(count);
