@@ -1,4 +1,6 @@
-# Sourced by compare, bench, counts, record and fuzz, from the repository's root: how the comparison program is built.
+# Sourced by compare, hosts, bench, counts, record and fuzz, from the repository's root: how the comparison and what it links is built.
+
+. oracle/room.sh
 
 # Ends the script where a tool is missing that it cannot do without.
 need() {
@@ -66,23 +68,51 @@ build_programs() {
     fi
 }
 
+# Writes the named libraries for C and Rust to link, to target/staticlib, side by side: `rt staticlib` proves its crate each time. A
+# library that was written from its crate as it is, by the stamp of the last proof, is not written again.
+build_libraries() {
+    mkdir -p target/oracle target/staticlib || return 1
+    if ! rt check "$@" >target/oracle/libraries.log 2>&1; then
+        echo "The libraries are not proved. \`rt check $*\` said:" >&2
+        cat target/oracle/libraries.log >&2
+        return 1
+    fi
+    jobs=
+    for library; do
+        [ -f "target/staticlib/lib$library.a" ] && stamp_library "$library" | cmp -s - "target/staticlib/$library.stamp" && continue
+        build_library "$library" &
+        jobs="$jobs $!"
+    done
+    for job in $jobs; do
+        wait "$job" || return 1
+    done
+}
+
+# What library $1 was made of, and what it is.
+stamp_library() {
+    cat "target/stamp/$1"
+    cksum <"target/staticlib/lib$1.a"
+}
+
+build_library() {
+    room=target/oracle/$1
+    if ! { furnish "$room" && (cd "$room" && rt staticlib "$1") && mv "$room/target/staticlib/lib$1.a" target/staticlib/; } >"$room.log" 2>&1; then
+        echo "The library was not built. \`rt staticlib $1\` said:" >&2
+        cat "$room.log" >&2
+        return 1
+    fi
+    stamp_library "$1" >"target/staticlib/$1.stamp"
+}
+
 # Compiles the comparison program with the two libraries. The arguments say what of it, and where to.
 compile() {
     rustc -O --edition 2021 --check-cfg 'cfg(with_original, fuzz, test)' -L native=target/staticlib "$@" oracle/src/main.rs
 }
 
-# Proves the libraries `probe` and `bridge`, writes them for Rust to link, and compiles the program with them and with the original, if
-# there is one.
+# Writes the libraries `probe` and `bridge`, and compiles the program with them and with the original, if there is one.
 build() {
     need rt
-    mkdir -p target/oracle || return 1
-    for library in probe bridge; do
-        if ! rt staticlib "$library" >target/oracle/staticlib.log 2>&1; then
-            echo "The library was not built. \`rt staticlib $library\` said:" >&2
-            cat target/oracle/staticlib.log >&2
-            return 1
-        fi
-    done
+    build_libraries probe bridge || return 1
     if [ -n "$original" ]; then
         modules >target/oracle/original.rs || return 1
     fi

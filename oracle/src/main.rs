@@ -37,6 +37,7 @@ mod tally;
 
 use std::path::Path;
 use std::process::ExitCode;
+use std::time::Instant;
 
 use steps::Mode;
 use tally::Total;
@@ -88,20 +89,34 @@ fn compare(mode: Mode, original: Option<&Path>) -> ExitCode {
             return ExitCode::FAILURE;
         }
     }
-    steps::run(mode, &mut total);
-    cards::compare::run(mode, &mut total);
-    let programs = station::compare::run(mode, &mut total)
-        .and_then(|()| programs::compare::run(mode, &mut total));
+    timed("number steps", || steps::run(mode, &mut total));
+    timed("cards", || cards::compare::run(mode, &mut total));
+    let programs = timed("program station", || {
+        station::compare::run(mode, &mut total)
+    })
+    .and_then(|()| {
+        timed("programs card and filter", || {
+            programs::compare::run(mode, &mut total)
+        })
+    });
     if let Err(what) = programs {
         eprintln!("the programs were not compared: {what}");
         return ExitCode::FAILURE;
     }
     #[cfg(with_original)]
     {
-        passes::compare::run(mode, &mut total);
-        runs::compare::run(mode, &mut total);
+        timed("passes", || passes::compare::run(mode, &mut total));
+        timed("runs and trials", || runs::compare::run(mode, &mut total));
     }
     verdict(&total)
+}
+
+/// Does a part of the comparison and prints how long it took.
+fn timed<T>(part: &str, work: impl FnOnce() -> T) -> T {
+    let start = Instant::now();
+    let done = work();
+    println!("({part}: {:.1} s)", start.elapsed().as_secs_f64());
+    done
 }
 
 /// The passes, or the runs of calls, by themselves.
