@@ -1,5 +1,5 @@
 -- Definitions: F32, Const, Steps, Root, NearestRoot, and Private for the contracts of private functions. Laws that callers cite: Order, Within, Bounds,
--- Index, Signs, Values. Laws of loops that rewrite a slice: Rewrite. Worked cases: Cases.
+-- Index, Signs, Values, Sized. Laws of loops that rewrite a slice: Rewrite. Worked cases: Cases.
 pub mod F32
 pub mod Const
 pub mod Steps
@@ -12,5 +12,6 @@ pub mod Bounds
 pub mod Index
 pub mod Signs
 pub mod Values
+pub mod Sized
 pub mod Rewrite
 pub mod Cases

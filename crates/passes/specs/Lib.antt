@@ -1,4 +1,5 @@
 -- Laws of loops over a frame: Rows, Fold (num has Rewrite). Definitions that several share: Pixel, Position, Blur. Those that only private functions cite: Private. The passes, each named as its Rust file.
+-- That no pass meets what document 01 leaves undefined: Arith, Over, Range, Inside, Casts.
 pub mod Rows
 pub mod Fold
 pub mod Pixel
@@ -19,3 +20,8 @@ pub mod PersistenceLaws
 pub mod Private
 pub mod Lengths
 pub mod Cases
+pub mod Arith
+pub mod Over
+pub mod Range
+pub mod Inside
+pub mod Casts

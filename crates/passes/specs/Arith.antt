@@ -1,0 +1,74 @@
+-- What a pass may do with numbers: an arithmetic of any kind, and what it is for one to agree with the number steps of document 01 wherever these are
+-- defined and Rust's own do the same (docs/DIFFERENCES.md). Outside (a result that is not finite, a root of what is below 0 or -0, a cut of what is not in
+-- 0..1023, a channel above 255, a place that is not in the frame) it may give anything. Definitions only.
+use Prim.Native.Nat.{ℕ, _+_, _*_, _≤_, _<_}
+use mathlib.Core.Bool.{Bool, true, false}
+use mathlib.Core.List.{List}
+use mathlib.Core.Path.{_≡_}
+use lib.Dec.{T}
+use lib.ListN.{length, getD}
+use lib.Ieee as Ieee
+use lib.Ieee.{Float, lt, le}
+use lib.Ieee.Scale.{finite}
+use Rattle.num.specs.Const.{c0·0}
+use Rattle.num.specs.F32 as F32
+use Rattle.num.specs.Root.{rootOf}
+use Rattle.num.specs.Steps.{clampOf, minOf, maxOf, absOf, cutOf, roundOf}
+use Rattle.num.specs.Within.{within, Signed}
+
+-- the numbers are a type of which nothing else is known, so a pass has no other way to make one, to test one, or to leave it
+pub record Arith : Type 1 where
+  pub F : Type 0
+  -- a constant or a setting, and a whole number
+  pub lit : Float → F
+  pub whole : ℕ → F
+  -- the four operations
+  pub _⊕_ : F → F → F
+  pub _⊖_ : F → F → F
+  pub _⊗_ : F → F → F
+  pub _⊘_ : F → F → F
+  pub neg : F → F
+  -- the number steps
+  pub abs : F → F
+  pub least : F → F → F
+  pub most : F → F → F
+  pub clamp : F → F → F → F
+  pub round : F → F
+  pub root : F → F
+  pub cut : F → ℕ
+  -- comparisons
+  pub below : F → F → Bool
+  pub atMost : F → F → Bool
+  -- a word of three channels; the word at column x and row y of a frame of width w
+  pub word : ℕ → ℕ → ℕ → ℕ
+  pub cell : ℕ → List ℕ → ℕ → ℕ → ℕ
+
+-- `same a x`: the number a of the arithmetic stands for the finite binary32 value x. Each law says where the arithmetic has to do as the number step does.
+pub record Agrees (A : Arith) : Type 1 where
+  pub same : A .F → Float → Type 0
+  pub number : {a : A .F} {x : Float} → same a x → T (finite x)
+  pub lit : (x : Float) → T (finite x) → same (A .lit x) x
+  pub whole : (n : ℕ) → n ≤ 16777216 → same (A .whole n) (F32.whole n)
+  -- where the result is finite: no NaN, no infinity, no division by 0
+  pub plus : {a b : A .F} {x y : Float} → same a x → same b y → T (finite (F32._⊕_ x y)) → same (A ._⊕_ a b) (F32._⊕_ x y)
+  pub minus : {a b : A .F} {x y : Float} → same a x → same b y → T (finite (F32._⊖_ x y)) → same (A ._⊖_ a b) (F32._⊖_ x y)
+  pub times : {a b : A .F} {x y : Float} → same a x → same b y → T (finite (F32._⊗_ x y)) → same (A ._⊗_ a b) (F32._⊗_ x y)
+  pub over : {a b : A .F} {x y : Float} → same a x → same b y → T (finite (F32._⊘_ x y)) → same (A ._⊘_ a b) (F32._⊘_ x y)
+  pub round : {a : A .F} {x : Float} → same a x → T (finite (roundOf x)) → same (A .round a) (roundOf x)
+  -- of finite values
+  pub neg : {a : A .F} {x : Float} → same a x → same (A .neg a) (Ieee.neg x)
+  pub abs : {a : A .F} {x : Float} → same a x → same (A .abs a) (absOf x)
+  pub below : {a b : A .F} {x y : Float} → same a x → same b y → A .below a b ≡ lt x y
+  pub atMost : {a b : A .F} {x y : Float} → same a x → same b y → A .atMost a b ≡ le x y
+  -- whose second is above 0 (of 0 and -0 Rust's minimum gives either), or whose ends are in order
+  pub least : {a b : A .F} {x y : Float} → same a x → same b y → lt c0·0 y ≡ true → same (A .least a b) (minOf x y)
+  pub most : {a b : A .F} {x y : Float} → same a x → same b y → lt c0·0 y ≡ true → same (A .most a b) (maxOf x y)
+  pub clamp : {a b c : A .F} {x y z : Float} → same a x → same b y → same c z → T (le y z) → same (A .clamp a b c) (clampOf x y z)
+  -- of 0 (not -0) and above
+  pub root : {a : A .F} {x : Float} → same a x → Signed false x → T (finite (rootOf x)) → same (A .root a) (rootOf x)
+  -- from 0 to 1023
+  pub cut : {a : A .F} {x : Float} → same a x → T (within 1023 x) → A .cut a ≡ cutOf x
+  -- channels from 0 to 255
+  pub word : (r g b : ℕ) → r ≤ 255 → g ≤ 255 → b ≤ 255 → A .word r g b ≡ r * 65536 + g * 256 + b
+  -- a column within the width, and a word within the frame
+  pub cell : (w : ℕ) (frame : List ℕ) (x y : ℕ) → x < w → y * w + x < length frame → A .cell w frame x y ≡ getD frame (y * w + x) 0
