@@ -11,15 +11,9 @@ use Rattle.num.specs.Root.{rootOf}
 use Rattle.num.specs.Steps.{clampOf, minOf, maxOf, absOf, cutOf, roundOf, plusZeroOf, limitOf}
 use Rattle.passes.specs.Flow.{sameHeld, fineHeld, Flow}
 use Rattle.passes.specs.Fold.{fold}
-use Rattle.passes.specs.Pixel.{unpack, unit, pack, packNearest, packLimited, packUnit, dim, luma709}
-use Rattle.passes.specs.Position.{position}
-use Rattle.passes.specs.Scanlines as Scanlines
-use Rattle.passes.specs.Vignette as Vignette
-use Rattle.passes.specs.Crt as Crt
 use Rattle.passes.specs.Curvature as Curvature
 use Rattle.passes.specs.AutoGradient as AutoGradient
 use Rattle.passes.specs.Persistence as Persistence
-use Rattle.passes.specs.ColorCorrection as ColorCorrection
 use Rattle.chain.specs.Agree.{opened}
 use Rattle.chain.specs.Alike.{chainOf}
 use Rattle.chain.specs.Bits.{valueAt, fieldAt}
@@ -33,6 +27,7 @@ use Rattle.chain.specs.Records.{recordAt}
 use Rattle.chain.specs.Settings.{finiteAt, limitedAt, withinAt, gainAt, countAt}
 use Rattle.chain.specs.Step.{refuseIf}
 use Rattle.chain.specs.Written.{bits, passBits, recordBits, recordsBits, chainBits, valueOf, pack as packBytes, chainCard, cardOf}
+use Rattle.passes.specs.Once as Once
 
 -- the pictures of frames of that size, one after the other, from a station that is opened from the card
 abbrev pub shows : (card : List ℕ) (w h : ℕ) → List (List ℕ) → List (List ℕ)
@@ -82,14 +77,14 @@ pub record Marked : Type 0 where
 
 pub marked : Marked
 unfolding dec ofBits toBits ofInt add sub mul div neg lt le eq clampOf minOf maxOf absOf cutOf roundOf plusZeroOf limitOf rootOf
-    rewrite fold sameHeld fineHeld unpack unit pack packNearest packLimited packUnit dim luma709 position
-    Scanlines.scanlines Scanlines.inRow Vignette.vignette Vignette.square Vignette.factor
-    Crt.crt Crt.beam Crt.phosphor Crt.offset Crt.edge Crt.shade
+    rewrite fold sameHeld fineHeld Once.unpack Once.unit Once.pack Once.packNearest Once.packLimited Once.packUnit Once.dim Once.luma709 Once.position
+    Once.scanlines Once.inRow Once.vignette Once.square Once.factor
+    Once.crt Once.beam Once.phosphor Once.offset Once.edge Once.shadeCrt
     Curvature.curvature Curvature.bend Curvature.sample Curvature.outside
     AutoGradient.autoGradient AutoGradient.shaded AutoGradient.adaptive AutoGradient.addLuma AutoGradient.warm AutoGradient.brightness AutoGradient.shade
     Persistence.persistence Persistence.decay Persistence.total Persistence.add Persistence.mix Persistence.pixel Persistence.blended Persistence.blend
     Persistence.copies Persistence.refilled Persistence.shifted
-    ColorCorrection.colorCorrection ColorCorrection.pixel
+    Once.colorCorrection Once.pixelColour
     openOf stationAt headerAt fieldAt valueAt refuseIf recordsAt endAt endsAt recordAt passAt autoGradientAt persistenceAt curvatureAt colorCorrectionAt crtAt
     vignetteAt scanlinesAt finiteAt limitedAt withinAt gainAt countAt
     cardOf chainCard packBytes valueOf chainBits recordsBits recordBits passBits bits

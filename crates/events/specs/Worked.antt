@@ -8,8 +8,6 @@ use Rattle.passes.specs.Fold.{fold}
 use Rattle.num.specs.Rewrite.{rewrite}
 use Rattle.num.specs.Steps.{cutOf, plusZeroOf, limitOf}
 use Rattle.passes.specs.Flow.{sameHeld, fineHeld}
-use Rattle.passes.specs.Pixel.{unpack, pack, dim}
-use Rattle.passes.specs.Scanlines as Scanlines
 use Rattle.chain.specs.Bits.{valueAt, fieldAt}
 use Rattle.chain.specs.Calls.{badSide, stops, lacks, unless, unlessFramed, shown, frameReply}
 use Rattle.chain.specs.Card.{headerAt, recordsAt, endsAt, endAt, stationAt, openOf}
@@ -24,6 +22,7 @@ use Rattle.events.specs.Events.{headWanted, cardIn, outside, frameWanted
 use Rattle.events.specs.Play.{called, unlessFault, playedOf}
 use Rattle.events.specs.Program.{eventLines, printed}
 use Rattle.events.specs.Text.{F, R, E, space, newline, decimal, pixelsOf}
+use Rattle.passes.specs.Once as Once
 
 -- 06 11 A9 F8 00 00 00 46 01 02 FF FF FF 64 64 64 52
 abbrev pub input : List ℕ
@@ -36,7 +35,7 @@ lines =
     ∷ E ∷ space ∷ 49 ∷ 50 ∷ newline ∷ []
 
 pub worked : printed input ≡ lines
-unfolding dec ofBits ofInt sub mul div lt cutOf plusZeroOf limitOf rewrite fold sameHeld fineHeld unpack pack dim Scanlines.scanlines Scanlines.inRow
+unfolding dec ofBits ofInt sub mul div lt cutOf plusZeroOf limitOf rewrite fold sameHeld fineHeld Once.unpack Once.pack Once.dim Once.scanlines Once.inRow
     openOf stationAt headerAt fieldAt valueAt refuseIf recordsAt endAt endsAt recordAt passAt scanlinesAt finiteAt limitedAt frameReply unlessFramed
     shown stops lacks unless badSide goodStation normalChain normalPass settled persists depth turn over wash headWanted cardIn outside frameWanted
     eventWanted frameFault eventFault unpacked called unlessFault playedOf eventLines printed decimal pixelsOf

@@ -11,21 +11,22 @@ use Rattle.passes.specs.Persistence.{add, mix}
 use Rattle.passes.specs.Pixel.{channel, rgb, scaled, unpack}
 use Rattle.passes.specs.Rows.{lent-word}
 use Rattle.passes.specs.declared.pixel.Rgb.{Rgb}
+use Rattle.passes.specs.Once as Once
 
 channel-scaled : (which : ℕ) (w : Float) (c : Rgb) → channel which c ⊗ w ≡ channel which (scaled w c)
-unfolding channel
+unfolding Once.channel
 channel-scaled zero w c = refl
 channel-scaled (suc zero) w c = refl
 channel-scaled (suc (suc n)) w c = refl
 
 channel-add : (which : ℕ) (c : Rgb) (w : Float) (p : ℕ) → channel which c ⊕ channel which (unpack p) ⊗ w ≡ channel which (add c w p)
-unfolding channel add
+unfolding Once.channel add
 channel-add zero c w p = refl
 channel-add (suc zero) c w p = refl
 channel-add (suc (suc n)) c w p = refl
 
 pub whole : (c : Rgb) {r g b : Float} → r ≡ channel 0 c → g ≡ channel 1 c → b ≡ channel 2 c → rgb r g b ≡ c
-unfolding channel
+unfolding Once.channel
 whole c e f h = rw (e, f, h)
 
 -- a row that begins at word `at` of a frame of n

@@ -15,6 +15,7 @@ use Rattle.num.specs.F32 as F32
 use Rattle.num.specs.Root.{rootOf}
 use Rattle.num.specs.Steps.{clampOf, minOf, maxOf, absOf, cutOf, roundOf}
 use Rattle.num.specs.Within.{within, Signed}
+use Rattle.passes.specs.declared.pixel.Rgb as Declared
 
 -- the numbers are a type of which nothing else is known, so a pass has no other way to make one, to test one, or to leave it
 pub record Arith : Type 1 where
@@ -36,12 +37,48 @@ pub record Arith : Type 1 where
   pub round : F → F
   pub root : F → F
   pub cut : F → ℕ
+  -- three channels
+  pub Rgb : Type 0
+  pub rgb : F → F → F → Rgb
+  pub red : Rgb → F
+  pub green : Rgb → F
+  pub blue : Rgb → F
   -- comparisons
   pub below : F → F → Bool
   pub atMost : F → F → Bool
   -- a word of three channels; the word at column x and row y of a frame of width w
   pub word : ℕ → ℕ → ℕ → ℕ
   pub cell : ℕ → List ℕ → ℕ → ℕ → ℕ
+
+-- the product's: binary32 and the number steps of document 01, and the Rust struct of three channels
+abbrev pub plain : Arith
+plain =
+    record {
+      F = Float;
+      lit = λ x. x;
+      whole = F32.whole;
+      _⊕_ = F32._⊕_;
+      _⊖_ = F32._⊖_;
+      _⊗_ = F32._⊗_;
+      _⊘_ = F32._⊘_;
+      neg = Ieee.neg;
+      abs = absOf;
+      least = minOf;
+      most = maxOf;
+      clamp = clampOf;
+      round = roundOf;
+      root = rootOf;
+      cut = cutOf;
+      Rgb = Declared.Rgb;
+      rgb = λ x y z. record { r = x; g = y; b = z };
+      red = λ c. c .r;
+      green = λ c. c .g;
+      blue = λ c. c .b;
+      below = lt;
+      atMost = le;
+      word = λ r g b. r * 65536 + g * 256 + b;
+      cell = λ w frame x y. getD frame (y * w + x) 0;
+    }
 
 -- `same a x`: the number a of the arithmetic stands for the finite binary32 value x. Each law says where the arithmetic has to do as the number step does.
 pub record Agrees (A : Arith) : Type 1 where
@@ -66,6 +103,10 @@ pub record Agrees (A : Arith) : Type 1 where
   pub clamp : {a b c : A .F} {x y z : Float} → same a x → same b y → same c z → T (le y z) → same (A .clamp a b c) (clampOf x y z)
   -- of 0 (not -0) and above
   pub root : {a : A .F} {x : Float} → same a x → Signed false x → T (finite (rootOf x)) → same (A .root a) (rootOf x)
+  -- the channels of three channels
+  pub red : (a b c : A .F) → A .red (A .rgb a b c) ≡ a
+  pub green : (a b c : A .F) → A .green (A .rgb a b c) ≡ b
+  pub blue : (a b c : A .F) → A .blue (A .rgb a b c) ≡ c
   -- from 0 to 1023
   pub cut : {a : A .F} {x : Float} → same a x → T (within 1023 x) → A .cut a ≡ cutOf x
   -- channels from 0 to 255

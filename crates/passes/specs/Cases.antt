@@ -9,11 +9,10 @@ use Rattle.num.specs.Const.{c0·0, c0·5, c1·0}
 use Rattle.num.specs.Root.{rootOf}
 use Rattle.num.specs.Steps.{clampOf, minOf, maxOf, absOf, cutOf, roundOf}
 use Rattle.passes.specs.Fold.{fold}
-use Rattle.passes.specs.Pixel.{unpack, unit, channel, pack, packNearest, packLimited, packUnit, dim, luma601, luma709}
+use Rattle.passes.specs.Pixel.{unpack, unit, pack, packNearest, packLimited, packUnit, dim, luma709}
 use Rattle.passes.specs.Position.{position}
 use Rattle.num.specs.Rewrite.{rewrite}
 use Rattle.passes.specs.Flow.{sized, sameHeld, Flow, flow}
-use Rattle.passes.specs.Blur as Blur
 use Rattle.passes.specs.Scanlines as Scanlines
 use Rattle.passes.specs.Vignette as Vignette
 use Rattle.passes.specs.Crt as Crt
@@ -24,6 +23,7 @@ use Rattle.passes.specs.ColorCorrection as ColorCorrection
 use Rattle.passes.specs.Lut as Lut
 use Rattle.passes.specs.Ntsc as Ntsc
 use Rattle.passes.specs.Bloom as Bloom
+use Rattle.passes.specs.Once as Once
 
 abbrev grey : List ℕ
 grey = 0xc8c8c8 ∷ 0xc8c8c8 ∷ 0xc8c8c8 ∷ 0xc8c8c8 ∷ 0xc8c8c8 ∷ 0xc8c8c8 ∷ 0xc8c8c8 ∷ 0xc8c8c8 ∷ 0xc8c8c8 ∷ []
@@ -64,14 +64,14 @@ marked =
 
 pub marked-hold : Hold marked
 unfolding ofBits ofInt add sub mul div neg lt le clampOf minOf maxOf absOf cutOf roundOf rootOf
-    rewrite fold unpack unit pack packNearest packLimited packUnit dim luma709 position
-    Scanlines.scanlines Scanlines.inRow Vignette.vignette Vignette.square Vignette.factor
-    Crt.crt Crt.beam Crt.phosphor Crt.offset Crt.edge Crt.shade
+    rewrite fold Once.unpack Once.unit Once.pack Once.packNearest Once.packLimited Once.packUnit Once.dim Once.luma709 Once.position
+    Once.scanlines Once.inRow Once.vignette Once.square Once.factor
+    Once.crt Once.beam Once.phosphor Once.offset Once.edge Once.shadeCrt
     Curvature.curvature Curvature.bend Curvature.sample Curvature.outside
     AutoGradient.autoGradient AutoGradient.shaded AutoGradient.adaptive AutoGradient.addLuma AutoGradient.warm AutoGradient.brightness AutoGradient.shade
     sameHeld Persistence.persistence Persistence.decay Persistence.total Persistence.add Persistence.mix Persistence.pixel Persistence.blended Persistence.blend
     Persistence.copies Persistence.refilled Persistence.shifted
-    ColorCorrection.colorCorrection ColorCorrection.pixel
+    Once.colorCorrection Once.pixelColour
 marked-hold = refl
 
 -- three colours under each preset at strength 1.0, the first with its top byte set: Identity's steps run too
@@ -90,7 +90,7 @@ presets =
     ∷ []
 
 pub presets-hold : Hold presets
-unfolding ofBits ofInt add sub mul div clampOf cutOf roundOf rewrite unpack unit pack packUnit luma601 Lut.lut Lut.pixel Lut.transform
+unfolding ofBits ofInt add sub mul div clampOf cutOf roundOf rewrite Once.unpack Once.unit Once.pack Once.packUnit Once.luma601 Once.lut Once.pixelLut Once.transform
 presets-hold = refl
 
 -- NTSC, bleed 1, at strength 1.0 on three colours and at 0.0 on three greys, 3 by 1; bloom, strength 1.0, radius 1, 2 by 2, at thresholds 0, 254 and 255
@@ -104,6 +104,6 @@ blurs =
     ∷ []
 
 pub blurs-hold : Hold blurs
-unfolding ofBits ofInt add sub mul div neg lt le clampOf cutOf rewrite unpack pack packLimited channel luma601 luma709 Blur.weight Blur.total
+unfolding ofBits ofInt add sub mul div neg lt le clampOf cutOf rewrite Once.unpack Once.pack Once.packLimited Once.channel Once.luma601 Once.luma709 Once.weight Once.total
     Ntsc.ntsc Ntsc.pixel Ntsc.chroma Bloom.bloom Bloom.bright Bloom.composite
 blurs-hold = refl

@@ -22,6 +22,11 @@ use Rattle.num.specs.Bounds.{int-within}
 use Rattle.passes.specs.Arith.{Arith, Agrees}
 use Rattle.num.specs.Sized.{sized-finite, within-sized}
 
+pub record Colour (F : Type 0) : Type 0 where
+  pub r : F
+  pub g : F
+  pub b : F
+
 -- ---- what is finite stays finite
 
 neg-finite : (x : Float) → T (finite x) → T (finite (Ieee.neg x))
@@ -80,6 +85,11 @@ casts =
       round = roundOf;
       root = rootOf;
       cut = toUnsigned 32;
+      Rgb = Colour Float;
+      rgb = λ x y z. record { r = x; g = y; b = z };
+      red = λ c. c .r;
+      green = λ c. c .g;
+      blue = λ c. c .b;
       below = lt;
       atMost = le;
       word = joined;
@@ -128,6 +138,9 @@ casts-agree =
       clamp = λ {a} {b} {c} {x} {y} {z} h g k t. (ap₂ (λ (u v : Float). clampOf u v c) (h .0) (g .0) ∙ ap (λ (u : Float). clampOf x y u) (k .0), clamp-finite x y z (h .1) (g .1) (k .1));
       root = λ h p t. (ap rootOf (h .0), t);
       cut = λ {a} {x} h t. ap (toUnsigned 32) (h .0) ∙ cast-same x t;
+      red = λ a b c. refl;
+      green = λ a b c. refl;
+      blue = λ a b c. refl;
       word = joined-same;
       cell = λ w frame x y l m. refl;
     }
@@ -194,6 +207,11 @@ checked =
       round = one (λ x. true) roundOf;
       root = one plusSign rootOf;
       cut = cutChecked;
+      Rgb = Colour Checked;
+      rgb = λ x y z. record { r = x; g = y; b = z };
+      red = λ c. c .r;
+      green = λ c. c .g;
+      blue = λ c. c .b;
       below = compare lt;
       atMost = compare le;
       word = λ r g b. cond (leb r 255 && leb g 255 && leb b 255) (r * 65536 + g * 256 + b) stop;
@@ -246,6 +264,9 @@ checked-agree =
                 ∙ kept (le y z && finite (clampOf x y z)) (clampOf x y z) (and-i (le y z) (finite (clampOf x y z)) t s),
             s,
           );
+      red = λ a b c. refl;
+      green = λ a b c. refl;
+      blue = λ a b c. refl;
       root = λ {a} {x} h p t. by-one plusSign rootOf h (plus-sign x p) t;
       cut = λ {a} {x} h t. ap cutChecked (h .0) ∙ ap (λ (b : Bool). cond b (cutOf x) stop) (is-true (within 1023 x) t);
       word = λ r g b R H B. rw (le-leb r 255 R, le-leb g 255 H, le-leb b 255 B);

@@ -40,6 +40,7 @@ use Rattle.passes.specs.Bloom as Bloom
 use Rattle.passes.specs.Position.{position}
 use Rattle.num.specs.Index.{indexOf, index-within, index-lt}
 use Rattle.passes.specs.declared.pixel.Rgb.{Rgb}
+use Rattle.passes.specs.Once as Once
 
 both : (p q : Bool) → (p && q) ≡ true → (p ≡ true) × (q ≡ true)
 both true true e = (refl, refl)
@@ -53,53 +54,75 @@ neither true q e = absurd (true≢false e)
 
 module _ (A : Arith) (G : Agrees A) where
   -- three channels, each from -n to n, or from 0 to n
-  record Tint (n : ℕ) (c : Over.Rgb A) (d : Rgb) : Type 0 where
-    red : Has G n (c .r) (d .r)
-    green : Has G n (c .g) (d .g)
-    blue : Has G n (c .b) (d .b)
+  record Tint (n : ℕ) (c : A .Rgb) (d : Rgb) : Type 0 where
+    red : Has G n (A .red c) (d .r)
+    green : Has G n (A .green c) (d .g)
+    blue : Has G n (A .blue c) (d .b)
 
-  record Tint⁺ (n : ℕ) (c : Over.Rgb A) (d : Rgb) : Type 0 where
-    red : Plus G n (c .r) (d .r)
-    green : Plus G n (c .g) (d .g)
-    blue : Plus G n (c .b) (d .b)
+  record Tint⁺ (n : ℕ) (c : A .Rgb) (d : Rgb) : Type 0 where
+    red : Plus G n (A .red c) (d .r)
+    green : Plus G n (A .green c) (d .g)
+    blue : Plus G n (A .blue c) (d .b)
+
+  moved : {n : ℕ} {a b : A .F} {x : Float} → b ≡ a → Has G n a x → Has G n b x
+  moved {n} {a} {b} {x} e h = subst (λ (u : A .F). Has G n u x) (sym e) h
+
+  -- of their channels
+  tint : {n : ℕ} {a b c : A .F} {x y z : Float} → Has G n a x → Has G n b y → Has G n c z → Tint n (A .rgb a b c) (rgb x y z)
+  tint {n} {a} {b} {c} h g k = record { red = moved (G .red a b c) h; green = moved (G .green a b c) g; blue = moved (G .blue a b c) k }
+
+  tint⁺ : {n : ℕ} {a b c : A .F} {x y z : Float} → Plus G n a x → Plus G n b y → Plus G n c z → Tint⁺ n (A .rgb a b c) (rgb x y z)
+  tint⁺ {n} {a} {b} {c} {x} {y} {z} h g k =
+      record {
+        red = subst (λ (u : A .F). Plus G n u x) (sym (G .red a b c)) h;
+        green = subst (λ (u : A .F). Plus G n u y) (sym (G .green a b c)) g;
+        blue = subst (λ (u : A .F). Plus G n u z) (sym (G .blue a b c)) k;
+      }
 
   unpacked : (p : ℕ) → Tint⁺ 255 (Over.unpack A p) (unpack p)
-  unfolding unpack
-  unpacked p = record { red = channel⁺ (p / 65536); green = channel⁺ (p / 256); blue = channel⁺ p }
+  unfolding Once.unpack
+  unpacked p = tint⁺ (channel⁺ (p / 65536)) (channel⁺ (p / 256)) (channel⁺ p)
 
-  loose : {n : ℕ} {c : Over.Rgb A} {d : Rgb} → Tint⁺ n c d → Tint n c d
+  loose : {n : ℕ} {c : A .Rgb} {d : Rgb} → Tint⁺ n c d → Tint n c d
   loose h = record { red = signed (h .red); green = signed (h .green); blue = signed (h .blue) }
 
-  packed : {c : Over.Rgb A} {d : Rgb} → Tint⁺ 255 c d → Over.pack A c ≡ pack d
+  scaled-in : {c : A .Rgb} {d : Rgb} {f : A .F} {g : Float} → Tint⁺ 255 c d → Plus G 1 f g → Tint⁺ 255 (Over.scaled A f c) (scaled g d)
+  scaled-in h k = tint⁺ (times⁺ (h .red) k tt) (times⁺ (h .green) k tt) (times⁺ (h .blue) k tt)
+
+  packed : {c : A .Rgb} {d : Rgb} → Tint⁺ 255 c d → Over.pack A c ≡ pack d
+  unfolding Once.pack
   packed h = pack-same (h .red) (h .green) (h .blue)
 
-  packed-limited : {n : ℕ} {c : Over.Rgb A} {d : Rgb} → Tint n c d → Over.packLimited A c ≡ packLimited d
-  unfolding packLimited
-  packed-limited h = pack-same (clamp-top (h .red)) (clamp-top (h .green)) (clamp-top (h .blue))
+  packed-limited : {n : ℕ} {c : A .Rgb} {d : Rgb} → Tint n c d → Over.packLimited A c ≡ packLimited d
+  unfolding Once.packLimited
+  packed-limited h = packed (tint⁺ (clamp-top (h .red)) (clamp-top (h .green)) (clamp-top (h .blue)))
 
-  packed-unit : {n : ℕ} {c : Over.Rgb A} {d : Rgb} → Tint n c d → Over.packUnit A c ≡ packUnit d
-  unfolding packUnit
-  packed-unit h = pack-same (full (h .red)) (full (h .green)) (full (h .blue))
+  packed-three : {n m l : ℕ} {a b c : A .F} {x y z : Float} → Has G n a x → Has G m b y → Has G l c z → Over.packLimited A (A .rgb a b c) ≡ packLimited (rgb x y z)
+  unfolding Once.packLimited
+  packed-three {n} {m} {l} {a} {b} {c} h g k =
+      packed (tint⁺ (clamp-top (moved (G .red a b c) h)) (clamp-top (moved (G .green a b c) g)) (clamp-top (moved (G .blue a b c) k)))
+
+  packed-unit : {n : ℕ} {c : A .Rgb} {d : Rgb} → Tint n c d → Over.packUnit A c ≡ packUnit d
+  unfolding Once.packUnit
+  packed-unit h = packed (tint⁺ (full (h .red)) (full (h .green)) (full (h .blue)))
     where
       full : {n : ℕ} {a : A .F} {x : Float} → Has G n a x
           → Plus G 255 (A ._⊗_ (A .clamp a (A .lit c0·0) (A .lit c1·0)) (A .lit c255·0)) (clampOf x c0·0 c1·0 ⊗ c255·0)
       full h = times⁺ (clamp-one h) top⁺ tt
 
-  packed-nearest : {c : Over.Rgb A} {d : Rgb} → Tint⁺ 255 c d → Over.packNearest A c ≡ packNearest d
-  unfolding packNearest
-  packed-nearest h = pack-same (round⁺ (h .red) tt) (round⁺ (h .green) tt) (round⁺ (h .blue) tt)
+  packed-nearest : {c : A .Rgb} {d : Rgb} → Tint⁺ 255 c d → Over.packNearest A c ≡ packNearest d
+  unfolding Once.packNearest
+  packed-nearest h = packed (tint⁺ (round⁺ (h .red) tt) (round⁺ (h .green) tt) (round⁺ (h .blue) tt))
 
   dimmed : {f : A .F} {g : Float} → Plus G 1 f g → (p : ℕ) → Over.dim A f p ≡ dim g p
-  unfolding dim
-  dimmed h p =
-      let c = unpacked p in
-      pack-same (times⁺ (c .red) h tt) (times⁺ (c .green) h tt) (times⁺ (c .blue) h tt)
+  unfolding Once.dim
+  dimmed h p = packed (scaled-in (unpacked p) h)
 
   -- ---- Scanlines
 
   pub scanlines-inside : (w : ℕ) (strength : Float) (frame : List ℕ) → T (within 1 strength)
       → Over.scanlines A w (A .lit strength) frame ≡ Scanlines.scanlines w strength frame
-  unfolding Scanlines.scanlines Scanlines.inRow
+  unfolding Once.scanlines Once.inRow
   scanlines-inside w strength frame s = rewrite-ext (length frame) _ _ frame (λ i p l. row (i / w % 2) p)
     where
       row : (n p : ℕ) → Over.inRow A n (A .lit strength) p ≡ Scanlines.inRow n strength p
@@ -109,16 +132,16 @@ module _ (A : Arith) (G : Agrees A) where
   -- ---- Crt
 
   crt-offset : (n k : ℕ) → n ≤ 1024 → k < n → Has G 2048 (Over.offset A n k) (Crt.offset n k)
-  unfolding Crt.offset within ofBits
+  unfolding Once.offset within ofBits
   crt-offset n k l m =
       let c = times⁺ (whole⁺ 1024 (n - 1) (omega arith) (lit≤ tt)) (lit⁺ 1 c0·5 tt) tt in
       times (minus (signed (whole⁺ 1024 k (omega arith) (lit≤ tt))) (signed c) tt) (signed (over⁺ one⁺ (most-one (signed c)) tt)) tt
 
   pub crt-inside : (w h : ℕ) (strength : Float) (frame : List ℕ) → Frame w h frame → T (within 1 strength)
       → Over.crt A w h (A .lit strength) frame ≡ Crt.crt w h strength frame
-  unfolding Crt.crt Crt.beam Crt.phosphor Crt.edge Crt.shade within ofBits
+  unfolding Once.crt Once.beam Once.phosphor Once.edge Once.shadeCrt within ofBits
   crt-inside w h strength frame f s =
-      placed-ext w h frame _ _ (f .area) (λ x y p l m. packed-nearest (tinted (x % 3) (unpacked p) (times⁺ (beam (y % 3)) (edge (crt-offset w x (f .wide) l) (crt-offset h y (f .high) m)) tt)))
+      placed-ext w h frame _ _ (f .area) (λ x y p l m. packed-nearest (scaled-in (tinted (x % 3) (unpacked p)) (times⁺ (beam (y % 3)) (edge (crt-offset w x (f .wide) l) (crt-offset h y (f .high) m)) tt)))
     where
       st : Plus G 1 (A .lit strength) strength
       st = lit⁺ 1 strength s
@@ -134,76 +157,67 @@ module _ (A : Arith) (G : Agrees A) where
       dim-in : Plus G 1 (A ._⊖_ (A .lit c1·0) (A ._⊗_ (A .lit c0·035) (A .lit strength))) (c1·0 ⊖ c0·035 ⊗ strength)
       dim-in = one-less (times⁺ (lit⁺ 1 c0·035 tt) st tt)
 
-      tinted : (n : ℕ) {c : Over.Rgb A} {d : Rgb} {f : A .F} {g : Float} → Tint⁺ 255 c d → Plus G 1 f g
-          → Tint⁺ 255 (Over.scaled A f (Over.phosphor A n (A ._⊖_ (A .lit c1·0) (A ._⊗_ (A .lit c0·035) (A .lit strength))) c))
-          (scaled g (Crt.phosphor n (c1·0 ⊖ c0·035 ⊗ strength) d))
-      tinted zero h k = record { red = times⁺ (h .red) k tt; green = times⁺ (times⁺ (h .green) dim-in tt) k tt; blue = times⁺ (times⁺ (h .blue) dim-in tt) k tt }
-      tinted (suc zero) h k = record { red = times⁺ (times⁺ (h .red) dim-in tt) k tt; green = times⁺ (h .green) k tt; blue = times⁺ (times⁺ (h .blue) dim-in tt) k tt }
-      tinted (suc (suc n)) h k = record { red = times⁺ (times⁺ (h .red) dim-in tt) k tt; green = times⁺ (times⁺ (h .green) dim-in tt) k tt; blue = times⁺ (h .blue) k tt }
+      tinted : (n : ℕ) {c : A .Rgb} {d : Rgb} → Tint⁺ 255 c d
+          → Tint⁺ 255 (Over.phosphor A n (A ._⊖_ (A .lit c1·0) (A ._⊗_ (A .lit c0·035) (A .lit strength))) c) (Crt.phosphor n (c1·0 ⊖ c0·035 ⊗ strength) d)
+      tinted zero h = tint⁺ (h .red) (times⁺ (h .green) dim-in tt) (times⁺ (h .blue) dim-in tt)
+      tinted (suc zero) h = tint⁺ (times⁺ (h .red) dim-in tt) (h .green) (times⁺ (h .blue) dim-in tt)
+      tinted (suc (suc n)) h = tint⁺ (times⁺ (h .red) dim-in tt) (times⁺ (h .green) dim-in tt) (h .blue)
 
   -- ---- channels from 0 to 1, and lumas
 
   united : (p : ℕ) → Tint⁺ 255 (Over.unit A p) (unit p)
-  unfolding unit ofBits
+  unfolding Once.unit ofBits
   united p =
       let c = unpacked p in
-      record { red = full (c .red); green = full (c .green); blue = full (c .blue) }
+      tint⁺ (full (c .red)) (full (c .green)) (full (c .blue))
     where
       full : {a : A .F} {x : Float} → Plus G 255 a x → Plus G 255 (A ._⊘_ a (A .lit c255·0)) (x ⊘ c255·0)
       full h = over⁺ h (lit-big c255·0 tt (lit≤ tt)) tt
 
-  luma601-in : {c : Over.Rgb A} {d : Rgb} → Tint⁺ 255 c d → Plus G 765 (Over.luma601 A c) (luma601 d)
-  unfolding luma601 within ofBits
+  luma601-in : {c : A .Rgb} {d : Rgb} → Tint⁺ 255 c d → Plus G 765 (Over.luma601 A c) (luma601 d)
+  unfolding Once.luma601 within ofBits
   luma601-in h = plus⁺ (plus⁺ (times⁺ (lit⁺ 1 c0·299 tt) (h .red) tt) (times⁺ (lit⁺ 1 c0·587 tt) (h .green) tt) tt) (times⁺ (lit⁺ 1 c0·114 tt) (h .blue) tt) tt
 
-  luma709-in : {n : ℕ} {c : Over.Rgb A} {d : Rgb} → Tint n c d → T (leb (1 * n) 16777216) → T (leb (1 * n + 1 * n) 16777216) → T (leb (1 * n + 1 * n + 1 * n) 16777216)
+  luma709-in : {n : ℕ} {c : A .Rgb} {d : Rgb} → Tint n c d → T (leb (1 * n) 16777216) → T (leb (1 * n + 1 * n) 16777216) → T (leb (1 * n + 1 * n + 1 * n) 16777216)
       → Has G (1 * n + 1 * n + 1 * n) (Over.luma709 A c) (luma709 d)
-  unfolding luma709 ofBits
+  unfolding Once.luma709 ofBits
   luma709-in h t u v = plus (plus (times (lit 1 c0·2126 tt) (h .red) t) (times (lit 1 c0·7152 tt) (h .green) t) u) (times (lit 1 c0·0722 tt) (h .blue) t) v
 
   -- ---- Lut
 
-  transformed : (n : ℕ) {c : Over.Rgb A} {d : Rgb} → Tint⁺ 255 c d → Tint 4096 (Over.transform A n c) (Lut.transform n d)
-  unfolding Lut.transform ofBits
+  transformed : (n : ℕ) {c : A .Rgb} {d : Rgb} → Tint⁺ 255 c d → Tint 4096 (Over.transform A n c) (Lut.transform n d)
+  unfolding Once.transform ofBits
   transformed zero h = record { red = wide 4096 (signed (h .red)) tt; green = wide 4096 (signed (h .green)) tt; blue = wide 4096 (signed (h .blue)) tt }
   transformed (suc zero) h =
-      record {
-        red = wide 4096 (plus (times (signed (h .red)) (lit 2 c1·05 tt) tt) (lit 1 c0·015 tt) tt) tt;
-        green = wide 4096 (times (signed (h .green)) (lit 2 c1·01 tt) tt) tt;
-        blue = wide 4096 (times (signed (h .blue)) (lit 1 c0·92 tt) tt) tt;
-      }
+      tint (wide 4096 (plus (times (signed (h .red)) (lit 2 c1·05 tt) tt) (lit 1 c0·015 tt) tt) tt) (wide 4096 (times (signed (h .green)) (lit 2 c1·01 tt) tt) tt) (wide 4096 (times (signed (h .blue)) (lit 1 c0·92 tt) tt) tt)
   transformed (suc (suc zero)) h =
-      record {
-        red = wide 4096 (times (signed (h .red)) (lit 1 c0·94 tt) tt) tt;
-        green = wide 4096 (times (signed (h .green)) (lit 1 c0·99 tt) tt) tt;
-        blue = wide 4096 (plus (times (signed (h .blue)) (lit 2 c1·06 tt) tt) (lit 1 c0·01 tt) tt) tt;
-      }
+      tint (wide 4096 (times (signed (h .red)) (lit 1 c0·94 tt) tt) tt) (wide 4096 (times (signed (h .green)) (lit 1 c0·99 tt) tt) tt) (wide 4096 (plus (times (signed (h .blue)) (lit 2 c1·06 tt) tt) (lit 1 c0·01 tt) tt) tt)
   transformed (suc (suc (suc zero))) {c} {d} h =
       let y = signed (luma601-in h) in
-      record { red = part (h .red) (lit 1 c0·82 tt) (lit 2 c1·03 tt); green = part (h .green) (lit 1 c0·88 tt) (lit 2 c1·0 tt); blue = part (h .blue) (lit 1 c0·72 tt) (lit 2 c0·96 tt) }
+      tint (part (h .red) (lit 1 c0·82 tt) (lit 2 c1·03 tt)) (part (h .green) (lit 1 c0·88 tt) (lit 2 c1·0 tt)) (part (h .blue) (lit 1 c0·72 tt) (lit 2 c0·96 tt))
     where
       part : {a e f : A .F} {x s t : Float} → Plus G 255 a x → Has G 1 e s → Has G 2 f t
           → Has G 4096 (A ._⊗_ (A ._⊕_ (Over.luma601 A c) (A ._⊗_ (A ._⊖_ a (Over.luma601 A c)) e)) f) ((luma601 d ⊕ (x ⊖ luma601 d) ⊗ s) ⊗ t)
       part a s t = let y = signed (luma601-in h) in wide 4096 (times (plus y (times (minus (signed a) y tt) s tt) tt) t tt) tt
   transformed (suc (suc (suc (suc zero)))) h =
       let level = over (round (times (signed (luma601-in h)) (lit 3 c3·0 tt) tt) tt) (lit-big c3·0 tt (lit≤ tt)) (exact 2295 (lit≤ tt)) in
-      record { red = wide 4096 (times level (lit 1 c0·35 tt) tt) tt; green = wide 4096 (times level (lit 1 c0·72 tt) tt) tt; blue = wide 4096 (times level (lit 1 c0·42 tt) tt) tt }
+      tint (wide 4096 (times level (lit 1 c0·35 tt) tt) tt) (wide 4096 (times level (lit 1 c0·72 tt) tt) tt) (wide 4096 (times level (lit 1 c0·42 tt) tt) tt)
   transformed (suc (suc (suc (suc (suc zero))))) h =
       let y = signed (luma601-in h) in
-      record { red = wide 4096 (times y (lit 1 c0·95 tt) tt) tt; green = wide 4096 (times y (lit 1 c0·58 tt) tt) tt; blue = wide 4096 (times y (lit 1 c0·16 tt) tt) tt }
-  transformed (suc (suc (suc (suc (suc (suc n)))))) h = record { red = part (h .red); green = part (h .green); blue = part (h .blue) }
+      tint (wide 4096 (times y (lit 1 c0·95 tt) tt) tt) (wide 4096 (times y (lit 1 c0·58 tt) tt) tt) (wide 4096 (times y (lit 1 c0·16 tt) tt) tt)
+  transformed (suc (suc (suc (suc (suc (suc n)))))) h = tint (part (h .red)) (part (h .green)) (part (h .blue))
     where
       part : {a : A .F} {x : Float} → Plus G 255 a x → Has G 4096 (A ._⊕_ (A ._⊗_ (A ._⊖_ a (A .lit c0·5)) (A .lit c1·25)) (A .lit c0·5)) ((x ⊖ c0·5) ⊗ c1·25 ⊕ c0·5)
       part a = wide 4096 (plus (times (minus (signed a) (lit 1 c0·5 tt) tt) (lit 2 c1·25 tt) tt) (lit 1 c0·5 tt) tt) tt
 
   pub lut-inside : (preset : ℕ) (strength : Float) (frame : List ℕ) → T (within 1 strength)
       → Over.lut A preset (A .lit strength) frame ≡ Lut.lut preset strength frame
-  unfolding Lut.lut Lut.pixel
+  unfolding Once.lut Once.pixelLut
   lut-inside preset strength frame s =
       rewrite-ext (length frame) _ _ frame (λ i p l.
       let c = united p in
       let t = transformed preset c in
-      packed-unit (record { red = mixed (c .red) (t .red); green = mixed (c .green) (t .green); blue = mixed (c .blue) (t .blue) }))
+      packed-unit (tint (mixed (c .red) (t .red)) (mixed (c .green) (t .green)) (mixed (c .blue) (t .blue))))
     where
       mixed : {a b : A .F} {x y : Float} → Plus G 255 a x → Has G 4096 b y → Has G 4606 (Over.blend A a b (A .lit strength)) (Lut.blend x y strength)
       mixed h g = plus (signed h) (times (minus g (signed h) tt) (signed (lit⁺ 1 strength s)) tt) tt
@@ -214,19 +228,19 @@ module _ (A : Arith) (G : Agrees A) where
       → T (sized 1 brightness) → T (within 4 contrast) → T (within 4 saturation)
       → Over.colorCorrection A (A .lit brightness) (A .lit contrast) (A .lit saturation) frame
       ≡ ColorCorrection.colorCorrection brightness contrast saturation frame
-  unfolding ColorCorrection.colorCorrection ColorCorrection.pixel ofBits
+  unfolding Once.colorCorrection Once.pixelColour ofBits
   color-correction-inside brightness contrast saturation frame b c s =
       rewrite-ext (length frame) _ _ frame (λ i p l.
       let u = united p in
-      saturated (record { red = level (u .red); green = level (u .green); blue = level (u .blue) }))
+      saturated (tint (level (u .red)) (level (u .green)) (level (u .blue))))
     where
       level : {a : A .F} {x : Float} → Plus G 255 a x → Has G 1029 (Over.level A (A .lit brightness) (A .lit contrast) a) (ColorCorrection.level brightness contrast x)
       level h = plus (times (minus (plus (signed h) (lit 1 brightness b) tt) (lit 1 c0·5 tt) tt) (signed (lit⁺ 4 contrast c)) tt) (lit 1 c0·5 tt) tt
 
-      saturated : {c : Over.Rgb A} {d : Rgb} → Tint 1029 c d → Over.packUnit A (Over.saturate A (A .lit saturation) c) ≡ packUnit (ColorCorrection.saturate saturation d)
+      saturated : {c : A .Rgb} {d : Rgb} → Tint 1029 c d → Over.packUnit A (Over.saturate A (A .lit saturation) c) ≡ packUnit (ColorCorrection.saturate saturation d)
       saturated {c} {d} h =
           let y = luma709-in h tt tt tt in
-          packed-unit (record { red = part (h .red); green = part (h .green); blue = part (h .blue) })
+          packed-unit (tint (part (h .red)) (part (h .green)) (part (h .blue)))
         where
           part : {a : A .F} {x : Float} → Has G 1029 a x
               → Has G 19551 (A ._⊕_ (Over.luma709 A c) (A ._⊗_ (A ._⊖_ a (Over.luma709 A c)) (A .lit saturation))) (luma709 d ⊕ (x ⊖ luma709 d) ⊗ saturation)
@@ -235,7 +249,7 @@ module _ (A : Arith) (G : Agrees A) where
   -- ---- Position
 
   position-in : (n k : ℕ) → n ≤ 1024 → k < n → Has G 3 (Over.position A k n) (position k n)
-  unfolding position ofBits
+  unfolding Once.position ofBits
   position-in n k l m = minus (times (signed (share⁺ k (max (n - 1) 1) (omega arith) (omega arith) (omega arith))) (lit 2 c2·0 tt) tt) (signed one⁺) tt
 
   -- ---- Vignette
@@ -248,16 +262,16 @@ module _ (A : Arith) (G : Agrees A) where
       over (difference (whole⁺ 1024 k (omega arith) (lit≤ tt)) c tt) (record { is = c .is; least = half-least n (omega arith) (omega arith) }) (exact 2048 (lit≤ tt))
 
   square-in : (n k : ℕ) → n ≤ 1024 → k < n → Plus G 4194304 (Over.square A n k) (Vignette.square n k)
-  unfolding Vignette.square
+  unfolding Once.square
   square-in n k l m = square⁺ (apart-in n k l m) tt
 
   square-plus : (n k : ℕ) → n ≤ 1024 → k < n → Signed false (Vignette.square n k)
-  unfolding Vignette.square
+  unfolding Once.square
   square-plus n k l m = square-signed 2048 ((whole k ⊖ whole n ⊘ c2·0) ⊘ (whole n ⊘ c2·0)) (apart-in n k l m .size)
 
   pub vignette-inside : (w h : ℕ) (strength : Float) (frame : List ℕ) → Frame w h frame → T (within 1 strength)
       → Over.vignette A w h (A .lit strength) frame ≡ Vignette.vignette w h strength frame
-  unfolding Vignette.vignette Vignette.factor
+  unfolding Once.vignette Once.factor
   vignette-inside w h strength frame f s =
       placed-ext w h frame _ _ (f .area) (λ x y p l m.
       let a = square-in w x (f .wide) l in
@@ -330,7 +344,7 @@ module _ (A : Arith) (G : Agrees A) where
   pub auto-gradient-inside : (w h : ℕ) (strength vertical horizontal : Float) (frame : List ℕ) → Frame w h frame
       → T (within 1 strength) → T (within 1 vertical) → T (within 1 horizontal)
       → Over.autoGradient A w h (A .lit strength) (A .lit vertical) (A .lit horizontal) frame ≡ AutoGradient.autoGradient w h strength vertical horizontal frame
-  unfolding AutoGradient.autoGradient AutoGradient.shaded AutoGradient.adaptive AutoGradient.addLuma AutoGradient.warm AutoGradient.brightness AutoGradient.shade packLimited within ofBits
+  unfolding AutoGradient.autoGradient AutoGradient.shaded AutoGradient.adaptive AutoGradient.addLuma AutoGradient.warm AutoGradient.brightness AutoGradient.shade Once.packLimited within ofBits
   auto-gradient-inside w h strength vertical horizontal frame f s v t =
       placed-ext w h frame _ _ (f .area) (λ x y p l m.
       let c = loose (unpacked p) in
@@ -344,9 +358,9 @@ module _ (A : Arith) (G : Agrees A) where
       let bright =
       times (plus (signed one⁺) (times warm (lit 1 c0·30 tt) tt) tt)
       (minus (signed one⁺) (times (times (abs (position-in w x (f .wide) l)) (signed (lit⁺ 1 horizontal t)) tt) (signed a) tt) tt) tt in
-      pack-same (clamp-top (plus (times (c .red) bright tt) (times warm (lit 18 c18·0 tt) tt) tt))
-      (clamp-top (plus (times (c .green) bright tt) (times warm (lit 5 c5·0 tt) tt) tt))
-      (clamp-top (minus (times (c .blue) bright tt) (times warm (lit 14 c14·0 tt) tt) tt)))
+      packed-three (plus (times (c .red) bright tt) (times warm (lit 18 c18·0 tt) tt) tt)
+      (plus (times (c .green) bright tt) (times warm (lit 5 c5·0 tt) tt) tt)
+      (minus (times (c .blue) bright tt) (times warm (lit 14 c14·0 tt) tt) tt))
 
   -- ---- Persistence
 
@@ -382,19 +396,14 @@ module _ (A : Arith) (G : Agrees A) where
       abbrev weights : ℕ → Float
       weights = Persistence.weight amount (Persistence.total amount k)
 
-      added : (j q : ℕ) → j ≤ 8 → {a : Over.Rgb A} {b : Rgb} → Tint ((j + 1) * 255) a b → Tint ((suc j + 1) * 255) (Over.add A a (weights′ j) q) (Persistence.add b (weights j) q)
+      added : (j q : ℕ) → j ≤ 8 → {a : A .Rgb} {b : Rgb} → Tint ((j + 1) * 255) a b → Tint ((suc j + 1) * 255) (Over.add A a (weights′ j) q) (Persistence.add b (weights j) q)
       unfolding Persistence.add
       added j q l {a} {b} h =
-          let c = unpacked q in
-          let w = over⁺ (decay-in j) total-big tt in
+          let c = scaled-in (unpacked q) (over⁺ (decay-in j) total-big tt) in
           let e : (j + 1) * 255 + 255 ≡ (suc j + 1) * 255 = omega arith in
           let t = le→leb ((j + 1) * 255 + 255) 16777216 (omega arith) in
           subst (λ (n : ℕ). Tint n (Over.add A a (weights′ j) q) (Persistence.add b (weights j) q)) e
-          (record {
-            red = plus (h .red) (signed (times⁺ (c .red) w tt)) t;
-            green = plus (h .green) (signed (times⁺ (c .green) w tt)) t;
-            blue = plus (h .blue) (signed (times⁺ (c .blue) w tt)) t;
-          })
+          (tint (plus (h .red) (signed (c .red)) t) (plus (h .green) (signed (c .green)) t) (plus (h .blue) (signed (c .blue)) t))
 
       mix-in : (past : List ℕ) (n i p j : ℕ) → i < n → j ≤ k → k * n ≤ length past
           → Tint ((j + 1) * 255) (Over.mix A (A ._⊘_ (A .lit c1·0) (Over.totalOf A (A .lit amount) k)) weights′ past n i p j)
@@ -403,7 +412,7 @@ module _ (A : Arith) (G : Agrees A) where
       mix-in past n i p zero l m r =
           let c = unpacked p in
           let w = over⁺ one⁺ total-big tt in
-          loose (record { red = times⁺ (c .red) w tt; green = times⁺ (c .green) w tt; blue = times⁺ (c .blue) w tt })
+          loose (tint⁺ (times⁺ (c .red) w tt) (times⁺ (c .green) w tt) (times⁺ (c .blue) w tt))
       mix-in past n i p (suc j) l m r =
           let there : j * n + i < length past = (let e = row-ends n k j m in omega arith) in
           rw (G .cell n past i j l there) (added j (getD past (j * n + i) 0) (omega arith) (mix-in past n i p j l (omega arith) r))
@@ -418,7 +427,7 @@ module _ (A : Arith) (G : Agrees A) where
   -- ---- Blur
 
   weight-in : (r d : ℕ) → r ≤ 64 → d ≤ r → Plus G 1 (Over.weight A r d) (Blur.weight r d)
-  unfolding Blur.weight
+  unfolding Once.weight
   weight-in r d l m =
       let e = next-whole r (omega arith) in
       let i : T (within 1 (whole d ⊘ (whole r ⊕ c1·0))) = rw e (share-within d (r + 1) (omega arith) (omega arith) (omega arith)) in
@@ -426,12 +435,12 @@ module _ (A : Arith) (G : Agrees A) where
       one-less (record { is = G .over (G .whole d (omega arith)) (y .is) (let z = whole d ⊘ (whole r ⊕ c1·0) in sized-finite 1 z (within-sized 1 z i)); inside = i })
 
   centre : (r : ℕ) → r ≤ 64 → Least 1 (Blur.weight r 0)
-  unfolding Blur.weight
+  unfolding Once.weight
   centre r l = centre-least (whole r ⊕ c1·0) (rw (next-whole r (omega arith)) (whole-least (r + 1) (omega arith) (omega arith)))
 
   -- the sum of the weights so far
   weights-in : (n r x k : ℕ) → r ≤ 64 → k ≤ 2 * r + 1 → Plus G k (Over.total A (λ i w. w) n r x k) (Blur.total (λ i w. w) n r x k)
-  unfolding Over.total Blur.total
+  unfolding Once.total
   weights-in n r x zero l m = zero⁺
   weights-in n r x (suc k) l m = go (Blur.inside n r x k) (weights-in n r x k l (omega arith))
     where
@@ -444,7 +453,7 @@ module _ (A : Arith) (G : Agrees A) where
 
   -- from the centre on it is at least 1
   weights-least : (n r x k : ℕ) → r ≤ 64 → x < n → k ≤ 2 * r + 1 → r < k → Least 1 (Blur.total (λ i w. w) n r x k)
-  unfolding Blur.total
+  unfolding Once.total
   weights-least n r x zero l p m q = absurd (omega arith)
   weights-least n r x (suc k) l p m q = go (Blur.inside n r x k) (ltb r k) refl refl (λ (i : r < k). weights-least n r x k l p (omega arith) i)
     where
@@ -468,7 +477,7 @@ module _ (A : Arith) (G : Agrees A) where
   -- the sum of the weighted samples so far, each from -b to b
   weighted-in : (b n r x k : ℕ) (f : ℕ → A .F) (g : ℕ → Float) → 129 * b ≤ 16777216 → r ≤ 64 → k ≤ 2 * r + 1 → ((i : ℕ) → i < n → Has G b (f i) (g i))
       → Has G (k * b) (Over.total A (λ i w. A ._⊗_ (f i) w) n r x k) (Blur.total (λ i w. g i ⊗ w) n r x k)
-  unfolding Over.total Blur.total
+  unfolding Once.total
   weighted-in b n r x zero f g small l m h = subst (λ (j : ℕ). Has G j (A .lit c0·0) c0·0) (sym (zero-mul b)) (signed zero⁺)
   weighted-in b n r x (suc k) f g small l m h = go (Blur.inside n r x k) refl (weighted-in b n r x k f g small l (omega arith) h)
     where
@@ -505,7 +514,7 @@ module _ (A : Arith) (G : Agrees A) where
 
   -- ---- Ntsc
 
-  chroma-in : (which : ℕ) {c : Over.Rgb A} {d : Rgb} → Tint 255 c d → Has G 765 (Over.chroma A which c) (Ntsc.chroma which d)
+  chroma-in : (which : ℕ) {c : A .Rgb} {d : Rgb} → Tint 255 c d → Has G 765 (Over.chroma A which c) (Ntsc.chroma which d)
   unfolding Ntsc.chroma ofBits
   chroma-in zero h = plus (minus (times (negated (lit 1 c0·14713 tt)) (h .red) tt) (times (lit 1 c0·28886 tt) (h .green) tt) tt) (times (lit 1 c0·436 tt) (h .blue) tt) tt
   chroma-in (suc n) h = minus (minus (times (lit 1 c0·615 tt) (h .red) tt) (times (lit 1 c0·51499 tt) (h .green) tt) tt) (times (lit 1 c0·10001 tt) (h .blue) tt) tt
@@ -516,16 +525,16 @@ module _ (A : Arith) (G : Agrees A) where
 
   pub ntsc-inside : (w h : ℕ) (strength : Float) (bleed : ℕ) (frame : List ℕ) → Frame w h frame → T (within 1 strength) → bleed ≤ 64
       → Over.ntsc A w (A .lit strength) bleed frame ≡ Ntsc.ntsc w strength bleed frame
-  unfolding Ntsc.ntsc Ntsc.pixel packLimited ofBits
+  unfolding Ntsc.ntsc Ntsc.pixel Once.packLimited ofBits
   ntsc-inside w h strength bleed frame f s l =
       placed-ext w h frame _ _ (f .area) (λ x y p i j.
       let c = unpacked p in
       let y1 = signed (luma601-in c) in
       let u = blend (chroma-in 0 (loose c)) (blurred 0 x y i j) in
       let v = blend (chroma-in 1 (loose c)) (blurred 1 x y i j) in
-      pack-same (clamp-top (plus y1 (times (lit 2 c1·13983 tt) v tt) tt))
-      (clamp-top (minus (minus y1 (times (lit 1 c0·39465 tt) u tt) tt) (times (lit 1 c0·58060 tt) v tt) tt))
-      (clamp-top (plus y1 (times (lit 3 c2·03211 tt) u tt) tt)))
+      packed-three (plus y1 (times (lit 2 c1·13983 tt) v tt) tt)
+      (minus (minus y1 (times (lit 1 c0·39465 tt) u tt) tt) (times (lit 1 c0·58060 tt) v tt) tt)
+      (plus y1 (times (lit 3 c2·03211 tt) u tt) tt))
     where
       blurred : (which x y : ℕ) → x < w → y < h
           → Has G 98685 (Over.blurAt A (λ i. Over.chromaAt A which frame w i y) w bleed x) (Blur.blurAt (λ i. Ntsc.sample which frame w i y) w bleed x)
@@ -539,7 +548,7 @@ module _ (A : Arith) (G : Agrees A) where
 
   -- no luma is above 255: that of white is 255 exactly
   luma-top : (p : ℕ) → Upto c255·0 (luma709 (unpack p))
-  unfolding luma709 unpack ofBits ofInt add mul
+  unfolding Once.luma709 Once.unpack ofBits ofInt add mul
   luma-top p =
       plus-upto (c0·2126 ⊗ whole 255 ⊕ c0·7152 ⊗ whole 255) (c0·0722 ⊗ whole 255) (c0·2126 ⊗ whole (p / 65536 % 256) ⊕ c0·7152 ⊗ whole (p / 256 % 256)) (c0·0722 ⊗ whole (p % 256)) tt
       (plus-upto (c0·2126 ⊗ whole 255) (c0·7152 ⊗ whole 255) (c0·2126 ⊗ whole (p / 65536 % 256)) (c0·7152 ⊗ whole (p / 256 % 256)) tt
@@ -575,30 +584,31 @@ module _ (A : Arith) (G : Agrees A) where
 
       go : (b : Bool) → le (luma709 (unpack p)) (whole t) ≡ b
           → Tint 255
-          (cond b (Over.rgb A (A .lit c0·0) (A .lit c0·0) (A .lit c0·0)) (Over.scaled A (Over.intensity A (A .whole t) (Over.luma709 A (Over.unpack A p))) (Over.unpack A p)))
+          (cond b (A .rgb (A .lit c0·0) (A .lit c0·0) (A .lit c0·0)) (Over.scaled A (Over.intensity A (A .whole t) (Over.luma709 A (Over.unpack A p))) (Over.unpack A p)))
           (cond b (rgb c0·0 c0·0 c0·0) (scaled (Bloom.intensity (whole t) (luma709 (unpack p))) (unpack p)))
-      go true e = record { red = nought; green = nought; blue = nought }
+      go true e = tint (nought) (nought) (nought)
       go false e =
           let c = unpacked p in
           let y = luma709-in (loose c) tt tt tt in
           let k = whole⁺ 255 t l (lit≤ tt) in
           let d : Big G 1 (A ._⊖_ (A .lit c255·0) (A .whole t)) (c255·0 ⊖ whole t) = record { is = difference top⁺ k tt .is; least = top-least t (none-bright p t e l) } in
           let i = clamp-one (over-one (minus y (signed k) tt) d (exact 1020 (lit≤ tt))) in
-          loose (record { red = times⁺ (c .red) i tt; green = times⁺ (c .green) i tt; blue = times⁺ (c .blue) i tt })
+          loose (tint⁺ (times⁺ (c .red) i tt) (times⁺ (c .green) i tt) (times⁺ (c .blue) i tt))
 
-  channel-in : (which : ℕ) {n : ℕ} {c : Over.Rgb A} {d : Rgb} → Tint n c d → Has G n (Over.channel A which c) (channel which d)
-  unfolding channel
+  channel-in : (which : ℕ) {n : ℕ} {c : A .Rgb} {d : Rgb} → Tint n c d → Has G n (Over.channel A which c) (channel which d)
+  unfolding Once.channel
   channel-in zero h = h .red
   channel-in (suc zero) h = h .green
   channel-in (suc (suc n)) h = h .blue
 
   pub bloom-inside : (w h threshold : ℕ) (strength : Float) (radius : ℕ) (frame : List ℕ) → Frame w h frame → threshold ≤ 255 → T (within 1 strength) → radius ≤ 64
       → Over.bloom A w h threshold (A .lit strength) radius frame ≡ Bloom.bloom w h threshold strength radius frame
-  unfolding Bloom.bloom Bloom.composite packLimited
+  unfolding Bloom.bloom Bloom.composite Once.packLimited
   bloom-inside w h threshold strength radius frame f l s m =
       placed-ext w h frame _ _ (f .area) (λ x y p i j.
       let c = loose (unpacked p) in
-      pack-same (clamp-top (glow (c .red) (blurred 0 x y i j))) (clamp-top (glow (c .green) (blurred 1 x y i j))) (clamp-top (glow (c .blue) (blurred 2 x y i j))))
+      let v = tint (blurred 0 x y i j) (blurred 1 x y i j) (blurred 2 x y i j) in
+      packed-three (glow (c .red) (v .red)) (glow (c .green) (v .green)) (glow (c .blue) (v .blue)))
     where
       across : (which x y : ℕ) → x < w → y < h
           → Has G 32895 (Over.horizontal A w radius (A .whole threshold) frame which x y) (Bloom.horizontal w radius (whole threshold) frame which x y)

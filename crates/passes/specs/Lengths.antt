@@ -18,18 +18,19 @@ use Rattle.passes.specs.Bloom.{bloom}
 use Rattle.passes.specs.Flow.{Held, sameHeld, Flow, flow}
 use Rattle.passes.specs.Persistence.{persistence, blend, shifted, refilled}
 use Rattle.passes.specs.PersistenceLaws.{blend-length, shifted-length, refilled-length}
+use Rattle.passes.specs.Once as Once
 
 module _ (w h : ℕ) (s : Float) (frame : List ℕ) where
   pub scanlines-length : length (scanlines w s frame) ≡ length frame
-  unfolding scanlines
+  unfolding Once.scanlines
   scanlines-length = length-rewrite _ _ _
 
   pub vignette-length : length (vignette w h s frame) ≡ length frame
-  unfolding vignette
+  unfolding Once.vignette
   vignette-length = length-rewrite _ _ _
 
   pub crt-length : length (crt w h s frame) ≡ length frame
-  unfolding crt
+  unfolding Once.crt
   crt-length = length-rewrite _ _ _
 
   pub curvature-length : length (curvature w h s frame) ≡ length frame
@@ -41,11 +42,11 @@ module _ (w h : ℕ) (s : Float) (frame : List ℕ) where
   auto-gradient-length vertical horizontal = length-rewrite _ _ _
 
   pub lut-length : (preset : ℕ) → length (lut preset s frame) ≡ length frame
-  unfolding lut
+  unfolding Once.lut
   lut-length preset = length-rewrite _ _ _
 
   pub color-correction-length : (contrast saturation : Float) → length (colorCorrection s contrast saturation frame) ≡ length frame
-  unfolding colorCorrection
+  unfolding Once.colorCorrection
   color-correction-length contrast saturation = length-rewrite _ _ _
 
   pub ntsc-length : (bleed : ℕ) → length (ntsc w s bleed frame) ≡ length frame

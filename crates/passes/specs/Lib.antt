@@ -2,6 +2,8 @@
 -- That no pass meets what document 01 leaves undefined: Arith, Over, Range, Inside, Casts.
 pub mod Rows
 pub mod Fold
+pub mod Arith
+pub mod Once
 pub mod Pixel
 pub mod Position
 pub mod Blur
@@ -20,7 +22,6 @@ pub mod PersistenceLaws
 pub mod Private
 pub mod Lengths
 pub mod Cases
-pub mod Arith
 pub mod Over
 pub mod Range
 pub mod Inside

@@ -9,349 +9,307 @@ use Rattle.num.specs.Const.{c0·0, c0·01, c0·015, c0·035, c0·0722, c0·1000
 use Rattle.num.specs.Rewrite.{every}
 use Rattle.passes.specs.Fold.{fold}
 use Rattle.passes.specs.Rows.{placed}
-use Rattle.passes.specs.Blur.{distance, inside}
 use Rattle.passes.specs.Flow.{Held, sameHeld, Flow, flow}
 use Rattle.passes.specs.Persistence.{shifted, refilled}
 use Rattle.passes.specs.Arith.{Arith}
-
-pub record Colour (F : Type 0) : Type 0 where
-  pub r : F
-  pub g : F
-  pub b : F
+use Rattle.passes.specs.Once as Once
 
 module _ (A : Arith) where
-  open Arith A using (F, lit, whole, _⊕_, _⊖_, _⊗_, _⊘_, neg, abs, least, most, clamp, round, root, cut, below, atMost, word, cell)
+  open Arith A using (F, lit, whole, _⊕_, _⊖_, _⊗_, _⊘_, neg, abs, least, most, clamp, round, root, cut, Rgb, rgb, red, green, blue, below, atMost, word, cell)
 
   infixl 6 _⊕_
   infixl 6 _⊖_
   infixl 7 _⊗_
   infixl 7 _⊘_
-  -- ---- Pixel
+  -- ---- as in Once
 
-  abbrev pub Rgb : Type 0
-  Rgb = Colour (A .F)
+  abbrev pub channels : (F → F) → Rgb → Rgb
+  channels = Once.channels A
 
-  abbrev pub rgb : A .F → A .F → A .F → Rgb
-  rgb x y z = record { r = x; g = y; b = z }
+  abbrev pub scaled : F → Rgb → Rgb
+  scaled = Once.scaled A
 
-  abbrev pub channels : (A .F → A .F) → Rgb → Rgb
-  channels f c = rgb (f (c .r)) (f (c .g)) (f (c .b))
-
-  abbrev pub scaled : A .F → Rgb → Rgb
-  scaled factor c = channels (λ x. x ⊗ factor) c
-
-  abbrev pub channel : ℕ → Rgb → A .F
-  channel zero c = c .r
-  channel (suc zero) c = c .g
-  channel (suc (suc n)) c = c .b
+  abbrev pub channel : ℕ → Rgb → F
+  channel = Once.channel A
 
   abbrev pub unpack : ℕ → Rgb
-  unpack p = rgb (whole (p / 65536 % 256)) (whole (p / 256 % 256)) (whole (p % 256))
+  unpack = Once.unpack A
 
   abbrev pub unit : ℕ → Rgb
-  unit p = channels (λ x. x ⊘ lit c255·0) (unpack p)
+  unit = Once.unit A
 
   abbrev pub pack : Rgb → ℕ
-  pack c = word (cut (c .r)) (cut (c .g)) (cut (c .b))
+  pack = Once.pack A
 
   abbrev pub packNearest : Rgb → ℕ
-  packNearest c = pack (channels round c)
+  packNearest = Once.packNearest A
 
   abbrev pub packLimited : Rgb → ℕ
-  packLimited c = pack (channels (λ x. clamp x (lit c0·0) (lit c255·0)) c)
+  packLimited = Once.packLimited A
 
   abbrev pub packUnit : Rgb → ℕ
-  packUnit c = pack (channels (λ x. clamp x (lit c0·0) (lit c1·0) ⊗ lit c255·0) c)
+  packUnit = Once.packUnit A
 
-  abbrev pub dim : A .F → ℕ → ℕ
-  dim factor p = pack (scaled factor (unpack p))
+  abbrev pub dim : F → ℕ → ℕ
+  dim = Once.dim A
 
-  abbrev pub luma709 : Rgb → A .F
-  luma709 c = lit c0·2126 ⊗ c .r ⊕ lit c0·7152 ⊗ c .g ⊕ lit c0·0722 ⊗ c .b
+  abbrev pub luma709 : Rgb → F
+  luma709 = Once.luma709 A
 
-  abbrev pub luma601 : Rgb → A .F
-  luma601 c = lit c0·299 ⊗ c .r ⊕ lit c0·587 ⊗ c .g ⊕ lit c0·114 ⊗ c .b
+  abbrev pub luma601 : Rgb → F
+  luma601 = Once.luma601 A
 
-  -- ---- Position
+  abbrev pub position : ℕ → ℕ → F
+  position = Once.position A
 
-  abbrev pub position : ℕ → ℕ → A .F
-  position k n = whole k ⊘ whole (max (n - 1) 1) ⊗ lit c2·0 ⊖ lit c1·0
+  abbrev pub inRow : ℕ → F → ℕ → ℕ
+  inRow = Once.inRow A
 
-  -- ---- Scanlines
+  abbrev pub atScanlines : F → ℕ → ℕ → ℕ → ℕ
+  atScanlines = Once.atScanlines A
 
-  abbrev pub inRow : ℕ → A .F → ℕ → ℕ
-  inRow zero strength p = p
-  inRow (suc n) strength p = dim (lit c1·0 ⊖ strength) p
+  abbrev pub scanlines : ℕ → F → List ℕ → List ℕ
+  scanlines = Once.scanlines A
 
-  abbrev pub scanlines : ℕ → A .F → List ℕ → List ℕ
-  scanlines w strength frame = every (placed w (λ x y. inRow (y % 2) strength)) frame
+  abbrev pub square : ℕ → ℕ → F
+  square = Once.square A
 
-  -- ---- Vignette
+  abbrev pub factor : F → F → F
+  factor = Once.factor A
 
-  abbrev pub square : ℕ → ℕ → A .F
-  square n k =
-      let c = whole n ⊘ lit c2·0 in
-      let d = (whole k ⊖ c) ⊘ c in
-      d ⊗ d
+  abbrev pub factorAt : ℕ → ℕ → F → ℕ → ℕ → F
+  factorAt = Once.factorAt A
 
-  abbrev pub factor : A .F → A .F → A .F
-  factor strength distance = lit c1·0 ⊖ least (distance ⊗ strength) (lit c1·0)
+  abbrev pub vignette : ℕ → ℕ → F → List ℕ → List ℕ
+  vignette = Once.vignette A
 
-  abbrev pub factorAt : ℕ → ℕ → A .F → ℕ → ℕ → A .F
-  factorAt w h strength x y =
-      let distance = root (square w x ⊕ square h y) in
-      factor strength distance
+  abbrev pub beam : ℕ → F → F
+  beam = Once.beam A
 
-  abbrev pub vignette : ℕ → ℕ → A .F → List ℕ → List ℕ
-  vignette w h strength frame = every (placed w (λ x y. dim (factorAt w h strength x y))) frame
+  abbrev pub phosphor : ℕ → F → Rgb → Rgb
+  phosphor = Once.phosphor A
 
-  -- ---- Crt
+  abbrev pub offset : ℕ → ℕ → F
+  offset = Once.offset A
 
-  abbrev pub beam : ℕ → A .F → A .F
-  beam (suc zero) strength = lit c1·0
-  beam zero strength = lit c1·0 ⊖ lit c0·12 ⊗ strength
-  beam (suc (suc n)) strength = lit c1·0 ⊖ lit c0·12 ⊗ strength
+  abbrev pub edge : F → F → F → F
+  edge = Once.edge A
 
-  abbrev pub phosphor : ℕ → A .F → Rgb → Rgb
-  phosphor zero dim c = rgb (c .r) (c .g ⊗ dim) (c .b ⊗ dim)
-  phosphor (suc zero) dim c = rgb (c .r ⊗ dim) (c .g) (c .b ⊗ dim)
-  phosphor (suc (suc n)) dim c = rgb (c .r ⊗ dim) (c .g ⊗ dim) (c .b)
+  abbrev pub shadeCrt : ℕ → F → F → ℕ → ℕ
+  shadeCrt = Once.shadeCrt A
 
-  abbrev pub offset : ℕ → ℕ → A .F
-  offset n k =
-      let c = whole (n - 1) ⊗ lit c0·5 in
-      (whole k ⊖ c) ⊗ (lit c1·0 ⊘ most c (lit c1·0))
+  abbrev pub atCrt : ℕ → ℕ → F → ℕ → ℕ → ℕ → ℕ
+  atCrt = Once.atCrt A
 
-  abbrev pub edge : A .F → A .F → A .F → A .F
-  edge strength nx ny = clamp (lit c1·0 ⊖ strength ⊗ lit c0·12 ⊗ (nx ⊗ nx ⊕ ny ⊗ ny)) (lit c0·0) (lit c1·0)
-
-  abbrev pub shadeCrt : ℕ → A .F → A .F → ℕ → ℕ
-  shadeCrt column dim factor p = packNearest (scaled factor (phosphor column dim (unpack p)))
-
-  abbrev pub atCrt : ℕ → ℕ → A .F → ℕ → ℕ → ℕ → ℕ
-  atCrt w h strength x y =
-      let dim = lit c1·0 ⊖ lit c0·035 ⊗ strength in
-      let factor = beam (y % 3) strength ⊗ edge strength (offset w x) (offset h y) in
-      shadeCrt (x % 3) dim factor
-
-  abbrev pub crt : ℕ → ℕ → A .F → List ℕ → List ℕ
-  crt w h strength frame = every (placed w (atCrt w h strength)) frame
+  abbrev pub crt : ℕ → ℕ → F → List ℕ → List ℕ
+  crt = Once.crt A
 
   -- ---- Curvature
 
-  abbrev pub outside : A .F → Bool
+  abbrev pub outside : F → Bool
   outside s = below s (neg (lit c1·0)) || below (lit c1·0) s
 
-  abbrev pub indexOf : ℕ → A .F → ℕ
+  abbrev pub indexOf : ℕ → F → ℕ
   indexOf w x = cut (round ((x ⊕ lit c1·0) ⊗ lit c0·5 ⊗ whole (w - 1)))
 
-  abbrev pub sampleAt : ℕ → ℕ → List ℕ → A .F → A .F → ℕ
+  abbrev pub sampleAt : ℕ → ℕ → List ℕ → F → F → ℕ
   sampleAt w h copy sx sy = cond (outside sx || outside sy) 0 (cell w copy (indexOf w sx) (indexOf h sy))
 
-  abbrev pub bend : ℕ → ℕ → A .F → List ℕ → A .F → A .F → ℕ
+  abbrev pub bend : ℕ → ℕ → F → List ℕ → F → F → ℕ
   bend w h amount copy nx ny =
       let r2 = nx ⊗ nx ⊕ ny ⊗ ny in
       let distortion = lit c1·0 ⊕ amount ⊗ r2 in
       sampleAt w h copy (nx ⊗ distortion) (ny ⊗ distortion)
 
-  abbrev pub curvature : ℕ → ℕ → A .F → List ℕ → List ℕ
+  abbrev pub curvature : ℕ → ℕ → F → List ℕ → List ℕ
   curvature w h amount frame = every (placed w (λ x y p. bend w h amount frame (position x w) (position y h))) frame
 
   -- ---- AutoGradient
 
-  abbrev pub addLuma : A .F → ℕ → A .F
+  abbrev pub addLuma : F → ℕ → F
   addLuma sum p = sum ⊕ luma709 (unpack p)
 
-  abbrev pub adaptive : A .F → ℕ → A .F → A .F
+  abbrev pub adaptive : F → ℕ → F → F
   adaptive strength count sum =
       let scene = clamp (sum ⊘ whole count ⊘ lit c255·0) (lit c0·0) (lit c1·0) in
       strength ⊗ (lit c1·0 ⊖ scene ⊗ lit c0·45)
 
-  abbrev pub warm : ℕ → ℕ → A .F → A .F → A .F
+  abbrev pub warm : ℕ → ℕ → F → F → F
   warm h y vertical a = neg (position y h) ⊗ vertical ⊗ a
 
-  abbrev pub brightness : ℕ → ℕ → A .F → A .F → A .F → A .F
+  abbrev pub brightness : ℕ → ℕ → F → F → F → F
   brightness w x t horizontal a = (lit c1·0 ⊕ t ⊗ lit c0·30) ⊗ (lit c1·0 ⊖ abs (position x w) ⊗ horizontal ⊗ a)
 
-  abbrev pub shade : A .F → A .F → ℕ → ℕ
+  abbrev pub shade : F → F → ℕ → ℕ
   shade t factor p =
       let c = unpack p in
-      packLimited (rgb (c .r ⊗ factor ⊕ t ⊗ lit c18·0) (c .g ⊗ factor ⊕ t ⊗ lit c5·0) (c .b ⊗ factor ⊖ t ⊗ lit c14·0))
+      packLimited (rgb (red c ⊗ factor ⊕ t ⊗ lit c18·0) (green c ⊗ factor ⊕ t ⊗ lit c5·0) (blue c ⊗ factor ⊖ t ⊗ lit c14·0))
 
-  abbrev pub at : ℕ → ℕ → A .F → A .F → A .F → ℕ → ℕ → ℕ → ℕ
+  abbrev pub at : ℕ → ℕ → F → F → F → ℕ → ℕ → ℕ → ℕ
   at w h vertical horizontal a x y = let t = warm h y vertical a in shade t (brightness w x t horizontal a)
 
-  abbrev pub autoGradient : ℕ → ℕ → A .F → A .F → A .F → List ℕ → List ℕ
+  abbrev pub autoGradient : ℕ → ℕ → F → F → F → List ℕ → List ℕ
   autoGradient w h strength vertical horizontal frame =
       every (placed w (at w h vertical horizontal (adaptive strength (length frame) (fold addLuma (lit c0·0) frame)))) frame
 
-  -- ---- Lut
+  -- ---- Lut, as in Once
 
   abbrev pub warmCrt : Rgb → Rgb
-  warmCrt c = rgb (c .r ⊗ lit c1·05 ⊕ lit c0·015) (c .g ⊗ lit c1·01) (c .b ⊗ lit c0·92)
+  warmCrt = Once.warmCrt A
 
   abbrev pub coolCrt : Rgb → Rgb
-  coolCrt c = rgb (c .r ⊗ lit c0·94) (c .g ⊗ lit c0·99) (c .b ⊗ lit c1·06 ⊕ lit c0·01)
+  coolCrt = Once.coolCrt A
 
   abbrev pub composite : Rgb → Rgb
-  composite c =
-      let y = luma601 c in
-      rgb ((y ⊕ (c .r ⊖ y) ⊗ lit c0·82) ⊗ lit c1·03)
-      ((y ⊕ (c .g ⊖ y) ⊗ lit c0·88) ⊗ lit c1·0)
-      ((y ⊕ (c .b ⊖ y) ⊗ lit c0·72) ⊗ lit c0·96)
+  composite = Once.composite A
 
   abbrev pub gameBoy : Rgb → Rgb
-  gameBoy c = let level = round (luma601 c ⊗ lit c3·0) ⊘ lit c3·0 in rgb (level ⊗ lit c0·35) (level ⊗ lit c0·72) (level ⊗ lit c0·42)
+  gameBoy = Once.gameBoy A
 
   abbrev pub amber : Rgb → Rgb
-  amber c = let luminance = luma601 c in rgb (luminance ⊗ lit c0·95) (luminance ⊗ lit c0·58) (luminance ⊗ lit c0·16)
+  amber = Once.amber A
 
   abbrev pub highContrast : Rgb → Rgb
-  highContrast c = channels (λ x. (x ⊖ lit c0·5) ⊗ lit c1·25 ⊕ lit c0·5) c
+  highContrast = Once.highContrast A
 
   abbrev pub transform : ℕ → Rgb → Rgb
-  transform zero c = c
-  transform (suc zero) c = warmCrt c
-  transform (suc (suc zero)) c = coolCrt c
-  transform (suc (suc (suc zero))) c = composite c
-  transform (suc (suc (suc (suc zero)))) c = gameBoy c
-  transform (suc (suc (suc (suc (suc zero))))) c = amber c
-  transform (suc (suc (suc (suc (suc (suc n)))))) c = highContrast c
+  transform = Once.transform A
 
-  abbrev pub blend : A .F → A .F → A .F → A .F
-  blend x y strength = x ⊕ (y ⊖ x) ⊗ strength
+  abbrev pub blend : F → F → F → F
+  blend = Once.blend A
 
-  abbrev pub pixelLut : ℕ → A .F → ℕ → ℕ
-  pixelLut preset strength p =
-      let c = unit p in
-      let t = transform preset c in
-      packUnit (rgb (blend (c .r) (t .r) strength) (blend (c .g) (t .g) strength) (blend (c .b) (t .b) strength))
+  abbrev pub pixelLut : ℕ → F → ℕ → ℕ
+  pixelLut = Once.pixelLut A
 
-  abbrev pub lut : ℕ → A .F → List ℕ → List ℕ
-  lut preset strength frame = every (λ i. pixelLut preset strength) frame
+  abbrev pub lut : ℕ → F → List ℕ → List ℕ
+  lut = Once.lut A
 
-  -- ---- ColorCorrection
+  -- ---- ColorCorrection, as in Once
 
-  abbrev pub level : A .F → A .F → A .F → A .F
-  level brightness contrast x = (x ⊕ brightness ⊖ lit c0·5) ⊗ contrast ⊕ lit c0·5
+  abbrev pub level : F → F → F → F
+  level = Once.level A
 
-  abbrev pub saturate : A .F → Rgb → Rgb
-  saturate saturation c = let luminance = luma709 c in channels (λ x. luminance ⊕ (x ⊖ luminance) ⊗ saturation) c
+  abbrev pub saturate : F → Rgb → Rgb
+  saturate = Once.saturate A
 
-  abbrev pub pixelColour : A .F → A .F → A .F → ℕ → ℕ
-  pixelColour brightness contrast saturation p = packUnit (saturate saturation (channels (level brightness contrast) (unit p)))
+  abbrev pub pixelColour : F → F → F → ℕ → ℕ
+  pixelColour = Once.pixelColour A
 
-  abbrev pub colorCorrection : A .F → A .F → A .F → List ℕ → List ℕ
-  colorCorrection brightness contrast saturation frame = every (λ i. pixelColour brightness contrast saturation) frame
+  abbrev pub colorCorrection : F → F → F → List ℕ → List ℕ
+  colorCorrection = Once.colorCorrection A
 
   -- ---- Persistence
 
-  unfoldable pub decay : A .F → ℕ → A .F
+  unfoldable pub decay : F → ℕ → F
   decay amount zero = amount
   decay amount (suc j) = decay amount j ⊗ lit c0·55
 
-  unfoldable pub totalOf : A .F → ℕ → A .F
+  unfoldable pub totalOf : F → ℕ → F
   totalOf amount zero = lit c1·0
   totalOf amount (suc k) = totalOf amount k ⊕ decay amount k
 
-  abbrev pub weightOf : A .F → A .F → ℕ → A .F
+  abbrev pub weightOf : F → F → ℕ → F
   weightOf amount t j = decay amount j ⊘ t
 
-  abbrev pub add : Rgb → A .F → ℕ → Rgb
-  add sum w p = let c = scaled w (unpack p) in rgb (sum .r ⊕ c .r) (sum .g ⊕ c .g) (sum .b ⊕ c .b)
+  abbrev pub add : Rgb → F → ℕ → Rgb
+  add sum w p = let c = scaled w (unpack p) in rgb (red sum ⊕ red c) (green sum ⊕ green c) (blue sum ⊕ blue c)
 
-  unfoldable pub mix : A .F → (ℕ → A .F) → List ℕ → (n i p : ℕ) → ℕ → Rgb
+  unfoldable pub mix : F → (ℕ → F) → List ℕ → (n i p : ℕ) → ℕ → Rgb
   mix w ws past n i p zero = scaled w (unpack p)
   mix w ws past n i p (suc j) = add (mix w ws past n i p j) (ws j) (cell n past i j)
 
-  abbrev pub blendPast : A .F → ℕ → (past frame : List ℕ) → List ℕ
+  abbrev pub blendPast : F → ℕ → (past frame : List ℕ) → List ℕ
   blendPast amount k past frame =
       let t = totalOf amount k in
       every (λ i p. packLimited (mix (lit c1·0 ⊘ t) (weightOf amount t) past (length frame) i p k)) frame
 
-  abbrev pub persistence : A .F → ℕ → Held → Flow → Flow
+  abbrev pub persistence : F → ℕ → Held → Flow → Flow
   persistence amount k size x =
       cond (sameHeld (x .held) size)
       (flow (blendPast amount k (x .past) (x .frame)) size (shifted k (x .frame) (x .past)))
       (flow (x .frame) size (refilled k (x .frame) (x .past)))
 
-  -- ---- Blur
+  -- ---- Blur, as in Once
 
-  abbrev pub weight : ℕ → ℕ → A .F
-  weight radius d = lit c1·0 ⊖ whole d ⊘ (whole radius ⊕ lit c1·0)
+  abbrev pub weight : ℕ → ℕ → F
+  weight = Once.weight A
 
-  abbrev pub taken : Bool → A .F → A .F → A .F
-  taken true sum v = sum ⊕ v
-  taken false sum v = sum
+  abbrev pub taken : Bool → F → F → F
+  taken = Once.taken A
 
-  abbrev pub step : (ℕ → A .F → A .F) → ℕ → ℕ → ℕ → ℕ → A .F → A .F
-  step term n radius x k sum = taken (inside n radius x k) sum (term (x + k - radius) (weight radius (distance radius k)))
+  abbrev pub step : (ℕ → F → F) → ℕ → ℕ → ℕ → ℕ → F → F
+  step = Once.step A
 
-  unfoldable pub total : (ℕ → A .F → A .F) → ℕ → ℕ → ℕ → ℕ → A .F
-  total term n radius x zero = lit c0·0
-  total term n radius x (suc k) = step term n radius x k (total term n radius x k)
+  abbrev pub total : (ℕ → F → F) → ℕ → ℕ → ℕ → ℕ → F
+  total = Once.total A
 
-  abbrev pub weighted : (ℕ → A .F) → ℕ → ℕ → ℕ → A .F
-  weighted sample n radius x = total (λ i w. sample i ⊗ w) n radius x (2 * radius + 1)
+  abbrev pub weighted : (ℕ → F) → ℕ → ℕ → ℕ → F
+  weighted = Once.weighted A
 
-  abbrev pub weights : ℕ → ℕ → ℕ → A .F
-  weights n radius x = total (λ i w. w) n radius x (2 * radius + 1)
+  abbrev pub weights : ℕ → ℕ → ℕ → F
+  weights = Once.weights A
 
-  abbrev pub ratio : A .F → A .F → A .F
-  ratio sum w = cond (below (lit c0·0) w) (sum ⊘ w) (lit c0·0)
+  abbrev pub ratio : F → F → F
+  ratio = Once.ratio A
 
-  abbrev pub blurAt : (ℕ → A .F) → ℕ → ℕ → ℕ → A .F
-  blurAt sample n radius x = ratio (weighted sample n radius x) (weights n radius x)
+  abbrev pub blurBy : (ℕ → F) → (ℕ → F) → ℕ → ℕ → ℕ → F
+  blurBy = Once.blurBy A
+
+  abbrev pub blurAt : (ℕ → F) → ℕ → ℕ → ℕ → F
+  blurAt = Once.blurAt A
+
+  abbrev pub down : ℕ → ℕ → (ℕ → ℕ → F) → ℕ → ℕ → F
+  down = Once.down A
 
   -- ---- Ntsc
 
-  abbrev pub chroma : ℕ → Rgb → A .F
-  chroma zero c = neg (lit c0·14713) ⊗ c .r ⊖ lit c0·28886 ⊗ c .g ⊕ lit c0·436 ⊗ c .b
-  chroma (suc n) c = lit c0·615 ⊗ c .r ⊖ lit c0·51499 ⊗ c .g ⊖ lit c0·10001 ⊗ c .b
+  abbrev pub chroma : ℕ → Rgb → F
+  chroma zero c = neg (lit c0·14713) ⊗ red c ⊖ lit c0·28886 ⊗ green c ⊕ lit c0·436 ⊗ blue c
+  chroma (suc n) c = lit c0·615 ⊗ red c ⊖ lit c0·51499 ⊗ green c ⊖ lit c0·10001 ⊗ blue c
 
-  abbrev pub chromaAt : ℕ → List ℕ → ℕ → ℕ → ℕ → A .F
+  abbrev pub chromaAt : ℕ → List ℕ → ℕ → ℕ → ℕ → F
   chromaAt which frame w x y = chroma which (unpack (cell w frame x y))
 
-  abbrev pub blendChroma : A .F → A .F → A .F → A .F
+  abbrev pub blendChroma : F → F → F → F
   blendChroma strength original blurred = original ⊕ (blurred ⊖ original) ⊗ strength
 
-  abbrev pub colour : A .F → A .F → A .F → Rgb
+  abbrev pub colour : F → F → F → Rgb
   colour y u v = rgb (y ⊕ lit c1·13983 ⊗ v) (y ⊖ lit c0·39465 ⊗ u ⊖ lit c0·58060 ⊗ v) (y ⊕ lit c2·03211 ⊗ u)
 
-  abbrev pub pixelNtsc : A .F → A .F → A .F → ℕ → ℕ
+  abbrev pub pixelNtsc : F → F → F → ℕ → ℕ
   pixelNtsc strength blurredU blurredV p =
       let c = unpack p in
       packLimited (colour (luma601 c) (blendChroma strength (chroma 0 c) blurredU) (blendChroma strength (chroma 1 c) blurredV))
 
-  abbrev pub ntsc : ℕ → A .F → ℕ → List ℕ → List ℕ
+  abbrev pub ntsc : ℕ → F → ℕ → List ℕ → List ℕ
   ntsc w strength bleed frame =
       every (placed w (λ x y. pixelNtsc strength (blurAt (λ i. chromaAt 0 frame w i y) w bleed x) (blurAt (λ i. chromaAt 1 frame w i y) w bleed x))) frame
 
   -- ---- Bloom
 
-  abbrev pub intensity : A .F → A .F → A .F
+  abbrev pub intensity : F → F → F
   intensity threshold brightness = clamp ((brightness ⊖ threshold) ⊘ (lit c255·0 ⊖ threshold)) (lit c0·0) (lit c1·0)
 
-  abbrev pub bright : A .F → Rgb → Rgb
+  abbrev pub bright : F → Rgb → Rgb
   bright threshold c =
       let brightness = luma709 c in
       cond (atMost brightness threshold) (rgb (lit c0·0) (lit c0·0) (lit c0·0)) (scaled (intensity threshold brightness) c)
 
-  abbrev pub brightAt : A .F → List ℕ → ℕ → ℕ → ℕ → ℕ → A .F
+  abbrev pub brightAt : F → List ℕ → ℕ → ℕ → ℕ → ℕ → F
   brightAt threshold frame w which x y = channel which (bright threshold (unpack (cell w frame x y)))
 
-  abbrev pub horizontal : ℕ → ℕ → A .F → List ℕ → ℕ → ℕ → ℕ → A .F
+  abbrev pub horizontal : ℕ → ℕ → F → List ℕ → ℕ → ℕ → ℕ → F
   horizontal w radius threshold frame which x y = blurAt (λ i. brightAt threshold frame w which i y) w radius x
 
-  abbrev pub vertical : ℕ → ℕ → (ℕ → ℕ → ℕ → A .F) → ℕ → ℕ → Rgb
+  abbrev pub vertical : ℕ → ℕ → (ℕ → ℕ → ℕ → F) → ℕ → ℕ → Rgb
   vertical h radius plane x y =
       rgb (blurAt (λ i. plane 0 x i) h radius y) (blurAt (λ i. plane 1 x i) h radius y) (blurAt (λ i. plane 2 x i) h radius y)
 
-  abbrev pub compositeOver : A .F → Rgb → ℕ → ℕ
+  abbrev pub compositeOver : F → Rgb → ℕ → ℕ
   compositeOver strength glow p =
       let c = unpack p in
-      packLimited (rgb (c .r ⊕ glow .r ⊗ strength) (c .g ⊕ glow .g ⊗ strength) (c .b ⊕ glow .b ⊗ strength))
+      packLimited (rgb (red c ⊕ red glow ⊗ strength) (green c ⊕ green glow ⊗ strength) (blue c ⊕ blue glow ⊗ strength))
 
-  abbrev pub bloom : ℕ → ℕ → ℕ → A .F → ℕ → List ℕ → List ℕ
+  abbrev pub bloom : ℕ → ℕ → ℕ → F → ℕ → List ℕ → List ℕ
   bloom w h threshold strength radius frame =
       every (placed w (λ x y. compositeOver strength (vertical h radius (horizontal w radius (whole threshold) frame) x y))) frame

@@ -21,6 +21,7 @@ use Rattle.num.specs.Bounds.{zero-within, cut-within, round-step-within, value-
 use Rattle.passes.specs.Arith.{Arith, Agrees}
 use Rattle.passes.specs.Pixel.{rgb, pack}
 use Rattle.num.specs.Sized.{Exact, exact, Sized, Least, sized-finite, sized-number, within-sized, neg-sized, plus-sized, minus-sized, times-sized, square-within, over-sized, over-within, whole-least, abs-sized, round-step-sized, max-least, share-within, sized-widen, between-sized, root-within}
+use Rattle.passes.specs.Once as Once
 
 pub record Has {A : Arith} (G : Agrees A) (n : ℕ) (a : A .F) (x : Float) : Type 0 where
   pub is : G .same a x
@@ -236,7 +237,7 @@ module _ {A : Arith} {G : Agrees A} where
 
   pub pack-same : {a b c : A .F} {x y z : Float} → Plus G 255 a x → Plus G 255 b y → Plus G 255 c z
       → A .word (A .cut a) (A .cut b) (A .cut c) ≡ pack (rgb x y z)
-  unfolding pack
+  unfolding Once.pack
   pack-same {a} {b} {c} {x} {y} {z} h g k =
       rw (cut h, cut g, cut k) (G .word (cutOf x) (cutOf y) (cutOf z) (cut-within 255 x (h .inside)) (cut-within 255 y (g .inside)) (cut-within 255 z (k .inside)))
     where

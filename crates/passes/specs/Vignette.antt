@@ -2,29 +2,17 @@
 use Prim.Native.Nat.{ℕ}
 use mathlib.Core.List.{List}
 use lib.Ieee.{Float}
-use Rattle.num.specs.Steps.{minOf}
-use Rattle.num.specs.Root.{rootOf}
-use Rattle.num.specs.Const.{c1·0, c2·0}
-use Rattle.num.specs.F32.{_⊕_, _⊖_, _⊗_, _⊘_, whole}
-use Rattle.passes.specs.Pixel.{dim}
-use Rattle.num.specs.Rewrite.{every}
-use Rattle.passes.specs.Rows.{placed}
+use Rattle.passes.specs.Arith.{plain}
+use Rattle.passes.specs.Once as Once
 
--- how far k is from the middle of n, in halves of n, squared
-unfoldable pub square : ℕ → ℕ → Float
-square n k =
-    let c = whole n ⊘ c2·0 in
-    let d = (whole k ⊖ c) ⊘ c in
-    d ⊗ d
+abbrev pub square : ℕ → ℕ → Float
+square = Once.square plain
 
-unfoldable pub factor : Float → Float → Float
-factor strength distance = c1·0 ⊖ minOf (distance ⊗ strength) c1·0
+abbrev pub factor : Float → Float → Float
+factor = Once.factor plain
 
--- the factor at column x and row y
 abbrev pub factorAt : ℕ → ℕ → Float → ℕ → ℕ → Float
-factorAt w h strength x y =
-    let distance = rootOf (square w x ⊕ square h y) in
-    factor strength distance
+factorAt = Once.factorAt plain
 
-unfoldable pub vignette : ℕ → ℕ → Float → List ℕ → List ℕ
-vignette w h strength frame = every (placed w (λ x y. dim (factorAt w h strength x y))) frame
+abbrev pub vignette : ℕ → ℕ → Float → List ℕ → List ℕ
+vignette = Once.vignette plain

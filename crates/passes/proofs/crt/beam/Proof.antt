@@ -8,15 +8,16 @@ use Rattle.num.specs.F32.{_⊖_, _⊗_}
 use Rattle.passes.specs.Crt.{beam}
 use Rattle.passes.proofs.crt.beam.Statement.{statement}
 use Rattle.passes.proofs.crt.beam.Tie as tie
+use Rattle.passes.specs.Once as Once
 
 shaded : (n : ℕ) (s : Float) → (n ≡ 1 → ⊥) → c1·0 ⊖ c0·12 ⊗ s ≡ beam n s
-unfolding beam
+unfolding Once.beam
 shaded zero s h = refl
 shaded (suc zero) s h = absurd (h refl)
 shaded (suc (suc n)) s h = refl
 
 returns : tie.Need-returns
-unfolding beam
+unfolding Once.beam
 returns c = rw (c .match .keys1)
 
 returns-2 : tie.Need-returns-2

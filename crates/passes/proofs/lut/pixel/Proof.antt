@@ -1,10 +1,10 @@
 -- `passes::lut::pixel` meets its contract. Assumes nothing.
-use Rattle.passes.specs.Lut.{pixel}
 use Rattle.passes.proofs.lut.pixel.Statement.{statement}
 use Rattle.passes.proofs.lut.pixel.Tie as tie
+use Rattle.passes.specs.Once as Once
 
 returns : tie.Need-returns
-unfolding pixel
+unfolding Once.pixelLut
 returns c = cc
 
 pub pixel-spec : {M : Type 1} → statement M

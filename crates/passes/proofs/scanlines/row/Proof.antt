@@ -11,13 +11,14 @@ use Rattle.passes.specs.Scanlines.{at, inRow}
 use Rattle.passes.specs.Pixel.{dim}
 use Rattle.passes.proofs.scanlines.row.Statement.{statement}
 use Rattle.passes.proofs.scanlines.row.Tie as tie
+use Rattle.passes.specs.Once as Once
 
 even : (n : ℕ) (s : Float) (p : ℕ) → n ≡ 0 → inRow n s p ≡ p
-unfolding inRow
+unfolding Once.inRow
 even n s p e = rw e
 
 odd : (n : ℕ) (s : Float) (p : ℕ) → (n ≡ 0 → ⊥) → dim (c1·0 ⊖ s) p ≡ inRow n s p
-unfolding inRow
+unfolding Once.inRow
 odd zero s p h = absurd (h refl)
 odd (suc n) s p h = refl
 
