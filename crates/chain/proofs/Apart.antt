@@ -14,7 +14,7 @@ use Rattle.num.specs.Const.{c0·0, c0·95}
 use Rattle.passes.specs.Flow.{sized, Flow}
 use Rattle.passes.specs.Fold.{fold}
 use Rattle.passes.specs.Lengths.{persistence-length, history-length, persistence-held}
-use Rattle.passes.specs.Persistence.{persistence}
+use Rattle.passes.specs.Plain.Persistence.{persistence}
 use Rattle.chain.specs.Chain.{wash, over, turn, chain, depthOf, depth}
 use Rattle.chain.specs.Normal.{settled, normalPass, normalChain, persists}
 use Rattle.chain.specs.Passes.{kindOf}

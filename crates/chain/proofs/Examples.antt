@@ -11,9 +11,10 @@ use Rattle.num.specs.Cases.{Hold}
 use Rattle.num.specs.Const.{c0·5, c1·0}
 use Rattle.num.specs.Rewrite.{rewrite}
 use Rattle.num.specs.Steps.{clampOf, cutOf, plusZeroOf, limitOf}
+use Rattle.passes.specs as Text
 use Rattle.passes.specs.Flow.{sameHeld, fineHeld}
 use Rattle.passes.specs.Fold.{fold}
-use Rattle.passes.specs.Persistence as Persistence
+use Rattle.passes.specs.Plain.Persistence as Persistence
 use Rattle.chain.specs.Agree.{opened, SameCall, frames, none, more, before, point}
 use Rattle.chain.specs.Bits.{valueAt, fieldAt}
 use Rattle.chain.specs.Calls.{badSide, stops, lacks, Report, refusal, acceptance, unless, onFirst, presets, unlessFramed, shown, frameReply}
@@ -28,7 +29,6 @@ use Rattle.chain.specs.Step.{refuseIf}
 use Rattle.chain.specs.declared.station.Pass.the-variants.{Persistence, Lut}
 use Rattle.chain.specs.declared.station.Station.{Station}
 use Rattle.chain.proofs.Agreement.{demand-3}
-use Rattle.passes.specs.Once as Once
 
 -- ## Two cards
 
@@ -114,8 +114,8 @@ points =
 
 pub runs-hold : Hold shows × Hold reports × Hold points
 unfolding point before saw run after call frameReply unlessFramed shown unless stops lacks goodStation fineHeld sameHeld badSide settled normalPass normalChain
-    persists depth fold turn over wash onFirst presets ofBits ofInt add mul div lt clampOf cutOf rewrite Once.unpack Once.pack Once.packLimited
-    Persistence.persistence Persistence.decay Persistence.total Persistence.add Persistence.mix Persistence.pixel Persistence.blended Persistence.blend
+    persists depth fold turn over wash onFirst presets ofBits ofInt add mul div lt clampOf cutOf rewrite Text.Pixel.unpack Text.Pixel.pack Text.Pixel.packLimited
+    Text.Persistence.persistence Text.Persistence.decay Text.Persistence.total Text.Persistence.add Text.Persistence.mix Text.Persistence.pixel Text.Persistence.blended Text.Persistence.blend
     Persistence.copies Persistence.refilled Persistence.shifted
 runs-hold = (refl, refl, refl)
 
@@ -126,8 +126,8 @@ same p = frames refl (λ fits. refl)
 
 pub agree : drop 2 (saw old (shared 7)) ≡ drop 2 (saw new (shared 8))
 unfolding point before saw run after call frameReply unlessFramed shown unless stops lacks goodStation fineHeld sameHeld badSide settled normalPass normalChain
-    persists depth fold turn over wash onFirst presets ofBits ofInt add mul div lt clampOf cutOf rewrite Once.unpack Once.pack Once.packLimited
-    Persistence.persistence Persistence.decay Persistence.total Persistence.add Persistence.mix Persistence.pixel Persistence.blended Persistence.blend
+    persists depth fold turn over wash onFirst presets ofBits ofInt add mul div lt clampOf cutOf rewrite Text.Pixel.unpack Text.Pixel.pack Text.Pixel.packLimited
+    Text.Persistence.persistence Text.Persistence.decay Text.Persistence.total Text.Persistence.add Text.Persistence.mix Text.Persistence.pixel Text.Persistence.blended Text.Persistence.blend
     Persistence.copies Persistence.refilled Persistence.shifted
 agree =
     demand-3 card other station station opens opens-other refl (90 ∷ 91 ∷ 92 ∷ []) (5 ∷ 6 ∷ []) own [] (record { same-switches = refl; same-presets = refl })

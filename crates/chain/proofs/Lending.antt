@@ -10,7 +10,7 @@ use lib.Ieee.{Float}
 use Rattle.num.specs.Const.{c0·0, c0·95, c1·0}
 use Rattle.passes.specs.Flow.{Flow, flow}
 use Rattle.passes.specs.Fold.{Folded}
-use Rattle.passes.specs.Persistence.{persistence}
+use Rattle.passes.specs.Plain.Persistence.{persistence}
 use Rattle.passes.specs.Rows.{Frame}
 use Rattle.chain.specs.Chain.{over, turn}
 use Rattle.chain.specs.Lent.{Lent, Ready}

@@ -102,23 +102,23 @@ module _ (A : Arith) (G : Agrees A) where
   unfolding overBy over wash normalPass within ofBits
   pass-inside w h (Ntsc strength bleed) x n t f room =
       let p = both (settled c0·0 c1·0 strength) (counted 64 bleed) n in
-      ap (λ (l : List ℕ). flow l (x .held) (x .past)) (Inside.ntsc-inside A G w h strength bleed (x .frame) f (unit strength (p .0)) (counted-most 64 bleed (p .1)))
+      ap (λ (l : List ℕ). flow l (x .held) (x .past)) (Inside.ntsc-inside G w h strength bleed (x .frame) f (unit strength (p .0)) (counted-most 64 bleed (p .1)))
   pass-inside w h (Bloom threshold strength radius) x n t f room =
       let p = both (settled c0·0 c1·0 strength) (counted 64 radius) n in
       let l : threshold ≤ 255 = (let u = t .0 in omega arith) in
-      ap (λ (l : List ℕ). flow l (x .held) (x .past)) (Inside.bloom-inside A G w h threshold strength radius (x .frame) f l (unit strength (p .0)) (counted-most 64 radius (p .1)))
+      ap (λ (l : List ℕ). flow l (x .held) (x .past)) (Inside.bloom-inside G w h threshold strength radius (x .frame) f l (unit strength (p .0)) (counted-most 64 radius (p .1)))
   pass-inside w h (AutoGradient strength vertical horizontal) x n t f room =
       let p = both (settled c0·0 c1·0 strength && settled c0·0 c1·0 vertical) (settled c0·0 c1·0 horizontal) n in
       let q = both (settled c0·0 c1·0 strength) (settled c0·0 c1·0 vertical) (p .0) in
       ap (λ (l : List ℕ). flow l (x .held) (x .past))
-      (Inside.auto-gradient-inside A G w h strength vertical horizontal (x .frame) f (unit strength (q .0)) (unit vertical (q .1)) (unit horizontal (p .1)))
+      (Inside.auto-gradient-inside G w h strength vertical horizontal (x .frame) f (unit strength (q .0)) (unit vertical (q .1)) (unit horizontal (p .1)))
   pass-inside w h (Persistence amount k) x n t f room =
       let p = both (settled c0·0 c0·95 amount) (counted 8 k) n in
-      Inside.persistence-inside A G amount k (sized w h) x (settled-within 1 c0·95 amount tt (p .0)) (counted-most 8 k (p .1)) room
+      Inside.persistence-inside G amount k (sized w h) x (settled-within 1 c0·95 amount tt (p .0)) (counted-most 8 k (p .1)) room
   pass-inside w h (Lut preset strength) x n t f room =
-      ap (λ (l : List ℕ). flow l (x .held) (x .past)) (Inside.lut-inside A G preset strength (x .frame) (unit strength (both (ltb preset 7) (settled c0·0 c1·0 strength) n .1)))
+      ap (λ (l : List ℕ). flow l (x .held) (x .past)) (Inside.lut-inside G preset strength (x .frame) (unit strength (both (ltb preset 7) (settled c0·0 c1·0 strength) n .1)))
   pass-inside w h (Curvature amount) x n t f room =
-      ap (λ (l : List ℕ). flow l (x .held) (x .past)) (Inside.curvature-inside A G w h amount (x .frame) f (settled-within 1 c0·5 amount tt n))
+      ap (λ (l : List ℕ). flow l (x .held) (x .past)) (Inside.curvature-inside G w h amount (x .frame) f (settled-within 1 c0·5 amount tt n))
   pass-inside w h (ColorCorrection brightness contrast saturation gamma) x n t f room =
       let b = settled (neg c1·0) c1·0 brightness in
       let c = settled c0·0 c4·0 contrast in
@@ -127,10 +127,10 @@ module _ (A : Arith) (G : Agrees A) where
       let q = both (b && c) s (p .0) in
       let r = both b c (q .0) in
       ap (λ (l : List ℕ). flow l (x .held) (x .past))
-      (Inside.color-correction-inside A G brightness contrast saturation (x .frame) (settled-sized brightness (r .0)) (settled-within 4 c4·0 contrast tt (r .1)) (settled-within 4 c4·0 saturation tt (q .1)))
-  pass-inside w h (Crt strength) x n t f room = ap (λ (l : List ℕ). flow l (x .held) (x .past)) (Inside.crt-inside A G w h strength (x .frame) f (unit strength n))
-  pass-inside w h (Vignette strength) x n t f room = ap (λ (l : List ℕ). flow l (x .held) (x .past)) (Inside.vignette-inside A G w h strength (x .frame) f (unit strength n))
-  pass-inside w h (Scanlines strength) x n t f room = ap (λ (l : List ℕ). flow l (x .held) (x .past)) (Inside.scanlines-inside A G w strength (x .frame) (unit strength n))
+      (Inside.color-correction-inside G brightness contrast saturation (x .frame) (settled-sized brightness (r .0)) (settled-within 4 c4·0 contrast tt (r .1)) (settled-within 4 c4·0 saturation tt (q .1)))
+  pass-inside w h (Crt strength) x n t f room = ap (λ (l : List ℕ). flow l (x .held) (x .past)) (Inside.crt-inside G w h strength (x .frame) f (unit strength n))
+  pass-inside w h (Vignette strength) x n t f room = ap (λ (l : List ℕ). flow l (x .held) (x .past)) (Inside.vignette-inside G w h strength (x .frame) f (unit strength n))
+  pass-inside w h (Scanlines strength) x n t f room = ap (λ (l : List ℕ). flow l (x .held) (x .past)) (Inside.scanlines-inside G w strength (x .frame) (unit strength n))
 
 -- ## The chain
 

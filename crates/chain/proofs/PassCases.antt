@@ -13,15 +13,15 @@ use types.Run.{OneOf, miss}
 use Rattle.passes.specs.Flow.{Flow}
 use Rattle.passes.specs.Lengths.{ntsc-length, bloom-length, auto-gradient-length, lut-length, curvature-length, color-correction-length}
 use Rattle.passes.specs.Lengths.{crt-length, vignette-length, scanlines-length}
-use Rattle.passes.specs.Ntsc.{ntsc}
-use Rattle.passes.specs.Bloom.{bloom}
-use Rattle.passes.specs.AutoGradient.{autoGradient}
-use Rattle.passes.specs.Lut.{lut}
-use Rattle.passes.specs.Curvature.{curvature}
-use Rattle.passes.specs.ColorCorrection.{colorCorrection}
-use Rattle.passes.specs.Crt.{crt}
-use Rattle.passes.specs.Vignette.{vignette}
-use Rattle.passes.specs.Scanlines.{scanlines}
+use Rattle.passes.specs.Plain.Ntsc.{ntsc}
+use Rattle.passes.specs.Plain.Bloom.{bloom}
+use Rattle.passes.specs.Plain.AutoGradient.{autoGradient}
+use Rattle.passes.specs.Plain.Lut.{lut}
+use Rattle.passes.specs.Plain.Curvature.{curvature}
+use Rattle.passes.specs.Plain.ColorCorrection.{colorCorrection}
+use Rattle.passes.specs.Plain.Crt.{crt}
+use Rattle.passes.specs.Plain.Vignette.{vignette}
+use Rattle.passes.specs.Plain.Scanlines.{scanlines}
 use Rattle.chain.specs.Calls.{next, steppedPass, presetOf}
 use Rattle.chain.specs.Chain.{wash, over, depthOf}
 use Rattle.chain.specs.Passes.{kindOf}

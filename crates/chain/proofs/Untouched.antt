@@ -7,8 +7,9 @@ use mathlib.Core.List.{List, [], _++_}
 use lib.Ieee.{Float}
 use lib.ListN.{length, take, drop, take-append-drop}
 use lib.Seq.{length-take-le, drop-at}
+use Rattle.passes.specs as Text
 use Rattle.passes.specs.Flow.{Held, sized, sameHeld, Flow, flow}
-use Rattle.passes.specs.Persistence.{persistence, blend, refilled, shifted}
+use Rattle.passes.specs.Plain.Persistence.{persistence, blend, refilled, shifted}
 use Rattle.passes.specs.PersistenceLaws.{refilled-rest, shifted-rest}
 use Rattle.chain.specs.Alike.{chainOf}
 use Rattle.chain.specs.Calls.{Report, refusal, acceptance, reply, unless, stops, lacks, Framed, framed, unlessFramed, incoming, shown, frameReply}
@@ -57,7 +58,7 @@ refused-keeps = (call-keeps, λ w h s words past floats ints k e. frame-keeps (s
 
 persistence-rest : (amount : Float) (k : ℕ) (size : Held) (x : Flow) → k * length (x .frame) ≤ length (x .past)
     → drop (k * length (x .frame)) (persistence amount k size x .past) ≡ drop (k * length (x .frame)) (x .past)
-unfolding persistence
+unfolding Text.Persistence.persistence
 persistence-rest amount k size x fits = of (sameHeld (x .held) size)
   where
     of : (b : Bool)

@@ -4,16 +4,16 @@ use mathlib.Core.Bool.{cond}
 use mathlib.Core.List.{List, [], _∷_}
 use Rattle.passes.specs.Fold.{fold}
 use Rattle.passes.specs.Flow.{sized, Flow, flow}
-use Rattle.passes.specs.Ntsc.{ntsc}
-use Rattle.passes.specs.Bloom.{bloom}
-use Rattle.passes.specs.AutoGradient.{autoGradient}
-use Rattle.passes.specs.Persistence.{persistence}
-use Rattle.passes.specs.Lut.{lut}
-use Rattle.passes.specs.Curvature.{curvature}
-use Rattle.passes.specs.ColorCorrection.{colorCorrection}
-use Rattle.passes.specs.Crt.{crt}
-use Rattle.passes.specs.Vignette.{vignette}
-use Rattle.passes.specs.Scanlines.{scanlines}
+use Rattle.passes.specs.Plain.Ntsc.{ntsc}
+use Rattle.passes.specs.Plain.Bloom.{bloom}
+use Rattle.passes.specs.Plain.AutoGradient.{autoGradient}
+use Rattle.passes.specs.Plain.Persistence.{persistence}
+use Rattle.passes.specs.Plain.Lut.{lut}
+use Rattle.passes.specs.Plain.Curvature.{curvature}
+use Rattle.passes.specs.Plain.ColorCorrection.{colorCorrection}
+use Rattle.passes.specs.Plain.Crt.{crt}
+use Rattle.passes.specs.Plain.Vignette.{vignette}
+use Rattle.passes.specs.Plain.Scanlines.{scanlines}
 use Rattle.chain.specs.declared.station.Pass.{Pass}
 use Rattle.chain.specs.declared.station.Pass.the-variants.{Ntsc, Bloom, AutoGradient, Persistence, Lut, Curvature, ColorCorrection, Crt, Vignette, Scanlines}
 use Rattle.chain.specs.declared.station.Record.{Record}

@@ -9,11 +9,10 @@ use Rattle.num.specs.F32.{dec}
 use Rattle.num.specs.Rewrite.{rewrite}
 use Rattle.num.specs.Root.{rootOf}
 use Rattle.num.specs.Steps.{clampOf, minOf, maxOf, absOf, cutOf, roundOf, plusZeroOf, limitOf}
+use Rattle.passes.specs as Text
 use Rattle.passes.specs.Flow.{sameHeld, fineHeld, Flow}
 use Rattle.passes.specs.Fold.{fold}
-use Rattle.passes.specs.Curvature as Curvature
-use Rattle.passes.specs.AutoGradient as AutoGradient
-use Rattle.passes.specs.Persistence as Persistence
+use Rattle.passes.specs.Plain.Persistence as Persistence
 use Rattle.chain.specs.Agree.{opened}
 use Rattle.chain.specs.Alike.{chainOf}
 use Rattle.chain.specs.Bits.{valueAt, fieldAt}
@@ -27,7 +26,6 @@ use Rattle.chain.specs.Records.{recordAt}
 use Rattle.chain.specs.Settings.{finiteAt, limitedAt, withinAt, gainAt, countAt}
 use Rattle.chain.specs.Step.{refuseIf}
 use Rattle.chain.specs.Written.{bits, passBits, recordBits, recordsBits, chainBits, valueOf, pack as packBytes, chainCard, cardOf}
-use Rattle.passes.specs.Once as Once
 
 -- the pictures of frames of that size, one after the other, from a station that is opened from the card
 abbrev pub shows : (card : List ℕ) (w h : ℕ) → List (List ℕ) → List (List ℕ)
@@ -77,14 +75,14 @@ pub record Marked : Type 0 where
 
 pub marked : Marked
 unfolding dec ofBits toBits ofInt add sub mul div neg lt le eq clampOf minOf maxOf absOf cutOf roundOf plusZeroOf limitOf rootOf
-    rewrite fold sameHeld fineHeld Once.unpack Once.unit Once.pack Once.packNearest Once.packLimited Once.packUnit Once.dim Once.luma709 Once.position
-    Once.scanlines Once.inRow Once.vignette Once.square Once.factor
-    Once.crt Once.beam Once.phosphor Once.offset Once.edge Once.shadeCrt
-    Curvature.curvature Curvature.bend Curvature.sample Curvature.outside
-    AutoGradient.autoGradient AutoGradient.shaded AutoGradient.adaptive AutoGradient.addLuma AutoGradient.warm AutoGradient.brightness AutoGradient.shade
-    Persistence.persistence Persistence.decay Persistence.total Persistence.add Persistence.mix Persistence.pixel Persistence.blended Persistence.blend
+    rewrite fold sameHeld fineHeld Text.Pixel.unpack Text.Pixel.unit Text.Pixel.pack Text.Pixel.packNearest Text.Pixel.packLimited Text.Pixel.packUnit Text.Pixel.dim Text.Pixel.luma709 Text.Position.position
+    Text.Scanlines.scanlines Text.Scanlines.inRow Text.Vignette.vignette Text.Vignette.square Text.Vignette.factor
+    Text.Crt.crt Text.Crt.beam Text.Crt.phosphor Text.Crt.offset Text.Crt.edge Text.Crt.shade
+    Text.Curvature.curvature Text.Curvature.bend Text.Curvature.sample Text.Curvature.outside
+    Text.AutoGradient.autoGradient Text.AutoGradient.shaded Text.AutoGradient.adaptive Text.AutoGradient.addLuma Text.AutoGradient.warm Text.AutoGradient.brightness Text.AutoGradient.shade
+    Text.Persistence.persistence Text.Persistence.decay Text.Persistence.total Text.Persistence.add Text.Persistence.mix Text.Persistence.pixel Text.Persistence.blended Text.Persistence.blend
     Persistence.copies Persistence.refilled Persistence.shifted
-    Once.colorCorrection Once.pixelColour
+    Text.ColorCorrection.colorCorrection Text.ColorCorrection.pixel
     openOf stationAt headerAt fieldAt valueAt refuseIf recordsAt endAt endsAt recordAt passAt autoGradientAt persistenceAt curvatureAt colorCorrectionAt crtAt
     vignetteAt scanlinesAt finiteAt limitedAt withinAt gainAt countAt
     cardOf chainCard packBytes valueOf chainBits recordsBits recordBits passBits bits

@@ -8,7 +8,16 @@ use mathlib.Core.Path.{_≡_}
 use lib.ListN.{length, drop}
 use Rattle.passes.specs.Arith.{Arith, Agrees}
 use Rattle.passes.specs.Casts.{casts, checked}
-use Rattle.passes.specs.Over as Over
+use Rattle.passes.specs.Ntsc.{ntsc}
+use Rattle.passes.specs.Bloom.{bloom}
+use Rattle.passes.specs.AutoGradient.{autoGradient}
+use Rattle.passes.specs.Persistence.{persistence}
+use Rattle.passes.specs.Lut.{lut}
+use Rattle.passes.specs.Curvature.{curvature}
+use Rattle.passes.specs.ColorCorrection.{colorCorrection}
+use Rattle.passes.specs.Crt.{crt}
+use Rattle.passes.specs.Vignette.{vignette}
+use Rattle.passes.specs.Scanlines.{scanlines}
 use Rattle.passes.specs.Flow.{sized, Flow}
 use Rattle.passes.specs.Fold.{fold}
 use Rattle.passes.specs.Rows.{Frame}
@@ -26,16 +35,16 @@ use Rattle.chain.specs.declared.station.Station.{Station}
 
 module _ (A : Arith) (w h : ℕ) where
   unfoldable pub overBy : Pass → Flow → Flow
-  overBy (Ntsc strength bleed) = wash (Over.ntsc A w (A .lit strength) bleed)
-  overBy (Bloom threshold strength radius) = wash (Over.bloom A w h threshold (A .lit strength) radius)
-  overBy (AutoGradient strength vertical horizontal) = wash (Over.autoGradient A w h (A .lit strength) (A .lit vertical) (A .lit horizontal))
-  overBy (Persistence amount depth) = Over.persistence A (A .lit amount) depth (sized w h)
-  overBy (Lut preset strength) = wash (Over.lut A preset (A .lit strength))
-  overBy (Curvature amount) = wash (Over.curvature A w h (A .lit amount))
-  overBy (ColorCorrection brightness contrast saturation gamma) = wash (Over.colorCorrection A (A .lit brightness) (A .lit contrast) (A .lit saturation))
-  overBy (Crt strength) = wash (Over.crt A w h (A .lit strength))
-  overBy (Vignette strength) = wash (Over.vignette A w h (A .lit strength))
-  overBy (Scanlines strength) = wash (Over.scanlines A w (A .lit strength))
+  overBy (Ntsc strength bleed) = wash (ntsc A w (A .lit strength) bleed)
+  overBy (Bloom threshold strength radius) = wash (bloom A w h threshold (A .lit strength) radius)
+  overBy (AutoGradient strength vertical horizontal) = wash (autoGradient A w h (A .lit strength) (A .lit vertical) (A .lit horizontal))
+  overBy (Persistence amount depth) = persistence A (A .lit amount) depth (sized w h)
+  overBy (Lut preset strength) = wash (lut A preset (A .lit strength))
+  overBy (Curvature amount) = wash (curvature A w h (A .lit amount))
+  overBy (ColorCorrection brightness contrast saturation gamma) = wash (colorCorrection A (A .lit brightness) (A .lit contrast) (A .lit saturation))
+  overBy (Crt strength) = wash (crt A w h (A .lit strength))
+  overBy (Vignette strength) = wash (vignette A w h (A .lit strength))
+  overBy (Scanlines strength) = wash (scanlines A w (A .lit strength))
 
   unfoldable pub turnBy : Flow → Record → Flow
   turnBy x r = cond (r .on) (overBy (r .pass) x) x

@@ -4,6 +4,7 @@ use mathlib.Core.List.{List, [], _∷_}
 use mathlib.Core.Path.{_≡_, refl}
 use lib.Ieee.{ofBits, ofInt, sub, mul, div, lt}
 use Rattle.num.specs.F32.{dec}
+use Rattle.passes.specs as Text
 use Rattle.passes.specs.Fold.{fold}
 use Rattle.num.specs.Rewrite.{rewrite}
 use Rattle.num.specs.Steps.{cutOf, plusZeroOf, limitOf}
@@ -22,7 +23,6 @@ use Rattle.events.specs.Events.{headWanted, cardIn, outside, frameWanted
 use Rattle.events.specs.Play.{called, unlessFault, playedOf}
 use Rattle.events.specs.Program.{eventLines, printed}
 use Rattle.events.specs.Text.{F, R, E, space, newline, decimal, pixelsOf}
-use Rattle.passes.specs.Once as Once
 
 -- 06 11 A9 F8 00 00 00 46 01 02 FF FF FF 64 64 64 52
 abbrev pub input : List ℕ
@@ -35,7 +35,7 @@ lines =
     ∷ E ∷ space ∷ 49 ∷ 50 ∷ newline ∷ []
 
 pub worked : printed input ≡ lines
-unfolding dec ofBits ofInt sub mul div lt cutOf plusZeroOf limitOf rewrite fold sameHeld fineHeld Once.unpack Once.pack Once.dim Once.scanlines Once.inRow
+unfolding dec ofBits ofInt sub mul div lt cutOf plusZeroOf limitOf rewrite fold sameHeld fineHeld Text.Pixel.unpack Text.Pixel.pack Text.Pixel.dim Text.Scanlines.scanlines Text.Scanlines.inRow
     openOf stationAt headerAt fieldAt valueAt refuseIf recordsAt endAt endsAt recordAt passAt scanlinesAt finiteAt limitedAt frameReply unlessFramed
     shown stops lacks unless badSide goodStation normalChain normalPass settled persists depth turn over wash headWanted cardIn outside frameWanted
     eventWanted frameFault eventFault unpacked called unlessFault playedOf eventLines printed decimal pixelsOf

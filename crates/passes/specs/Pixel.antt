@@ -1,45 +1,58 @@
--- A pixel word 0xRRGGBB and its three channels; the ways from channels back to a word. Assumes nothing.
-use Prim.Native.Nat.{ℕ}
-use lib.Ieee.{Float}
-use Rattle.passes.specs.Arith.{plain}
-use Rattle.passes.specs.Once as Once
-use Rattle.passes.specs.declared.pixel.Rgb.{Rgb}
+-- A pixel word 0xRRGGBB and its three channels; the ways from channels back to a word. A is the arithmetic (Arith.antt). Definitions only.
+use Prim.Native.Nat.{ℕ, zero, suc, _/_, _%_}
+use Rattle.num.specs.Const.{c0·0, c0·0722, c0·114, c0·2126, c0·299, c0·587, c0·7152, c1·0, c255·0}
+use Rattle.passes.specs.Arith.{Arith}
 
-abbrev pub rgb : Float → Float → Float → Rgb
-rgb x y z = record { r = x; g = y; b = z }
+module _ (A : Arith) where
+  open Arith A using (F, lit, whole, _⊕_, _⊗_, _⊘_, clamp, round, cut, Rgb, rgb, red, green, blue, word)
 
-abbrev pub channels : (Float → Float) → Rgb → Rgb
-channels = Once.channels plain
+  infixl 6 _⊕_
+  infixl 7 _⊗_
+  infixl 7 _⊘_
+  -- one rule at each channel
+  abbrev pub channels : (F → F) → Rgb → Rgb
+  channels f c = rgb (f (red c)) (f (green c)) (f (blue c))
 
-abbrev pub scaled : Float → Rgb → Rgb
-scaled = Once.scaled plain
+  abbrev pub scaled : F → Rgb → Rgb
+  scaled factor c = channels (λ x. x ⊗ factor) c
 
-abbrev pub channel : ℕ → Rgb → Float
-channel = Once.channel plain
+  -- red, green or blue by number
+  unfoldable pub channel : ℕ → Rgb → F
+  channel zero c = red c
+  channel (suc zero) c = green c
+  channel (suc (suc n)) c = blue c
 
-abbrev pub unpack : ℕ → Rgb
-unpack = Once.unpack plain
+  -- the channels of a word, 0 to 255; the top byte is ignored
+  unfoldable pub unpack : ℕ → Rgb
+  unpack p = rgb (whole (p / 65536 % 256)) (whole (p / 256 % 256)) (whole (p % 256))
 
-abbrev pub unit : ℕ → Rgb
-unit = Once.unit plain
+  -- the channels as 0..1
+  unfoldable pub unit : ℕ → Rgb
+  unit p = channels (λ x. x ⊘ lit c255·0) (unpack p)
 
-abbrev pub pack : Rgb → ℕ
-pack = Once.pack plain
+  -- each channel cut to a whole number
+  unfoldable pub pack : Rgb → ℕ
+  pack c = word (cut (red c)) (cut (green c)) (cut (blue c))
 
-abbrev pub packNearest : Rgb → ℕ
-packNearest = Once.packNearest plain
+  -- each channel rounded
+  unfoldable pub packNearest : Rgb → ℕ
+  packNearest c = pack (channels round c)
 
-abbrev pub packLimited : Rgb → ℕ
-packLimited = Once.packLimited plain
+  -- the final conversion from 0..255: limited, then cut
+  unfoldable pub packLimited : Rgb → ℕ
+  packLimited c = pack (channels (λ x. clamp x (lit c0·0) (lit c255·0)) c)
 
-abbrev pub packUnit : Rgb → ℕ
-packUnit = Once.packUnit plain
+  -- the final conversion from 0..1: limited, times 255, then cut
+  unfoldable pub packUnit : Rgb → ℕ
+  packUnit c = pack (channels (λ x. clamp x (lit c0·0) (lit c1·0) ⊗ lit c255·0) c)
 
-abbrev pub dim : Float → ℕ → ℕ
-dim = Once.dim plain
+  -- a word's channels times a factor
+  unfoldable pub dim : F → ℕ → ℕ
+  dim factor p = pack (scaled factor (unpack p))
 
-abbrev pub luma709 : Rgb → Float
-luma709 = Once.luma709 plain
+  -- BT.709 luma, and BT.601 luma
+  unfoldable pub luma709 : Rgb → F
+  luma709 c = lit c0·2126 ⊗ red c ⊕ lit c0·7152 ⊗ green c ⊕ lit c0·0722 ⊗ blue c
 
-abbrev pub luma601 : Rgb → Float
-luma601 = Once.luma601 plain
+  unfoldable pub luma601 : Rgb → F
+  luma601 c = lit c0·299 ⊗ red c ⊕ lit c0·587 ⊗ green c ⊕ lit c0·114 ⊗ blue c

@@ -1,7 +1,7 @@
 -- An arithmetic that agrees with the number steps, step by step: where a number a of it stands for a value x of known bounds (`Has`: from -n to n, `Plus`: from 0 to n,
 -- `Big`: at least 1 / k), each step's result stands for the value's, with the bounds of the result. Assumes nothing.
 use mathlib.Core.Path.{_≡_, refl, sym, subst}
-use Prim.Native.Nat.{ℕ, _+_, _*_, _%_, _≤_, _<_}
+use Prim.Native.Nat.{ℕ, _+_, _*_, _≤_, _<_}
 use native.Mathlib.Nat.{zero-mul, mul-one}
 use native.Mathlib.Omega.{arith}
 use mathlib.Core.Bool.{Bool, true, false, _&&_, _||_}
@@ -15,13 +15,11 @@ use lib.Ieee.Scale.{finite}
 use Rattle.num.specs.Const.{c0·0, c1·0, c255·0}
 use Rattle.num.specs.F32.{_⊕_, _⊖_, _⊗_, _⊘_, whole}
 use Rattle.num.specs.Root.{rootOf}
-use Rattle.num.specs.Steps.{clampOf, minOf, maxOf, absOf, cutOf, roundOf}
+use Rattle.num.specs.Steps.{clampOf, minOf, maxOf, absOf, roundOf}
 use Rattle.num.specs.Within.{within, Signed, size-le, minus-zero, mul-within, add-within}
-use Rattle.num.specs.Bounds.{zero-within, cut-within, round-step-within, value-within, widen, clamp-within, min-within, one-is, top-is, int-within, one-less-within}
+use Rattle.num.specs.Bounds.{zero-within, round-step-within, value-within, widen, clamp-within, min-within, one-is, top-is, int-within, one-less-within}
 use Rattle.passes.specs.Arith.{Arith, Agrees}
-use Rattle.passes.specs.Pixel.{rgb, pack}
 use Rattle.num.specs.Sized.{Exact, exact, Sized, Least, sized-finite, sized-number, within-sized, neg-sized, plus-sized, minus-sized, times-sized, square-within, over-sized, over-within, whole-least, abs-sized, round-step-sized, max-least, share-within, sized-widen, between-sized, root-within}
-use Rattle.passes.specs.Once as Once
 
 pub record Has {A : Arith} (G : Agrees A) (n : ℕ) (a : A .F) (x : Float) : Type 0 where
   pub is : G .same a x
@@ -229,17 +227,3 @@ module _ {A : Arith} {G : Agrees A} where
   pub most-one : {n : ℕ} {a : A .F} {x : Float} → Has G n a x → Big G 1 (A .most a (A .lit c1·0)) (maxOf x c1·0)
   most-one {n} {a} {x} h =
       record { is = G .most (h .is) (one⁺ .is) one-above; least = max-least n x (h .size) }
-
-  -- ---- three channels
-
-  pub channel⁺ : (p : ℕ) → Plus G 255 (A .whole (p % 256)) (whole (p % 256))
-  channel⁺ p = whole⁺ 255 (p % 256) (omega arith) (lit≤ tt)
-
-  pub pack-same : {a b c : A .F} {x y z : Float} → Plus G 255 a x → Plus G 255 b y → Plus G 255 c z
-      → A .word (A .cut a) (A .cut b) (A .cut c) ≡ pack (rgb x y z)
-  unfolding Once.pack
-  pack-same {a} {b} {c} {x} {y} {z} h g k =
-      rw (cut h, cut g, cut k) (G .word (cutOf x) (cutOf y) (cutOf z) (cut-within 255 x (h .inside)) (cut-within 255 y (g .inside)) (cut-within 255 z (k .inside)))
-    where
-      cut : {a : A .F} {x : Float} → Plus G 255 a x → A .cut a ≡ cutOf x
-      cut {a} {x} h = G .cut (h .is) (widen 255 1023 x (lit≤ tt) (h .inside))

@@ -6,13 +6,13 @@ use lib.ListN.{length}
 use borrow.Author.Needs.{needs}
 use Rattle.num.specs.F32.{_⊗_}
 use Rattle.num.specs.Rewrite.{every, fill}
-use Rattle.passes.specs.Blur.{cell, total, weighted}
+use Rattle.passes.specs as Text
+use Rattle.passes.specs.Plain.Blur.{cell, total, weighted}
 use Rattle.passes.specs.Private.{onward}
 use Rattle.passes.proofs.Offsets.{total-onward}
 use Rattle.passes.proofs.Sums.{Summed, summed-none, summed-on, summed-all}
 use Rattle.passes.proofs.blur.accumulate_rows.Statement.{statement}
 use Rattle.passes.proofs.blur.accumulate_rows.Tie as tie
-use Rattle.passes.specs.Once as Once
 
 abbrev Inv-loop : tie.InvT-loop
 Inv-loop acc₀ plane h radius y k₀ acc k = Summed (λ x. total (λ i w. cell plane (length acc₀) x i ⊗ w) h radius y) (2 * radius + 1) k acc₀ acc
@@ -21,7 +21,7 @@ abbrev μ-loop : tie.MeasureT-loop
 μ-loop acc₀ plane h radius y k₀ acc k = 2 * radius + 1 - k
 
 loop-holds : tie.Need-loop-holds Inv-loop μ-loop
-unfolding Once.total
+unfolding Text.Blur.total
 loop-holds c = summed-none (c .before .before .before .before .before .before .args .acc .now) _ (c .before .before .clear .ensures)
 
 add-rows-requires : tie.Need-add-rows-requires Inv-loop μ-loop
@@ -42,7 +42,7 @@ loop-again c =
     ∙ ap (λ (m : ℕ). every (λ x. onward (λ i w. cell (a .plane .now) m x i ⊗ w) (a .height) (a .radius) (a .y) (l .k) r) (l .acc)) (l .inv .kept))
 
 returns : tie.Need-returns Inv-loop μ-loop
-unfolding Once.total
+unfolding Text.Blur.total
 returns c =
     let a = c .before .before .before .before .before .before .before .before .args in
     let d = c .before .before .before .before .clear in

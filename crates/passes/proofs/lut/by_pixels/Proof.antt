@@ -3,10 +3,10 @@ use Prim.Native.Nat.{_-_}
 use native.Mathlib.Omega.{arith}
 use lib.ListN.{length}
 use Rattle.num.specs.Rewrite.{Rewritten, none, more, all}
-use Rattle.passes.specs.Lut.{pixel}
+use Rattle.passes.specs as Text
+use Rattle.passes.specs.Plain.Lut.{pixel}
 use Rattle.passes.proofs.lut.by_pixels.Statement.{statement}
 use Rattle.passes.proofs.lut.by_pixels.Tie as tie
-use Rattle.passes.specs.Once as Once
 
 abbrev Inv-loop : tie.InvT-loop
 Inv-loop fb₀ preset strength i₀ fb i = Rewritten i (λ _. pixel preset strength) fb₀ fb
@@ -18,7 +18,7 @@ loop-again : tie.Need-loop-again Inv-loop μ-loop
 loop-again c = more (c .before .before .before .loop .inv) 0 (c .before .before .loop-test .taken) (c .pixel .ensures)
 
 returns : tie.Need-returns Inv-loop μ-loop
-unfolding Once.lut
+unfolding Text.Lut.lut
 returns c = all (c .before .loop .inv) (c .loop-test .left)
 
 -- an index is below the length, and its offset in bytes fits

@@ -1,10 +1,10 @@
 -- `passes::pixel::luma709` meets its contract. Assumes nothing.
+use Rattle.passes.specs as Text
 use Rattle.passes.proofs.pixel.luma709.Statement.{statement}
 use Rattle.passes.proofs.pixel.luma709.Tie as tie
-use Rattle.passes.specs.Once as Once
 
 returns : tie.Need-returns
-unfolding Once.luma709
+unfolding Text.Pixel.luma709
 returns c = cc
 
 pub luma709-spec : {M : Type 1} → statement M
