@@ -11,7 +11,8 @@ use lib.Ieee.{Float}
 use lib.ListN.{length}
 use types.Run.{OneOf, miss}
 use Rattle.passes.specs.Flow.{Flow}
-use Rattle.passes.specs.Lengths.{ntsc-length, bloom-length, auto-gradient-length, lut-length, curvature-length, color-correction-length}
+use Rattle.passes.specs.Lengths.{ntsc-length, bloom-length, auto-gradient-length, lut-length, curvature-length}
+use Rattle.passes.specs.Lengths.{color-correction-length}
 use Rattle.passes.specs.Lengths.{crt-length, vignette-length, scanlines-length}
 use Rattle.passes.specs.Plain.Ntsc.{ntsc}
 use Rattle.passes.specs.Plain.Bloom.{bloom}
@@ -26,7 +27,8 @@ use Rattle.chain.specs.Calls.{next, steppedPass, presetOf}
 use Rattle.chain.specs.Chain.{wash, over, depthOf}
 use Rattle.chain.specs.Passes.{kindOf}
 use Rattle.chain.specs.declared.station.Pass.{Pass}
-use Rattle.chain.specs.declared.station.Pass.the-variants.{Ntsc, Bloom, AutoGradient, Persistence, Lut, Curvature, ColorCorrection, Crt, Vignette, Scanlines}
+use Rattle.chain.specs.declared.station.Pass.the-variants.{Ntsc, Bloom, AutoGradient, Persistence, Lut, Curvature}
+use Rattle.chain.specs.declared.station.Pass.the-variants.{ColorCorrection, Crt, Vignette, Scanlines}
 use Rattle.chain.proofs.station.Pass.{the-type}
 
 -- ## Persistence, or a pass that only paints the frame

@@ -12,7 +12,8 @@ use Rattle.passes.specs.Flow.{Held, sized, sameHeld, Flow, flow}
 use Rattle.passes.specs.Plain.Persistence.{persistence, blend, refilled, shifted}
 use Rattle.passes.specs.PersistenceLaws.{refilled-rest, shifted-rest}
 use Rattle.chain.specs.Alike.{chainOf}
-use Rattle.chain.specs.Calls.{Report, refusal, acceptance, reply, unless, stops, lacks, Framed, framed, unlessFramed, incoming, shown, frameReply}
+use Rattle.chain.specs.Calls.{Report, refusal, acceptance, reply, unless, stops, lacks, Framed, framed}
+use Rattle.chain.specs.Calls.{unlessFramed, incoming, shown, frameReply}
 use Rattle.chain.specs.Chain.{wash, chain, depth}
 use Rattle.chain.specs.Claims.{Refused-keeps, Untouched}
 use Rattle.chain.specs.Machine.{Call, frame, reset, switch, step, State, call, after}

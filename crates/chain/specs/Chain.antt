@@ -15,7 +15,8 @@ use Rattle.passes.specs.Plain.Crt.{crt}
 use Rattle.passes.specs.Plain.Vignette.{vignette}
 use Rattle.passes.specs.Plain.Scanlines.{scanlines}
 use Rattle.chain.specs.declared.station.Pass.{Pass}
-use Rattle.chain.specs.declared.station.Pass.the-variants.{Ntsc, Bloom, AutoGradient, Persistence, Lut, Curvature, ColorCorrection, Crt, Vignette, Scanlines}
+use Rattle.chain.specs.declared.station.Pass.the-variants.{Ntsc, Bloom, AutoGradient, Persistence, Lut, Curvature}
+use Rattle.chain.specs.declared.station.Pass.the-variants.{ColorCorrection, Crt, Vignette, Scanlines}
 use Rattle.chain.specs.declared.station.Record.{Record}
 
 -- a pass without memory

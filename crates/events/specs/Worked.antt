@@ -35,8 +35,10 @@ lines =
     ∷ E ∷ space ∷ 49 ∷ 50 ∷ newline ∷ []
 
 pub worked : printed input ≡ lines
-unfolding dec ofBits ofInt sub mul div lt cutOf plusZeroOf limitOf rewrite fold sameHeld fineHeld Text.Pixel.unpack Text.Pixel.pack Text.Pixel.dim Text.Scanlines.scanlines Text.Scanlines.inRow
-    openOf stationAt headerAt fieldAt valueAt refuseIf recordsAt endAt endsAt recordAt passAt scanlinesAt finiteAt limitedAt frameReply unlessFramed
-    shown stops lacks unless badSide goodStation normalChain normalPass settled persists depth turn over wash headWanted cardIn outside frameWanted
-    eventWanted frameFault eventFault unpacked called unlessFault playedOf eventLines printed decimal pixelsOf
+unfolding dec ofBits ofInt sub mul div lt cutOf plusZeroOf limitOf rewrite fold sameHeld fineHeld Text.Pixel.unpack
+    Text.Pixel.pack Text.Pixel.dim Text.Scanlines.scanlines Text.Scanlines.inRow openOf stationAt headerAt fieldAt
+    valueAt refuseIf recordsAt endAt endsAt recordAt passAt scanlinesAt finiteAt limitedAt frameReply unlessFramed shown
+    stops lacks unless badSide goodStation normalChain normalPass settled persists depth turn over wash headWanted
+    cardIn outside frameWanted eventWanted frameFault eventFault unpacked called unlessFault playedOf eventLines printed
+    decimal pixelsOf
 worked = refl

@@ -2,7 +2,8 @@
 use mathlib.Core.Path.{_≡_, refl, sym, ap, _∙_, subst}
 use mathlib.Core.Logic.{inl, inr}
 use Prim.Native.Nat.{ℕ, suc, _+_, _*_, _/_, _≤_, _<_, zero-le}
-use native.Mathlib.Nat.{mul-one, mul-comm, mul-pos, mul-le-mul-right, le-trans, le-of-eq, div-le-of-le-mul, le-of-suc-le-suc, div-lt-iff-lt-mul, div-eq-of-lt, mul-div-cancel, suc-mul, mul-left-comm}
+use native.Mathlib.Nat.{mul-one, mul-comm, mul-pos, mul-le-mul-right, le-trans, le-of-eq, div-le-of-le-mul}
+use native.Mathlib.Nat.{le-of-suc-le-suc, div-lt-iff-lt-mul, div-eq-of-lt, mul-div-cancel, suc-mul, mul-left-comm}
 use native.Mathlib.Omega.{arith}
 use mathlib.Core.Bool.{Bool, true, false, not, _&&_, _||_, cond, true≢false}
 use borrow.Author.Tests.{ltb-false, le-leb, lt-leb}
@@ -16,7 +17,8 @@ use Rattle.num.specs.Const.{c0·0, c1·0, c255·0}
 use Rattle.num.specs.F32.{_⊖_, _⊗_, whole}
 use Rattle.num.specs.Steps.{clampOf, minOf, cutOf, roundOf}
 use Rattle.num.specs.Order.{tests-le, asymmetric, lt-number}
-use Rattle.num.specs.Within.{within, size-le, minus-zero, within-plus, Signed, cross, zero-value, round-within, mul-within, Plain, sub-within}
+use Rattle.num.specs.Within.{within, size-le, minus-zero, within-plus, Signed, cross, zero-value, round-within}
+use Rattle.num.specs.Within.{mul-within, Plain, sub-within}
 
 -- ---- cut and round
 

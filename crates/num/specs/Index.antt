@@ -14,7 +14,8 @@ use lib.Ieee.Fits.{down-pos}
 use Rattle.num.specs.Const.{c0·5, c1·0}
 use Rattle.num.specs.F32.{_⊕_, _⊗_, whole}
 use Rattle.num.specs.Steps.{cutOf, roundOf}
-use Rattle.num.specs.Within.{within, size-le, minus-zero, within-plus, round-within, mul-within, Plain, add-within}
+use Rattle.num.specs.Within.{within, size-le, minus-zero, within-plus, round-within, mul-within, Plain}
+use Rattle.num.specs.Within.{add-within}
 use Rattle.num.specs.Bounds.{cut-within, round-step-within, int-within}
 
 half-within : (n : ℕ) (x : Float) → n ≤ 16777216 → T (within (2 * n) x) → T (within n (x ⊗ c0·5))

@@ -1,6 +1,7 @@
--- What a pass may do with numbers: an arithmetic of any kind, and what it is for one to agree with the number steps of document 01 wherever these are
--- defined and Rust's own do the same (docs/DIFFERENCES.md). Outside (a result that is not finite, a root of what is below 0 or -0, a cut of what is not in
--- 0..1023, a channel above 255, a place that is not in the frame) it may give anything. Definitions only.
+-- What a pass may do with numbers: an arithmetic of any kind, and what it is for one to agree with the number steps of
+-- document 01 wherever these are defined and Rust's own do the same (docs/DIFFERENCES.md). Outside (a result that is
+-- not finite, a root of what is below 0 or -0, a cut of what is not in 0..1023, a channel above 255, a place that is
+-- not in the frame) it may give anything. Definitions only.
 use Prim.Native.Nat.{ℕ, _+_, _*_, _≤_, _<_}
 use mathlib.Core.Bool.{Bool, true, false}
 use mathlib.Core.List.{List}
@@ -17,7 +18,8 @@ use Rattle.num.specs.Steps.{clampOf, minOf, maxOf, absOf, cutOf, roundOf}
 use Rattle.num.specs.Within.{within, Signed}
 use Rattle.passes.specs.declared.pixel.Rgb as Declared
 
--- the numbers are a type of which nothing else is known, so a pass has no other way to make one, to test one, or to leave it
+-- the numbers are a type of which nothing else is known, so a pass has no other way to make one, to test one, or to
+-- leave it
 pub record Arith : Type 1 where
   pub F : Type 0
   -- a constant or a setting, and a whole number
@@ -80,17 +82,22 @@ plain =
       cell = λ w frame x y. getD frame (y * w + x) 0;
     }
 
--- `same a x`: the number a of the arithmetic stands for the finite binary32 value x. Each law says where the arithmetic has to do as the number step does.
+-- `same a x`: the number a of the arithmetic stands for the finite binary32 value x. Each law says where the arithmetic
+-- has to do as the number step does.
 pub record Agrees (A : Arith) : Type 1 where
   pub same : A .F → Float → Type 0
   pub number : {a : A .F} {x : Float} → same a x → T (finite x)
   pub lit : (x : Float) → T (finite x) → same (A .lit x) x
   pub whole : (n : ℕ) → n ≤ 16777216 → same (A .whole n) (F32.whole n)
   -- where the result is finite: no NaN, no infinity, no division by 0
-  pub plus : {a b : A .F} {x y : Float} → same a x → same b y → T (finite (F32._⊕_ x y)) → same (A ._⊕_ a b) (F32._⊕_ x y)
-  pub minus : {a b : A .F} {x y : Float} → same a x → same b y → T (finite (F32._⊖_ x y)) → same (A ._⊖_ a b) (F32._⊖_ x y)
-  pub times : {a b : A .F} {x y : Float} → same a x → same b y → T (finite (F32._⊗_ x y)) → same (A ._⊗_ a b) (F32._⊗_ x y)
-  pub over : {a b : A .F} {x y : Float} → same a x → same b y → T (finite (F32._⊘_ x y)) → same (A ._⊘_ a b) (F32._⊘_ x y)
+  pub plus : {a b : A .F} {x y : Float} → same a x → same b y → T (finite (F32._⊕_ x y))
+      → same (A ._⊕_ a b) (F32._⊕_ x y)
+  pub minus : {a b : A .F} {x y : Float} → same a x → same b y → T (finite (F32._⊖_ x y))
+      → same (A ._⊖_ a b) (F32._⊖_ x y)
+  pub times : {a b : A .F} {x y : Float} → same a x → same b y → T (finite (F32._⊗_ x y))
+      → same (A ._⊗_ a b) (F32._⊗_ x y)
+  pub over : {a b : A .F} {x y : Float} → same a x → same b y → T (finite (F32._⊘_ x y))
+      → same (A ._⊘_ a b) (F32._⊘_ x y)
   pub round : {a : A .F} {x : Float} → same a x → T (finite (roundOf x)) → same (A .round a) (roundOf x)
   -- of finite values
   pub neg : {a : A .F} {x : Float} → same a x → same (A .neg a) (Ieee.neg x)
@@ -100,7 +107,8 @@ pub record Agrees (A : Arith) : Type 1 where
   -- whose second is above 0 (of 0 and -0 Rust's minimum gives either), or whose ends are in order
   pub least : {a b : A .F} {x y : Float} → same a x → same b y → lt c0·0 y ≡ true → same (A .least a b) (minOf x y)
   pub most : {a b : A .F} {x y : Float} → same a x → same b y → lt c0·0 y ≡ true → same (A .most a b) (maxOf x y)
-  pub clamp : {a b c : A .F} {x y z : Float} → same a x → same b y → same c z → T (le y z) → same (A .clamp a b c) (clampOf x y z)
+  pub clamp : {a b c : A .F} {x y z : Float} → same a x → same b y → same c z → T (le y z)
+      → same (A .clamp a b c) (clampOf x y z)
   -- of 0 (not -0) and above
   pub root : {a : A .F} {x : Float} → same a x → Signed false x → T (finite (rootOf x)) → same (A .root a) (rootOf x)
   -- the channels of three channels
@@ -112,4 +120,5 @@ pub record Agrees (A : Arith) : Type 1 where
   -- channels from 0 to 255
   pub word : (r g b : ℕ) → r ≤ 255 → g ≤ 255 → b ≤ 255 → A .word r g b ≡ r * 65536 + g * 256 + b
   -- a column within the width, and a word within the frame
-  pub cell : (w : ℕ) (frame : List ℕ) (x y : ℕ) → x < w → y * w + x < length frame → A .cell w frame x y ≡ getD frame (y * w + x) 0
+  pub cell : (w : ℕ) (frame : List ℕ) (x y : ℕ) → x < w → y * w + x < length frame
+      → A .cell w frame x y ≡ getD frame (y * w + x) 0

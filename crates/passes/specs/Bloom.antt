@@ -1,5 +1,5 @@
--- Bloom: what is bright in the frame, blurred along rows and then along columns, is laid over it. A is the arithmetic (Arith.antt).
--- Definitions only.
+-- Bloom: what is bright in the frame, blurred along rows and then along columns, is laid over it. A is the arithmetic
+-- (Arith.antt). Definitions only.
 use Prim.Native.Nat.{ℕ}
 use mathlib.Core.Bool.{cond}
 use mathlib.Core.List.{List}
@@ -21,8 +21,9 @@ module _ (A : Arith) where
   abbrev pub intensity : F → F → F
   intensity threshold brightness = clamp ((brightness ⊖ threshold) ⊘ (lit c255·0 ⊖ threshold)) (lit c0·0) (lit c1·0)
 
-  -- the bright part of a colour: none up to the threshold. Document 01 allows for the division 0 / 0 of a white word at threshold 255: it
-  -- is never reached, since no word has a luma above 255 (BloomInside, `luma-top`), so that at 255 none is bright
+  -- the bright part of a colour: none up to the threshold. Document 01 allows for the division 0 / 0 of a white word at
+  -- threshold 255: it is never reached, since no word has a luma above 255 (BloomInside, `luma-top`), so that at 255
+  -- none is bright
   unfoldable pub bright : F → Rgb → Rgb
   bright threshold c =
       let brightness = luma709 A c in

@@ -1,5 +1,6 @@
--- Two arithmetics that agree with the number steps. `casts` leaves a number as Rust does: by `as u32`, and channels are joined by shifts and `|`. `checked` stops at
--- the first step outside its range, and shows so in the word. Assumes nothing.
+-- Two arithmetics that agree with the number steps. `casts` leaves a number as Rust does: by `as u32`, and channels are
+-- joined by shifts and `|`. `checked` stops at the first step outside its range, and shows so in the word. Assumes
+-- nothing.
 use mathlib.Core.Path.{_≡_, refl, sym, ap, ap₂, _∙_, subst}
 use Prim.Native.Nat.{ℕ, _+_, _*_, _/_, _%_, _≤_, min}
 use native.Mathlib.Nat.{div-le-of-le-mul, mul-comm}
@@ -103,7 +104,8 @@ cast-same (inf s) h = absurd h
 cast-same (fin true m e) h = refl
 cast-same (fin false m e) h =
     let l = size-le 1023 false m e h in
-    let q : m * up e / down e ≤ 1023 = div-le-of-le-mul (down e) (subst (λ (x : ℕ). m * up e ≤ x) (mul-comm 1023 (down e)) l) in
+    let q : m * up e / down e ≤ 1023 =
+    div-le-of-le-mul (down e) (subst (λ (x : ℕ). m * up e ≤ x) (mul-comm 1023 (down e)) l) in
     rw (le-leb (m * up e) (1023 * down e) l) (small (m * up e / down e) q)
   where
     small : (n : ℕ) → n ≤ 1023 → min n 4294967295 ≡ n
@@ -135,7 +137,12 @@ casts-agree =
       atMost = λ h g. ap₂ le (h .0) (g .0);
       least = λ {a} {b} {x} {y} h g t. (ap₂ minOf (h .0) (g .0), min-finite x y x (h .1) (g .1));
       most = λ {a} {b} {x} {y} h g t. (ap₂ maxOf (h .0) (g .0), max-finite x y x (h .1) (g .1));
-      clamp = λ {a} {b} {c} {x} {y} {z} h g k t. (ap₂ (λ (u v : Float). clampOf u v c) (h .0) (g .0) ∙ ap (λ (u : Float). clampOf x y u) (k .0), clamp-finite x y z (h .1) (g .1) (k .1));
+      clamp =
+          λ {a} {b} {c} {x} {y} {z} h g k t. (
+            ap₂ (λ (u v : Float). clampOf u v c) (h .0) (g .0) ∙ ap (λ (u : Float). clampOf x y u)
+                (k .0),
+            clamp-finite x y z (h .1) (g .1) (k .1),
+          );
       root = λ h p t. (ap rootOf (h .0), t);
       cut = λ {a} {x} h t. ap (toUnsigned 32) (h .0) ∙ cast-same x t;
       red = λ a b c. refl;
@@ -165,7 +172,8 @@ two test f outside b = outside
 two test f (value x) outside = outside
 two test f (value x) (value y) = keep (test x y && finite (f x y)) (f x y)
 
-abbrev pub three : (Float → Float → Float → Bool) → (Float → Float → Float → Float) → Checked → Checked → Checked → Checked
+abbrev pub three : (Float → Float → Float → Bool) → (Float → Float → Float → Float) → Checked → Checked → Checked
+    → Checked
 three test f outside b c = outside
 three test f (value x) outside c = outside
 three test f (value x) (value y) outside = outside
@@ -228,12 +236,19 @@ kept b x t = ap (λ (q : Bool). keep q x) (is-true b t)
 abbrev Is : Checked → Float → Type 0
 Is a x = (a ≡ value x) × T (finite x)
 
-by-one : (test : Float → Bool) (f : Float → Float) {a : Checked} {x : Float} → Is a x → T (test x) → T (finite (f x)) → Is (one test f a) (f x)
-by-one test f {a} {x} h p t = (ap (one test f) (h .0) ∙ kept (test x && finite (f x)) (f x) (and-i (test x) (finite (f x)) p t), t)
+by-one : (test : Float → Bool) (f : Float → Float) {a : Checked} {x : Float} → Is a x → T (test x) → T (finite (f x))
+    → Is (one test f a) (f x)
+by-one test f {a} {x} h p t =
+    (ap (one test f) (h .0) ∙ kept (test x && finite (f x)) (f x) (and-i (test x) (finite (f x)) p t), t)
 
-by-two : (test : Float → Float → Bool) (f : Float → Float → Float) {a b : Checked} {x y : Float} → Is a x → Is b y → T (test x y) → T (finite (f x y))
+by-two : (test : Float → Float → Bool) (f : Float → Float → Float) {a b : Checked} {x y : Float} → Is a x → Is b y
+    → T (test x y) → T (finite (f x y))
     → Is (two test f a b) (f x y)
-by-two test f {a} {b} {x} {y} h g p t = (ap₂ (two test f) (h .0) (g .0) ∙ kept (test x y && finite (f x y)) (f x y) (and-i (test x y) (finite (f x y)) p t), t)
+by-two test f {a} {b} {x} {y} h g p t = (
+  ap₂ (two test f) (h .0) (g .0) ∙ kept (test x y && finite (f x y)) (f x y)
+      (and-i (test x y) (finite (f x y)) p t),
+  t,
+)
 
 plus-sign : (x : Float) → Signed false x → T (plusSign x)
 plus-sign nan h = absurd h
@@ -256,11 +271,16 @@ checked-agree =
       abs = λ {a} {x} h. by-one (λ x. true) absOf h tt (abs-finite x (h .1));
       below = λ h g. ap₂ (compare lt) (h .0) (g .0);
       atMost = λ h g. ap₂ (compare le) (h .0) (g .0);
-      least = λ {a} {b} {x} {y} h g t. by-two (λ x y. lt c0·0 y) minOf h g (subst T (sym t) tt) (min-finite x y x (h .1) (g .1));
-      most = λ {a} {b} {x} {y} h g t. by-two (λ x y. lt c0·0 y) maxOf h g (subst T (sym t) tt) (max-finite x y x (h .1) (g .1));
+      least =
+          λ {a} {b} {x} {y} h g t. by-two (λ x y. lt c0·0 y) minOf h g (subst T (sym t) tt)
+          (min-finite x y x (h .1) (g .1));
+      most =
+          λ {a} {b} {x} {y} h g t. by-two (λ x y. lt c0·0 y) maxOf h g (subst T (sym t) tt)
+          (max-finite x y x (h .1) (g .1));
       clamp = λ {a} {b} {c} {x} {y} {z} h g k t.
           let s = clamp-finite x y z (h .1) (g .1) (k .1) in (
-            ap₂ (λ (u v : Checked). three (λ x y z. le y z) clampOf u v c) (h .0) (g .0) ∙ ap (λ (u : Checked). three (λ x y z. le y z) clampOf (value x) (value y) u) (k .0)
+            ap₂ (λ (u v : Checked). three (λ x y z. le y z) clampOf u v c) (h .0) (g .0)
+                ∙ ap (λ (u : Checked). three (λ x y z. le y z) clampOf (value x) (value y) u) (k .0)
                 ∙ kept (le y z && finite (clampOf x y z)) (clampOf x y z) (and-i (le y z) (finite (clampOf x y z)) t s),
             s,
           );

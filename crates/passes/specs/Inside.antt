@@ -1,5 +1,6 @@
--- No pass meets what document 01 leaves undefined: over any arithmetic that agrees with the number steps where they are defined, each pass
--- gives the picture that it gives at binary32. One law for each pass; its file begins with the argument in words. Assumes nothing.
+-- No pass meets what document 01 leaves undefined: over any arithmetic that agrees with the number steps where they are
+-- defined, each pass gives the picture that it gives at binary32. One law for each pass; its file begins with the
+-- argument in words. Assumes nothing.
 pub mod Shared
 pub mod Blur
 pub mod Scanlines

@@ -1,8 +1,9 @@
--- LUT: the preset number decides among seven colour treatments, blended with the original. Channels run from 0 to 1. A is the arithmetic
--- (Arith.antt). Definitions only.
+-- LUT: the preset number decides among seven colour treatments, blended with the original. Channels run from 0 to 1. A
+-- is the arithmetic (Arith.antt). Definitions only.
 use Prim.Native.Nat.{ℕ, zero, suc}
 use mathlib.Core.List.{List}
-use Rattle.num.specs.Const.{c0·01, c0·015, c0·16, c0·35, c0·42, c0·5, c0·58, c0·72, c0·82, c0·88, c0·92, c0·94, c0·95, c0·96, c0·99}
+use Rattle.num.specs.Const.{c0·01, c0·015, c0·16, c0·35, c0·42, c0·5, c0·58, c0·72, c0·82, c0·88, c0·92, c0·94, c0·95}
+use Rattle.num.specs.Const.{c0·96, c0·99}
 use Rattle.num.specs.Const.{c1·0, c1·01, c1·03, c1·05, c1·06, c1·25, c3·0}
 use Rattle.num.specs.Rewrite.{every}
 use Rattle.passes.specs.Arith.{Arith}

@@ -1,8 +1,9 @@
--- NTSC: the frame's chroma is blurred along rows and blended with its own; the luma stays sharp. A is the arithmetic (Arith.antt).
--- Definitions only.
+-- NTSC: the frame's chroma is blurred along rows and blended with its own; the luma stays sharp. A is the arithmetic
+-- (Arith.antt). Definitions only.
 use Prim.Native.Nat.{ℕ, zero, suc}
 use mathlib.Core.List.{List}
-use Rattle.num.specs.Const.{c0·10001, c0·14713, c0·28886, c0·39465, c0·436, c0·51499, c0·58060, c0·615, c1·13983, c2·03211}
+use Rattle.num.specs.Const.{c0·10001, c0·14713, c0·28886, c0·39465, c0·436, c0·51499, c0·58060, c0·615, c1·13983}
+use Rattle.num.specs.Const.{c2·03211}
 use Rattle.num.specs.Rewrite.{every}
 use Rattle.passes.specs.Arith.{Arith}
 use Rattle.passes.specs.Blur.{blurBy, weights}
@@ -44,7 +45,8 @@ module _ (A : Arith) where
   -- the word at column x and row y; `sums` gives the sum of the weights at each column
   abbrev pub at : (ℕ → F) → ℕ → F → ℕ → List ℕ → ℕ → ℕ → ℕ → ℕ
   at sums w strength bleed frame x y =
-      pixel strength (blurBy A sums (λ i. sample 0 frame w i y) w bleed x) (blurBy A sums (λ i. sample 1 frame w i y) w bleed x)
+      pixel strength (blurBy A sums (λ i. sample 0 frame w i y) w bleed x)
+      (blurBy A sums (λ i. sample 1 frame w i y) w bleed x)
 
   unfoldable pub ntsc : ℕ → F → ℕ → List ℕ → List ℕ
   ntsc w strength bleed frame = every (placed w (at (weights A w bleed) w strength bleed frame)) frame

@@ -1,5 +1,5 @@
--- Persistence: each frame is mixed with the frames before it, which the history keeps as they came. A is the arithmetic (Arith.antt).
--- Definitions only.
+-- Persistence: each frame is mixed with the frames before it, which the history keeps as they came. A is the arithmetic
+-- (Arith.antt). Definitions only.
 use Prim.Native.Nat.{ℕ, zero, suc, _*_}
 use mathlib.Core.Bool.{cond}
 use mathlib.Core.List.{List, [], _++_}
@@ -54,7 +54,8 @@ module _ (A : Arith) where
       let c = scaled A w (unpack A p) in
       rgb (red sum ⊕ red c) (green sum ⊕ green c) (blue sum ⊕ blue c)
 
-  -- word p at place i of a frame of n words, times w, and then the words there of the k newest older frames, each times its weight
+  -- word p at place i of a frame of n words, times w, and then the words there of the k newest older frames, each times
+  -- its weight
   unfoldable pub mix : F → (ℕ → F) → List ℕ → (n i p : ℕ) → ℕ → Rgb
   mix w ws past n i p zero = scaled A w (unpack A p)
   mix w ws past n i p (suc j) = add (mix w ws past n i p j) (ws j) (cell n past i j)
@@ -68,7 +69,8 @@ module _ (A : Arith) where
   unfoldable pub blend : F → ℕ → (past frame : List ℕ) → List ℕ
   blend amount k past frame = let t = total amount k in blended (lit c1·0 ⊘ t) (weight amount t) k past frame
 
-  -- of depth k, for a frame of that size; where the history holds frames of another it is begun anew, and the frame stays as it is
+  -- of depth k, for a frame of that size; where the history holds frames of another it is begun anew, and the frame
+  -- stays as it is
   unfoldable pub persistence : F → ℕ → Held → Flow → Flow
   persistence amount k size x =
       cond (sameHeld (x .held) size)

@@ -1,5 +1,6 @@
--- An arithmetic that agrees with the number steps, step by step: where a number a of it stands for a value x of known bounds (`Has`: from -n to n, `Plus`: from 0 to n,
--- `Big`: at least 1 / k), each step's result stands for the value's, with the bounds of the result. Assumes nothing.
+-- An arithmetic that agrees with the number steps, step by step: where a number a of it stands for a value x of known
+-- bounds (`Has`: from -n to n, `Plus`: from 0 to n, `Big`: at least 1 / k), each step's result stands for the value's,
+-- with the bounds of the result. Assumes nothing.
 use mathlib.Core.Path.{_≡_, refl, sym, subst}
 use Prim.Native.Nat.{ℕ, _+_, _*_, _≤_, _<_}
 use native.Mathlib.Nat.{zero-mul, mul-one}
@@ -17,9 +18,14 @@ use Rattle.num.specs.F32.{_⊕_, _⊖_, _⊗_, _⊘_, whole}
 use Rattle.num.specs.Root.{rootOf}
 use Rattle.num.specs.Steps.{clampOf, minOf, maxOf, absOf, roundOf}
 use Rattle.num.specs.Within.{within, Signed, size-le, minus-zero, mul-within, add-within}
-use Rattle.num.specs.Bounds.{zero-within, round-step-within, value-within, widen, clamp-within, min-within, one-is, top-is, int-within, one-less-within}
+use Rattle.num.specs.Bounds.{zero-within, round-step-within, value-within, widen, clamp-within, min-within, one-is}
+use Rattle.num.specs.Bounds.{top-is, int-within, one-less-within}
 use Rattle.passes.specs.Arith.{Arith, Agrees}
-use Rattle.num.specs.Sized.{Exact, exact, Sized, Least, sized-finite, sized-number, within-sized, neg-sized, plus-sized, minus-sized, times-sized, square-within, over-sized, over-within, whole-least, abs-sized, round-step-sized, max-least, share-within, sized-widen, between-sized, root-within}
+use Rattle.num.specs.Least.{Least, whole-least, max-least}
+use Rattle.num.specs.Quotients.{over-sized, over-within, share-within}
+use Rattle.num.specs.Sized.{Exact, exact, Sized, sized-finite, sized-number, within-sized, neg-sized, plus-sized}
+use Rattle.num.specs.Sized.{minus-sized, times-sized, abs-sized, round-step-sized, sized-widen, between-sized}
+use Rattle.num.specs.Squares.{square-within, root-within}
 
 pub record Has {A : Arith} (G : Agrees A) (n : ℕ) (a : A .F) (x : Float) : Type 0 where
   pub is : G .same a x
@@ -61,7 +67,8 @@ unfolding within lt ofBits
 not-below n nan h = refl
 not-below n (inf s) h = absurd h
 not-below n (fin false m e) h = le-ltb (m * up e * 1) (0 * 1 * down e) (omega (arith, zero-mul (down e)))
-not-below n (fin true m e) h = le-ltb 0 (m * up e * 1 + 0 * 1 * down e) (omega (arith, minus-zero n m e h, zero-mul (down e)))
+not-below n (fin true m e) h =
+    le-ltb 0 (m * up e * 1 + 0 * 1 * down e) (omega (arith, minus-zero n m e h, zero-mul (down e)))
 
 -- what is from 0 to 1 is not above 1
 within-le : (x : Float) → T (within 1 x) → T (le x c1·0)
@@ -103,41 +110,51 @@ module _ {A : Arith} {G : Agrees A} where
   lit-big c t l = record { is = G .lit c t; least = l }
 
   -- k of m
-  pub share⁺ : (k m : ℕ) → k ≤ m → 0 < m → m ≤ 16777216 → Plus G 1 (A ._⊘_ (A .whole k) (A .whole m)) (whole k ⊘ whole m)
+  pub share⁺ : (k m : ℕ) → k ≤ m → 0 < m → m ≤ 16777216
+      → Plus G 1 (A ._⊘_ (A .whole k) (A .whole m)) (whole k ⊘ whole m)
   share⁺ k m l p s =
       let h = share-within k m l p s in
-      record { is = G .over (G .whole k (omega arith)) (G .whole m s) (within-finite 1 (whole k ⊘ whole m) h); inside = h }
+      record {
+        is = G .over (G .whole k (omega arith)) (G .whole m s) (within-finite 1 (whole k ⊘ whole m) h);
+        inside = h;
+      }
 
   -- ---- from -n to n
 
   pub wide : (k : ℕ) {n : ℕ} {a : A .F} {x : Float} → Has G n a x → T (leb n k) → Has G k a x
   wide k {n} {a} {x} h t = record { is = h .is; size = sized-widen n k x (leb→le n k t) (h .size) }
 
-  pub plus-exact : {n k : ℕ} {a b : A .F} {x y : Float} → Has G n a x → Has G k b y → Exact (n + k) → Has G (n + k) (A ._⊕_ a b) (x ⊕ y)
+  pub plus-exact : {n k : ℕ} {a b : A .F} {x y : Float} → Has G n a x → Has G k b y → Exact (n + k)
+      → Has G (n + k) (A ._⊕_ a b) (x ⊕ y)
   plus-exact {n} {k} {a} {b} {x} {y} h g t =
       let s = plus-sized n k x y t (h .size) (g .size) in
       record { is = G .plus (h .is) (g .is) (sized-finite (n + k) (x ⊕ y) s); size = s }
 
-  pub plus : {n k : ℕ} {a b : A .F} {x y : Float} → Has G n a x → Has G k b y → Fits (n + k) → Has G (n + k) (A ._⊕_ a b) (x ⊕ y)
+  pub plus : {n k : ℕ} {a b : A .F} {x y : Float} → Has G n a x → Has G k b y → Fits (n + k)
+      → Has G (n + k) (A ._⊕_ a b) (x ⊕ y)
   plus {n} {k} h g t = plus-exact h g (fine (n + k) t)
 
   -- of two from 0 to n
-  pub difference : {n : ℕ} {a b : A .F} {x y : Float} → Plus G n a x → Plus G n b y → Fits n → Has G n (A ._⊖_ a b) (x ⊖ y)
+  pub difference : {n : ℕ} {a b : A .F} {x y : Float} → Plus G n a x → Plus G n b y → Fits n
+      → Has G n (A ._⊖_ a b) (x ⊖ y)
   difference {n} {a} {b} {x} {y} h g t =
       let s = between-sized n x y (fine n t) (h .inside) (g .inside) in
       record { is = G .minus (h .is) (g .is) (sized-finite n (x ⊖ y) s); size = s }
 
-  pub minus : {n k : ℕ} {a b : A .F} {x y : Float} → Has G n a x → Has G k b y → Fits (n + k) → Has G (n + k) (A ._⊖_ a b) (x ⊖ y)
+  pub minus : {n k : ℕ} {a b : A .F} {x y : Float} → Has G n a x → Has G k b y → Fits (n + k)
+      → Has G (n + k) (A ._⊖_ a b) (x ⊖ y)
   minus {n} {k} {a} {b} {x} {y} h g t =
       let s = minus-sized n k x y (fine (n + k) t) (h .size) (g .size) in
       record { is = G .minus (h .is) (g .is) (sized-finite (n + k) (x ⊖ y) s); size = s }
 
-  pub times : {n k : ℕ} {a b : A .F} {x y : Float} → Has G n a x → Has G k b y → Fits (n * k) → Has G (n * k) (A ._⊗_ a b) (x ⊗ y)
+  pub times : {n k : ℕ} {a b : A .F} {x y : Float} → Has G n a x → Has G k b y → Fits (n * k)
+      → Has G (n * k) (A ._⊗_ a b) (x ⊗ y)
   times {n} {k} {a} {b} {x} {y} h g t =
       let s = times-sized n k x y (fine (n * k) t) (h .size) (g .size) in
       record { is = G .times (h .is) (g .is) (sized-finite (n * k) (x ⊗ y) s); size = s }
 
-  pub over : {n k : ℕ} {a b : A .F} {x y : Float} → Has G n a x → Big G k b y → Exact (n * k) → Has G (n * k) (A ._⊘_ a b) (x ⊘ y)
+  pub over : {n k : ℕ} {a b : A .F} {x y : Float} → Has G n a x → Big G k b y → Exact (n * k)
+      → Has G (n * k) (A ._⊘_ a b) (x ⊘ y)
   over {n} {k} {a} {b} {x} {y} h g t =
       let s = over-sized n k x y t (h .size) (g .least) in
       record { is = G .over (h .is) (g .is) (sized-finite (n * k) (x ⊘ y) s); size = s }
@@ -145,7 +162,8 @@ module _ {A : Arith} {G : Agrees A} where
   -- by something that is at least 1
   pub over-one : {n : ℕ} {a b : A .F} {x y : Float} → Has G n a x → Big G 1 b y → Exact n → Has G n (A ._⊘_ a b) (x ⊘ y)
   over-one {n} {a} {b} {x} {y} h g t =
-      subst (λ (k : ℕ). Has G k (A ._⊘_ a b) (x ⊘ y)) (mul-one n) (over h g (subst (λ (k : ℕ). Exact k) (sym (mul-one n)) t))
+      subst (λ (k : ℕ). Has G k (A ._⊘_ a b) (x ⊘ y)) (mul-one n)
+      (over h g (subst (λ (k : ℕ). Exact k) (sym (mul-one n)) t))
 
   pub negated : {n : ℕ} {a : A .F} {x : Float} → Has G n a x → Has G n (A .neg a) (Ieee.neg x)
   negated {n} {a} {x} h = record { is = G .neg (h .is); size = neg-sized n x (h .size) }
@@ -160,15 +178,29 @@ module _ {A : Arith} {G : Agrees A} where
 
   -- ---- from 0 to n
 
-  pub plus⁺ : {n k : ℕ} {a b : A .F} {x y : Float} → Plus G n a x → Plus G k b y → Fits (n + k) → Plus G (n + k) (A ._⊕_ a b) (x ⊕ y)
-  plus⁺ {n} {k} {a} {b} {x} {y} h g t = record { is = plus (signed h) (signed g) t .is; inside = add-within n k x y (few (n + k) t) (h .inside) (g .inside) }
+  pub plus⁺ : {n k : ℕ} {a b : A .F} {x y : Float} → Plus G n a x → Plus G k b y → Fits (n + k)
+      → Plus G (n + k) (A ._⊕_ a b) (x ⊕ y)
+  plus⁺ {n} {k} {a} {b} {x} {y} h g t =
+      record {
+        is = plus (signed h) (signed g) t .is;
+        inside = add-within n k x y (few (n + k) t) (h .inside) (g .inside);
+      }
 
-  pub times⁺ : {n k : ℕ} {a b : A .F} {x y : Float} → Plus G n a x → Plus G k b y → Fits (n * k) → Plus G (n * k) (A ._⊗_ a b) (x ⊗ y)
-  times⁺ {n} {k} {a} {b} {x} {y} h g t = record { is = times (signed h) (signed g) t .is; inside = mul-within n k x y (few (n * k) t) (h .inside) (g .inside) }
+  pub times⁺ : {n k : ℕ} {a b : A .F} {x y : Float} → Plus G n a x → Plus G k b y → Fits (n * k)
+      → Plus G (n * k) (A ._⊗_ a b) (x ⊗ y)
+  times⁺ {n} {k} {a} {b} {x} {y} h g t =
+      record {
+        is = times (signed h) (signed g) t .is;
+        inside = mul-within n k x y (few (n * k) t) (h .inside) (g .inside);
+      }
 
-  pub over⁺ : {n k : ℕ} {a b : A .F} {x y : Float} → Plus G n a x → Big G k b y → Fits (n * k) → Plus G (n * k) (A ._⊘_ a b) (x ⊘ y)
+  pub over⁺ : {n k : ℕ} {a b : A .F} {x y : Float} → Plus G n a x → Big G k b y → Fits (n * k)
+      → Plus G (n * k) (A ._⊘_ a b) (x ⊘ y)
   over⁺ {n} {k} {a} {b} {x} {y} h g t =
-      record { is = over (signed h) g (fine (n * k) t) .is; inside = over-within n k x y (fine (n * k) t) (few (n * k) t) (h .inside) (g .least) }
+      record {
+        is = over (signed h) g (fine (n * k) t) .is;
+        inside = over-within n k x y (fine (n * k) t) (few (n * k) t) (h .inside) (g .least);
+      }
 
   pub square⁺ : {n : ℕ} {a : A .F} {x : Float} → Has G n a x → Fits (n * n) → Plus G (n * n) (A ._⊗_ a a) (x ⊗ x)
   square⁺ {n} {a} {x} h t = record { is = times h h t .is; inside = square-within n x (fine (n * n) t) (h .size) }
@@ -194,7 +226,8 @@ module _ {A : Arith} {G : Agrees A} where
       }
 
   -- limited to 0..1, and to 0..255
-  pub clamp-one : {n : ℕ} {a : A .F} {x : Float} → Has G n a x → Plus G 1 (A .clamp a (A .lit c0·0) (A .lit c1·0)) (clampOf x c0·0 c1·0)
+  pub clamp-one : {n : ℕ} {a : A .F} {x : Float} → Has G n a x
+      → Plus G 1 (A .clamp a (A .lit c0·0) (A .lit c1·0)) (clampOf x c0·0 c1·0)
   unfolding le ofBits
   clamp-one {n} {a} {x} h =
       record {
@@ -202,7 +235,8 @@ module _ {A : Arith} {G : Agrees A} where
         inside = clamp-within 1 x c1·0 one-is (sized-number n x (h .size));
       }
 
-  pub clamp-top : {n : ℕ} {a : A .F} {x : Float} → Has G n a x → Plus G 255 (A .clamp a (A .lit c0·0) (A .lit c255·0)) (clampOf x c0·0 c255·0)
+  pub clamp-top : {n : ℕ} {a : A .F} {x : Float} → Has G n a x
+      → Plus G 255 (A .clamp a (A .lit c0·0) (A .lit c255·0)) (clampOf x c0·0 c255·0)
   unfolding le ofBits
   clamp-top {n} {a} {x} h =
       record {
@@ -218,7 +252,8 @@ module _ {A : Arith} {G : Agrees A} where
       }
 
   -- the root of what is from 0 to 2 ^ 24
-  pub root⁺ : {n : ℕ} {a : A .F} {x : Float} → Plus G n a x → Signed false x → Fits n → Plus G 8192 (A .root a) (rootOf x)
+  pub root⁺ : {n : ℕ} {a : A .F} {x : Float} → Plus G n a x → Signed false x → Fits n
+      → Plus G 8192 (A .root a) (rootOf x)
   root⁺ {n} {a} {x} h p t =
       let r = root-within x (widen n 16777216 x (few n t) (h .inside)) in
       record { is = G .root (h .is) p (within-finite 8192 (rootOf x) r); inside = r }

@@ -1,8 +1,8 @@
--- Bloom, of a threshold t up to 255 and a radius up to 64. A word is bright only if its luma is above t, and no luma is above that of white,
--- which is 255.0 exactly (the three products and two sums of its luma, and rounding keeps the order). So at t = 255 no word is bright, and
--- the division 0 / 0 that document 01 allows for is never reached; for t up to 254 the divisor 255 - t is at least 1. A bright channel is in
--- 0..255, blurred along rows in -32895..32895, along columns in -4243455..4243455, laid over in -4243710..4243710: finite, then limited to
--- 0..255. Assumes nothing.
+-- Bloom, of a threshold t up to 255 and a radius up to 64. A word is bright only if its luma is above t, and no luma is
+-- above that of white, which is 255.0 exactly (the three products and two sums of its luma, and rounding keeps the
+-- order). So at t = 255 no word is bright, and the division 0 / 0 that document 01 allows for is never reached; for t
+-- up to 254 the divisor 255 - t is at least 1. A bright channel is in 0..255, blurred along rows in -32895..32895,
+-- along columns in -4243455..4243455, laid over in -4243710..4243710: finite, then limited to 0..255. Assumes nothing.
 use mathlib.Core.Path.{_≡_, refl, subst}
 use mathlib.Core.List.{List}
 use Prim.Native.Nat.{ℕ, _+_, _*_, _/_, _%_, _≤_, _<_}
@@ -14,15 +14,19 @@ use lib.ListN.{getD}
 use lib.Ieee.{Float, le, add, mul, ofBits, ofInt}
 use Rattle.num.specs.Const.{c0·0, c0·0722, c0·2126, c0·7152, c255·0}
 use Rattle.num.specs.F32.{_⊕_, _⊖_, _⊗_, whole}
-use Rattle.num.specs.Sized.{exact, Upto, times-upto, plus-upto, upto-le, whole-upto, top-least}
+use Rattle.num.specs.Least.{top-least}
+use Rattle.num.specs.Sized.{exact}
+use Rattle.num.specs.Upto.{Upto, times-upto, plus-upto, upto-le, whole-upto}
 use Rattle.num.specs.Within.{within}
 use Rattle.passes.specs.Arith.{Arith, Agrees, plain}
 use Rattle.passes.specs.Bloom as Text
 use Rattle.passes.specs.Blur.{blurAt}
 use Rattle.passes.specs.Inside.Blur.{blur-in}
-use Rattle.passes.specs.Inside.Shared.{Tint, tint, loose, unpacked, scaled-in, channel-in, packed-three, luma709-in, cell-same}
+use Rattle.passes.specs.Inside.Shared.{Tint, tint, loose, unpacked, scaled-in, channel-in, packed-three}
+use Rattle.passes.specs.Inside.Shared.{luma709-in, cell-same}
 use Rattle.passes.specs.Pixel.{unpack, luma709, scaled}
-use Rattle.passes.specs.Range.{Has, Plus, Big, signed, lit⁺, whole⁺, wide, difference, plus, minus, times, over-one, zero⁺, top⁺, clamp-one}
+use Rattle.passes.specs.Range.{Has, Plus, Big, signed, lit⁺, whole⁺, wide, difference, plus, minus, times}
+use Rattle.passes.specs.Range.{over-one, zero⁺, top⁺, clamp-one}
 use Rattle.passes.specs.Rows.{Frame, placed-ext}
 
 -- ---- no luma is above 255
@@ -36,7 +40,8 @@ luma-top p =
     let r = p / 65536 % 256 in
     let g = p / 256 % 256 in
     let b = p % 256 in
-    plus-upto (c0·2126 ⊗ whole 255 ⊕ c0·7152 ⊗ whole 255) (c0·0722 ⊗ whole 255) (c0·2126 ⊗ whole r ⊕ c0·7152 ⊗ whole g) (c0·0722 ⊗ whole b) tt
+    plus-upto (c0·2126 ⊗ whole 255 ⊕ c0·7152 ⊗ whole 255) (c0·0722 ⊗ whole 255) (c0·2126 ⊗ whole r ⊕ c0·7152 ⊗ whole g)
+    (c0·0722 ⊗ whole b) tt
     (plus-upto (c0·2126 ⊗ whole 255) (c0·7152 ⊗ whole 255) (c0·2126 ⊗ whole r) (c0·7152 ⊗ whole g) tt
     (times-upto c0·2126 (whole 255) c0·2126 (whole r) tt (lit≤ tt) (whole-upto 255 r (omega arith) (lit≤ tt)))
     (times-upto c0·7152 (whole 255) c0·7152 (whole g) tt (lit≤ tt) (whole-upto 255 g (omega arith) (lit≤ tt))))
@@ -64,7 +69,8 @@ abbrev light : (B : Arith) → ℕ → ℕ → B .Rgb
 light B t p = scaled B (Text.intensity B (B .whole t) (luma709 B (unpack B p))) (unpack B p)
 
 module _ {A : Arith} (G : Agrees A) where
-  bright-in : (p t : ℕ) → t ≤ 255 → Tint G 255 (Text.bright A (A .whole t) (unpack A p)) (Text.bright plain (whole t) (unpack plain p))
+  bright-in : (p t : ℕ) → t ≤ 255
+      → Tint G 255 (Text.bright A (A .whole t) (unpack A p)) (Text.bright plain (whole t) (unpack plain p))
   unfolding Text.bright
   bright-in p t l =
       let y = luma709-in (loose (unpacked G p)) tt tt tt in
@@ -75,7 +81,8 @@ module _ {A : Arith} (G : Agrees A) where
       nought : Has G 255 (A .lit c0·0) c0·0
       nought = wide 255 (signed zero⁺) tt
 
-      go : (b : Bool) → le (luma p) (whole t) ≡ b → Tint G 255 (cond b (dark A) (light A t p)) (cond b (dark plain) (light plain t p))
+      go : (b : Bool) → le (luma p) (whole t) ≡ b
+          → Tint G 255 (cond b (dark A) (light A t p)) (cond b (dark plain) (light plain t p))
       go true e = tint nought nought nought
       go false e =
           let c = unpacked G p in
@@ -96,9 +103,11 @@ module _ {A : Arith} (G : Agrees A) where
       packed-three (glow (c .red) (v .red)) (glow (c .green) (v .green)) (glow (c .blue) (v .blue)))
     where
       across : (which x y : ℕ) → x < w → y < h
-          → Has G 32895 (Text.horizontal A w radius (A .whole threshold) frame which x y) (Text.horizontal plain w radius (whole threshold) frame which x y)
+          → Has G 32895 (Text.horizontal A w radius (A .whole threshold) frame which x y)
+          (Text.horizontal plain w radius (whole threshold) frame which x y)
       across which x y i j =
-          blur-in G 255 w radius x (λ k. Text.sample A (A .whole threshold) frame w which k y) (λ k. Text.sample plain (whole threshold) frame w which k y)
+          blur-in G 255 w radius x (λ k. Text.sample A (A .whole threshold) frame w which k y)
+          (λ k. Text.sample plain (whole threshold) frame w which k y)
           (lit≤ tt) m i
           (λ k n. rw (cell-same G f k y n j) (channel-in which (bright-in (getD frame (y * w + k) 0) threshold l)))
 
@@ -107,7 +116,9 @@ module _ {A : Arith} (G : Agrees A) where
           (blurAt plain (λ k. Text.horizontal plain w radius (whole threshold) frame which x k) h radius y)
       blurred which x y i j =
           blur-in G 32895 h radius y (λ k. Text.horizontal A w radius (A .whole threshold) frame which x k)
-          (λ k. Text.horizontal plain w radius (whole threshold) frame which x k) (lit≤ tt) m j (λ k n. across which x k i n)
+          (λ k. Text.horizontal plain w radius (whole threshold) frame which x k) (lit≤ tt) m j
+          (λ k n. across which x k i n)
 
-      glow : {a b : A .F} {x y : Float} → Has G 255 a x → Has G 4243455 b y → Has G 4243710 (A ._⊕_ a (A ._⊗_ b (A .lit strength))) (x ⊕ y ⊗ strength)
+      glow : {a b : A .F} {x y : Float} → Has G 255 a x → Has G 4243455 b y
+          → Has G 4243710 (A ._⊕_ a (A ._⊗_ b (A .lit strength))) (x ⊕ y ⊗ strength)
       glow a b = plus a (times b (signed (lit⁺ 1 strength s)) tt) tt

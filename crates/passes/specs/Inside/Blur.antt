@@ -1,6 +1,6 @@
--- The blur of NTSC and bloom, of a radius up to 64. A weight 1 - d / (radius + 1) is in 0..1, and 1 at the centre, which is always inside:
--- from the centre on the sum of the weights is at least 1, and it is at most 129. So the ratio's test passes. Of samples in -b..b the
--- weighted sum is in -129 b..129 b, and the quotient too. Assumes nothing.
+-- The blur of NTSC and bloom, of a radius up to 64. A weight 1 - d / (radius + 1) is in 0..1, and 1 at the centre,
+-- which is always inside: from the centre on the sum of the weights is at least 1, and it is at most 129. So the
+-- ratio's test passes. Of samples in -b..b the weighted sum is in -129 b..129 b, and the quotient too. Assumes nothing.
 use mathlib.Core.Path.{_≡_, refl, sym, ap, _∙_, subst}
 use mathlib.Core.Logic.{_⊎_, inl, inr}
 use Prim.Native.Nat.{ℕ, zero, suc, _+_, _-_, _*_, _≤_, _<_}
@@ -14,12 +14,15 @@ use lib.Ieee.{Float}
 use Rattle.num.specs.Bounds.{widen}
 use Rattle.num.specs.Const.{c0·0, c1·0}
 use Rattle.num.specs.F32.{_⊕_, _⊗_, _⊘_, whole}
-use Rattle.num.specs.Sized.{exact, sized-finite, Least, more-least, next-whole, centre-least, least-above, share-within, whole-least, within-sized}
+use Rattle.num.specs.Least.{Least, more-least, next-whole, least-above, whole-least}
+use Rattle.num.specs.Quotients.{centre-least, share-within}
+use Rattle.num.specs.Sized.{exact, sized-finite, within-sized}
 use Rattle.num.specs.Within.{within}
 use Rattle.passes.specs.Arith.{Arith, Agrees, plain}
 use Rattle.passes.specs.Blur.{distance, inside, weight, taken, total, blurAt}
 use Rattle.passes.specs.Inside.Shared.{both}
-use Rattle.passes.specs.Range.{Has, Plus, signed, whole⁺, wide, plus, times, over-one, plus⁺, zero⁺, one⁺, one-less}
+use Rattle.passes.specs.Range.{Has, Plus, signed, whole⁺, wide, plus, times, over-one, plus⁺, zero⁺, one⁺}
+use Rattle.passes.specs.Range.{one-less}
 
 -- over the first k offsets of x: the sum of the weights, and that of the weighted samples
 abbrev weightsTo : (B : Arith) → ℕ → ℕ → ℕ → ℕ → B .F
@@ -34,7 +37,8 @@ weightAt B r k = weight B r (distance r k)
 
 centre : (r : ℕ) → r ≤ 64 → Least 1 (weight plain r 0)
 unfolding weight
-centre r l = centre-least (whole r ⊕ c1·0) (rw (next-whole r (omega arith)) (whole-least (r + 1) (omega arith) (omega arith)))
+centre r l =
+    centre-least (whole r ⊕ c1·0) (rw (next-whole r (omega arith)) (whole-least (r + 1) (omega arith) (omega arith)))
 
 module _ {A : Arith} (G : Agrees A) where
   weight-in : (r d : ℕ) → r ≤ 64 → d ≤ r → Plus G 1 (weight A r d) (weight plain r d)
@@ -43,8 +47,13 @@ module _ {A : Arith} (G : Agrees A) where
       let z = whole d ⊘ (whole r ⊕ c1·0) in
       let i : T (within 1 (whole d ⊘ (whole r ⊕ c1·0))) =
       rw (next-whole r (omega arith)) (share-within d (r + 1) (omega arith) (omega arith) (omega arith)) in
-      let y : Plus G 65 (A ._⊕_ (A .whole r) (A .lit c1·0)) (whole r ⊕ c1·0) = plus⁺ (whole⁺ 64 r l (lit≤ tt)) one⁺ tt in
-      one-less (record { is = G .over (G .whole d (omega arith)) (y .is) (sized-finite 1 z (within-sized 1 z i)); inside = i })
+      let y : Plus G 65 (A ._⊕_ (A .whole r) (A .lit c1·0)) (whole r ⊕ c1·0) =
+      plus⁺ (whole⁺ 64 r l (lit≤ tt)) one⁺ tt in
+      one-less (record {
+        is = G .over (G .whole d (omega arith)) (y .is)
+            (sized-finite 1 z (within-sized 1 z i));
+        inside = i;
+      })
 
   weights-in : (n r x k : ℕ) → r ≤ 64 → k ≤ 2 * r + 1 → Plus G k (weightsTo A n r x k) (weightsTo plain n r x k)
   unfolding total
@@ -52,9 +61,11 @@ module _ {A : Arith} (G : Agrees A) where
   weights-in n r x (suc k) l m = go (inside n r x k) (weights-in n r x k l (omega arith))
     where
       go : (b : Bool) → Plus G k (weightsTo A n r x k) (weightsTo plain n r x k)
-          → Plus G (suc k) (taken A b (weightsTo A n r x k) (weightAt A r k)) (taken plain b (weightsTo plain n r x k) (weightAt plain r k))
+          → Plus G (suc k) (taken A b (weightsTo A n r x k) (weightAt A r k))
+          (taken plain b (weightsTo plain n r x k) (weightAt plain r k))
       go true h =
-          subst (λ (j : ℕ). Plus G j (A ._⊕_ (weightsTo A n r x k) (weightAt A r k)) (weightsTo plain n r x k ⊕ weightAt plain r k)) (add-one k)
+          subst (λ (j : ℕ). Plus G j (A ._⊕_ (weightsTo A n r x k) (weightAt A r k))
+          (weightsTo plain n r x k ⊕ weightAt plain r k)) (add-one k)
           (plus⁺ h (weight-in r (distance r k) l (omega arith)) (le→leb (k + 1) 16777216 (omega arith)))
       go false h = record { is = h .is; inside = widen k (suc k) (weightsTo plain n r x k) (omega arith) (h .inside) }
 
@@ -62,11 +73,14 @@ module _ {A : Arith} (G : Agrees A) where
   weights-least : (n r x k : ℕ) → r ≤ 64 → x < n → k ≤ 2 * r + 1 → r < k → Least 1 (weightsTo plain n r x k)
   unfolding total
   weights-least n r x zero l p m q = absurd (omega arith)
-  weights-least n r x (suc k) l p m q = go (inside n r x k) (ltb r k) refl refl (λ (i : r < k). weights-least n r x k l p (omega arith) i)
+  weights-least n r x (suc k) l p m q =
+      go (inside n r x k) (ltb r k) refl refl (λ (i : r < k). weights-least n r x k l p (omega arith) i)
     where
-      more : Least 1 (weightsTo plain n r x k) ⊎ Least 1 (weightAt plain r k) → Least 1 (weightsTo plain n r x k ⊕ weightAt plain r k)
+      more : Least 1 (weightsTo plain n r x k) ⊎ Least 1 (weightAt plain r k)
+          → Least 1 (weightsTo plain n r x k ⊕ weightAt plain r k)
       more h =
-          more-least k 1 (weightsTo plain n r x k) (weightAt plain r k) (exact (k + 1) (omega arith)) (weights-in n r x k l (omega arith) .inside)
+          more-least k 1 (weightsTo plain n r x k) (weightAt plain r k) (exact (k + 1) (omega arith))
+          (weights-in n r x k l (omega arith) .inside)
           (weight-in r (distance r k) l (omega arith) .inside) h
 
       go : (b c : Bool) → inside n r x k ≡ b → ltb r k ≡ c → (r < k → Least 1 (weightsTo plain n r x k))
@@ -84,8 +98,10 @@ module _ {A : Arith} (G : Agrees A) where
   weighted-in : (b n r x k : ℕ) (f : ℕ → A .F) (g : ℕ → Float) → 129 * b ≤ 16777216 → r ≤ 64 → k ≤ 2 * r + 1
       → ((i : ℕ) → i < n → Has G b (f i) (g i)) → Has G (k * b) (samplesTo A f n r x k) (samplesTo plain g n r x k)
   unfolding total
-  weighted-in b n r x zero f g small l m h = subst (λ (j : ℕ). Has G j (A .lit c0·0) c0·0) (sym (zero-mul b)) (signed zero⁺)
-  weighted-in b n r x (suc k) f g small l m h = go (inside n r x k) refl (weighted-in b n r x k f g small l (omega arith) h)
+  weighted-in b n r x zero f g small l m h =
+      subst (λ (j : ℕ). Has G j (A .lit c0·0) c0·0) (sym (zero-mul b)) (signed zero⁺)
+  weighted-in b n r x (suc k) f g small l m h =
+      go (inside n r x k) refl (weighted-in b n r x k f g small l (omega arith) h)
     where
       room : k * b + b * 1 ≤ 16777216
       room = let q : (k + 1) * b ≤ 129 * b = mul-le-mul-right b (omega arith) in omega arith
@@ -115,4 +131,5 @@ module _ {A : Arith} (G : Agrees A) where
       let positive = least-above (weightsTo plain n r x k) q in
       let above : A .below (A .lit c0·0) (weightsTo A n r x k) ≡ true = G .below (z .is) (w .is) ∙ positive in
       rw (above, positive)
-      (wide (129 * b) (over-one sum (record { is = w .is; least = q }) (exact (k * b) (le-trans most small))) (le→leb (k * b) (129 * b) most))
+      (wide (129 * b) (over-one sum (record { is = w .is; least = q }) (exact (k * b) (le-trans most small)))
+      (le→leb (k * b) (129 * b) most))

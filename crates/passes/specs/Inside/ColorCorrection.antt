@@ -1,5 +1,6 @@
--- Colour correction, with brightness in -1..1, contrast and saturation in 0..4. A level is in -1029..1029, its luma in -3087..3087, a
--- saturated channel in -19551..19551: finite, then limited to 0..1 and times 255. Gamma has no step. Assumes nothing.
+-- Colour correction, with brightness in -1..1, contrast and saturation in 0..4. A level is in -1029..1029, its luma in
+-- -3087..3087, a saturated channel in -19551..19551: finite, then limited to 0..1 and times 255. Gamma has no step.
+-- Assumes nothing.
 use mathlib.Core.Path.{_≡_}
 use mathlib.Core.List.{List}
 use Prim.Native.Nat.{ℕ}
@@ -33,7 +34,9 @@ module _ {A : Arith} (G : Agrees A) where
     where
       level : {a : A .F} {x : Float} → Plus G 255 a x
           → Has G 1029 (Text.level A (A .lit brightness) (A .lit contrast) a) (Text.level plain brightness contrast x)
-      level h = plus (times (minus (plus (signed h) (lit 1 brightness b) tt) (lit 1 c0·5 tt) tt) (signed (lit⁺ 4 contrast c)) tt) (lit 1 c0·5 tt) tt
+      level h =
+          plus (times (minus (plus (signed h) (lit 1 brightness b) tt) (lit 1 c0·5 tt) tt)
+          (signed (lit⁺ 4 contrast c)) tt) (lit 1 c0·5 tt) tt
 
       saturated : {c : A .Rgb} {d : Rgb} → Tint G 1029 c d
           → packUnit A (Text.saturate A (A .lit saturation) c) ≡ packUnit plain (Text.saturate plain saturation d)

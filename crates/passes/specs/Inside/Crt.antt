@@ -1,6 +1,7 @@
--- CRT. The middle c is at most 1024, so the greater of c and 1 is at least 1, and an offset is in -2048..2048; the squares are at most 2^22,
--- their sum at most 2^23, and the edge is limited to 0..1. Beam and phosphor are 1 less something in 0..1. So a channel stays in 0..255, and
--- what is rounded and cut is finite and in 0..255. Assumes nothing.
+-- CRT. The middle c is at most 1024, so the greater of c and 1 is at least 1, and an offset is in -2048..2048; the
+-- squares are at most 2^22, their sum at most 2^23, and the edge is limited to 0..1. Beam and phosphor are 1 less
+-- something in 0..1. So a channel stays in 0..255, and what is rounded and cut is finite and in 0..255. Assumes
+-- nothing.
 use mathlib.Core.Path.{_≡_}
 use mathlib.Core.List.{List}
 use Prim.Native.Nat.{ℕ, zero, suc, _-_, _%_, _≤_, _<_}
@@ -12,7 +13,8 @@ use Rattle.num.specs.Within.{within}
 use Rattle.passes.specs.Arith.{Arith, Agrees, plain}
 use Rattle.passes.specs.Crt as Text
 use Rattle.passes.specs.Inside.Shared.{Tint⁺, tint⁺, unpacked, scaled-in, packed-nearest}
-use Rattle.passes.specs.Range.{Has, Plus, signed, lit⁺, whole⁺, minus, times, plus⁺, times⁺, over⁺, square⁺, most-one, one⁺, one-less, clamp-one}
+use Rattle.passes.specs.Range.{Has, Plus, signed, lit⁺, whole⁺, minus, times, plus⁺, times⁺, over⁺, square⁺}
+use Rattle.passes.specs.Range.{most-one, one⁺, one-less, clamp-one}
 use Rattle.passes.specs.Rows.{Frame, placed-ext}
 use Rattle.passes.specs.declared.pixel.Rgb.{Rgb}
 
@@ -25,7 +27,8 @@ module _ {A : Arith} (G : Agrees A) where
   unfolding Text.offset within ofBits
   offset-in n k l m =
       let c = times⁺ (whole⁺ 1024 (n - 1) (omega arith) (lit≤ tt)) (lit⁺ 1 c0·5 tt) tt in
-      times (minus (signed (whole⁺ 1024 k (omega arith) (lit≤ tt))) (signed c) tt) (signed (over⁺ one⁺ (most-one (signed c)) tt)) tt
+      times (minus (signed (whole⁺ 1024 k (omega arith) (lit≤ tt))) (signed c) tt)
+      (signed (over⁺ one⁺ (most-one (signed c)) tt)) tt
 
   pub crt-inside : (w h : ℕ) (strength : Float) (frame : List ℕ) → Frame w h frame → T (within 1 strength)
       → Text.crt A w h (A .lit strength) frame ≡ Text.crt plain w h strength frame
@@ -43,7 +46,8 @@ module _ {A : Arith} (G : Agrees A) where
       beam (suc zero) = one⁺
       beam (suc (suc n)) = one-less (times⁺ (lit⁺ 1 c0·12 tt) st tt)
 
-      edge : {a b : A .F} {x y : Float} → Has G 2048 a x → Has G 2048 b y → Plus G 1 (Text.edge A (A .lit strength) a b) (Text.edge plain strength x y)
+      edge : {a b : A .F} {x y : Float} → Has G 2048 a x → Has G 2048 b y
+          → Plus G 1 (Text.edge A (A .lit strength) a b) (Text.edge plain strength x y)
       edge h g =
           clamp-one (minus (signed one⁺)
           (signed (times⁺ (times⁺ st (lit⁺ 1 c0·12 tt) tt) (plus⁺ (square⁺ h tt) (square⁺ g tt) tt) tt)) tt)

@@ -1,6 +1,7 @@
--- Curvature. A place k of n is k / (n - 1) in 0..1, its position in -3..3, r2 at most 18, the distortion at most 19, and a bent coordinate
--- in -57..57: finite. Where it is not outside -1..1, (x + 1) / 2 * (n - 1) is in 0..n - 1 (num's `index-within`), so what is rounded is
--- finite, what is cut is at most 1023, and column and row are in the frame. Assumes nothing.
+-- Curvature. A place k of n is k / (n - 1) in 0..1, its position in -3..3, r2 at most 18, the distortion at most 19,
+-- and a bent coordinate in -57..57: finite. Where it is not outside -1..1, (x + 1) / 2 * (n - 1) is in 0..n - 1 (num's
+-- `index-within`), so what is rounded is finite, what is cut is at most 1023, and column and row are in the frame.
+-- Assumes nothing.
 use mathlib.Core.Path.{_≡_, refl}
 use mathlib.Core.List.{List}
 use Prim.Native.Nat.{ℕ, _+_, _-_, _*_, _≤_, _<_}
@@ -34,30 +35,37 @@ module _ {A : Arith} (G : Agrees A) where
       rw (G .below (h .is) (negated one .is), G .below (one .is) (h .is))
 
   -- the row or column of a coordinate that is not outside
-  index-in : (n : ℕ) {a : A .F} {x : Float} → n ≤ 1024 → Has G 57 a x → Text.outside plain x ≡ false → Text.indexOf A n a ≡ indexOf n x
+  index-in : (n : ℕ) {a : A .F} {x : Float} → n ≤ 1024 → Has G 57 a x → Text.outside plain x ≡ false
+      → Text.indexOf A n a ≡ indexOf n x
   unfolding Text.outside ofBits
   index-in n {a} {x} l h e =
-      let y = times (times (plus h (signed one⁺) tt) (lit 1 c0·5 tt) tt) (signed (whole⁺ 1023 (n - 1) (omega arith) (lit≤ tt))) tt in
+      let y =
+      times (times (plus h (signed one⁺) tt) (lit 1 c0·5 tt) tt)
+      (signed (whole⁺ 1023 (n - 1) (omega arith) (lit≤ tt))) tt in
       let o = neither (lt x (neg c1·0)) (lt c1·0 x) e in
       let i = index-within n x l (sized-number 57 x (h .size)) (o .0) (o .1) in
       let v = (x ⊕ c1·0) ⊗ c0·5 ⊗ whole (n - 1) in
-      G .cut (round y tt .is) (widen (n - 1) 1023 (roundOf v) (omega arith) (round-step-within (n - 1) v (omega arith) i))
+      G .cut (round y tt .is)
+      (widen (n - 1) 1023 (roundOf v) (omega arith) (round-step-within (n - 1) v (omega arith) i))
 
-  sample-same : (w h : ℕ) (frame : List ℕ) {a b : A .F} {x y : Float} → 0 < w → 0 < h → Frame w h frame → Has G 57 a x → Has G 57 b y
+  sample-same : (w h : ℕ) (frame : List ℕ) {a b : A .F} {x y : Float} → 0 < w → 0 < h → Frame w h frame → Has G 57 a x
+      → Has G 57 b y
       → Text.sample A w h frame a b ≡ Text.sample plain w h frame x y
   unfolding Text.sample
   sample-same w h frame {a} {b} {x} {y} W H f p q =
       rw (outside-same p, outside-same q) (go (Text.outside plain x) (Text.outside plain y) refl refl)
     where
       go : (u v : Bool) → Text.outside plain x ≡ u → Text.outside plain y ≡ v
-          → cond (u || v) 0 (A .cell w frame (Text.indexOf A w a) (Text.indexOf A h b)) ≡ cond (u || v) 0 (getD frame (indexOf h y * w + indexOf w x) 0)
+          → cond (u || v) 0 (A .cell w frame (Text.indexOf A w a) (Text.indexOf A h b))
+          ≡ cond (u || v) 0 (getD frame (indexOf h y * w + indexOf w x) 0)
       go true v e d = refl
       go false true e d = refl
       go false false e d =
           let column = index-there w x W (f .wide) e in
           let row = row-ends w h (indexOf h y) (index-there h y H (f .high) d) in
           let long = f .area in
-          rw (index-in w (f .wide) p e, index-in h (f .high) q d) (G .cell w frame (indexOf w x) (indexOf h y) column (omega arith))
+          rw (index-in w (f .wide) p e, index-in h (f .high) q d)
+          (G .cell w frame (indexOf w x) (indexOf h y) column (omega arith))
 
   pub curvature-inside : (w h : ℕ) (amount : Float) (frame : List ℕ) → Frame w h frame → T (within 1 amount)
       → Text.curvature A w h (A .lit amount) frame ≡ Text.curvature plain w h amount frame
@@ -66,5 +74,6 @@ module _ {A : Arith} (G : Agrees A) where
       placed-ext w h frame _ _ (f .area) (λ x y p l m.
       let nx = position-in G w x (f .wide) l in
       let ny = position-in G h y (f .high) m in
-      let distortion = plus (signed one⁺) (times (signed (lit⁺ 1 amount s)) (plus (times nx nx tt) (times ny ny tt) tt) tt) tt in
+      let distortion =
+      plus (signed one⁺) (times (signed (lit⁺ 1 amount s)) (plus (times nx nx tt) (times ny ny tt) tt) tt) tt in
       sample-same w h frame (omega arith) (omega arith) f (times nx distortion tt) (times ny distortion tt))

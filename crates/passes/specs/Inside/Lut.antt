@@ -1,13 +1,14 @@
--- LUT, for every preset number. A channel over 255 is at most 255 (the divisor is at least 1), a luma at most 765, what is rounded for Game
--- Boy at most 2295 and then divided by 3; each treatment is in -4096..4096, blended with the original in -4606..4606: finite, then
--- limited to 0..1 and times 255. Assumes nothing.
+-- LUT, for every preset number. A channel over 255 is at most 255 (the divisor is at least 1), a luma at most 765, what
+-- is rounded for Game Boy at most 2295 and then divided by 3; each treatment is in -4096..4096, blended with the
+-- original in -4606..4606: finite, then limited to 0..1 and times 255. Assumes nothing.
 use mathlib.Core.Path.{_≡_}
 use mathlib.Core.List.{List}
 use Prim.Native.Nat.{ℕ, zero, suc}
 use lib.Dec.{T, lit≤}
 use lib.ListN.{length}
 use lib.Ieee.{Float, ofBits}
-use Rattle.num.specs.Const.{c0·01, c0·015, c0·16, c0·35, c0·42, c0·5, c0·58, c0·72, c0·82, c0·88, c0·92, c0·94, c0·95, c0·96, c0·99}
+use Rattle.num.specs.Const.{c0·01, c0·015, c0·16, c0·35, c0·42, c0·5, c0·58, c0·72, c0·82, c0·88, c0·92, c0·94, c0·95}
+use Rattle.num.specs.Const.{c0·96, c0·99}
 use Rattle.num.specs.Const.{c1·0, c1·01, c1·03, c1·05, c1·06, c1·25, c3·0}
 use Rattle.num.specs.Rewrite.{rewrite-ext}
 use Rattle.num.specs.Sized.{exact}
@@ -31,7 +32,12 @@ module _ {A : Arith} (G : Agrees A) where
   transformed : (n : ℕ) {c : A .Rgb} {d : Rgb} → Tint⁺ G 255 c d → Tint G 4096 (transform A n c) (transform plain n d)
   unfolding transform ofBits
   transformed zero h =
-      record { red = wide 4096 (signed (h .red)) tt; green = wide 4096 (signed (h .green)) tt; blue = wide 4096 (signed (h .blue)) tt }
+      record {
+        red = wide 4096 (signed (h .red)) tt;
+        green = wide 4096 (signed (h .green)) tt;
+        blue = wide 4096
+            (signed (h .blue)) tt;
+      }
   transformed (suc zero) h =
       tint (wide 4096 (plus (times (signed (h .red)) (lit 2 c1·05 tt) tt) (lit 1 c0·015 tt) tt) tt)
       (wide 4096 (times (signed (h .green)) (lit 2 c1·01 tt) tt) tt)
@@ -47,15 +53,19 @@ module _ {A : Arith} (G : Agrees A) where
     where
       part : {a e f : A .F} {x s t : Float} → Plus G 255 a x → Has G 1 e s → Has G 2 f t
           → Has G 4096 (toned A (luma601 A c) a e f) (toned plain (luma601 plain d) x s t)
-      part a s t = let y = signed (luma601-in h) in wide 4096 (times (plus y (times (minus (signed a) y tt) s tt) tt) t tt) tt
+      part a s t =
+          let y = signed (luma601-in h) in wide 4096 (times (plus y (times (minus (signed a) y tt) s tt) tt) t tt) tt
   transformed (suc (suc (suc (suc zero)))) h =
-      let level = over (round (times (signed (luma601-in h)) (lit 3 c3·0 tt) tt) tt) (lit-big c3·0 tt (lit≤ tt)) (exact 2295 (lit≤ tt)) in
+      let level =
+      over (round (times (signed (luma601-in h)) (lit 3 c3·0 tt) tt) tt) (lit-big c3·0 tt (lit≤ tt))
+      (exact 2295 (lit≤ tt)) in
       tint (wide 4096 (times level (lit 1 c0·35 tt) tt) tt)
       (wide 4096 (times level (lit 1 c0·72 tt) tt) tt)
       (wide 4096 (times level (lit 1 c0·42 tt) tt) tt)
   transformed (suc (suc (suc (suc (suc zero))))) h =
       let y = signed (luma601-in h) in
-      tint (wide 4096 (times y (lit 1 c0·95 tt) tt) tt) (wide 4096 (times y (lit 1 c0·58 tt) tt) tt) (wide 4096 (times y (lit 1 c0·16 tt) tt) tt)
+      tint (wide 4096 (times y (lit 1 c0·95 tt) tt) tt) (wide 4096 (times y (lit 1 c0·58 tt) tt) tt)
+      (wide 4096 (times y (lit 1 c0·16 tt) tt) tt)
   transformed (suc (suc (suc (suc (suc (suc n)))))) h = tint (part (h .red)) (part (h .green)) (part (h .blue))
     where
       part : {a : A .F} {x : Float} → Plus G 255 a x → Has G 4096 (steep A a) (steep plain x)
@@ -70,5 +80,6 @@ module _ {A : Arith} (G : Agrees A) where
       let t = transformed preset c in
       packed-unit (tint (mixed (c .red) (t .red)) (mixed (c .green) (t .green)) (mixed (c .blue) (t .blue))))
     where
-      mixed : {a b : A .F} {x y : Float} → Plus G 255 a x → Has G 4096 b y → Has G 4606 (blend A a b (A .lit strength)) (blend plain x y strength)
+      mixed : {a b : A .F} {x y : Float} → Plus G 255 a x → Has G 4096 b y
+          → Has G 4606 (blend A a b (A .lit strength)) (blend plain x y strength)
       mixed h g = plus (signed h) (times (minus g (signed h) tt) (signed (lit⁺ 1 strength s)) tt) tt

@@ -1,4 +1,5 @@
--- Scanlines. With strength in 0..1 the factor 1 - strength is in 0..1, and a channel times it in 0..255. Assumes nothing.
+-- Scanlines. With strength in 0..1 the factor 1 - strength is in 0..1, and a channel times it in 0..255. Assumes
+-- nothing.
 use mathlib.Core.Path.{_≡_, refl}
 use mathlib.Core.List.{List}
 use Prim.Native.Nat.{ℕ, zero, suc, _/_, _%_}

@@ -6,7 +6,8 @@ use Rattle.passes.specs as Text
 use Rattle.passes.specs.Plain.Pixel.{dim}
 use Rattle.passes.specs.Rows.{Rowed, no-rows, row-in, row-length, row-by, rows-all}
 use Rattle.passes.specs.Plain.Vignette.{factorAt}
-use Rattle.passes.proofs.Quarter.{Table, quarter-in, quarter-frame, kept, filled, rest, line-in, line-length, by-line}
+use Rattle.passes.proofs.Quarter.{Table, quarter-in, quarter-frame, kept, filled, rest, line-in, line-length}
+use Rattle.passes.proofs.Quarter.{by-line}
 use Rattle.passes.proofs.vignette.apply.Statement.{statement}
 use Rattle.passes.proofs.vignette.apply.Tie as tie
 
