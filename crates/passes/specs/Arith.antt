@@ -1,7 +1,11 @@
--- What a pass may do with numbers: an arithmetic of any kind, and what it is for one to agree with the number steps of
--- document 01 wherever these are defined and Rust's own do the same (docs/DIFFERENCES.md). Outside (a result that is
--- not finite, a root of what is below 0 or -0, a cut of what is not in 0..1023, a channel above 255, a place that is
--- not in the frame) it may give anything. Definitions only.
+-- The numbers of a pass, and all that it may do with them. Each pass is defined over an arithmetic A of this kind, so that
+-- its text says nothing of a number but its steps: `lit c1·0 ⊖ strength` is 1.0 - strength, `red c` is c.r, and clamp,
+-- round, root and cut are the number steps of document 01. In the product A is `plain`: binary32 with these steps.
+--
+-- Why it is left open: to say what no pass does. `Agrees` asks an arithmetic to do as `plain` does wherever document 01
+-- defines a step and Rust's own does the same (docs/DIFFERENCES.md). Outside (a result that is not finite, a root of what
+-- is below 0 or -0, a cut of what is not in 0..1023, a channel above 255, a place that is not in the frame) it may give
+-- anything, and still every picture is the same (Inside.antt). Definitions only.
 use Prim.Native.Nat.{ℕ, _+_, _*_, _≤_, _<_}
 use mathlib.Core.Bool.{Bool, true, false}
 use mathlib.Core.List.{List}
@@ -18,8 +22,7 @@ use Rattle.num.specs.Steps.{clampOf, minOf, maxOf, absOf, cutOf, roundOf}
 use Rattle.num.specs.Within.{within, Signed}
 use Rattle.passes.specs.declared.pixel.Rgb as Declared
 
--- the numbers are a type of which nothing else is known, so a pass has no other way to make one, to test one, or to
--- leave it
+-- F is a type of which nothing else is known: a pass has no other way to make a number, to test one, or to leave it
 pub record Arith : Type 1 where
   pub F : Type 0
   -- a constant or a setting, and a whole number

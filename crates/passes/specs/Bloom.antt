@@ -21,9 +21,9 @@ module _ (A : Arith) where
   abbrev pub intensity : F → F → F
   intensity threshold brightness = clamp ((brightness ⊖ threshold) ⊘ (lit c255·0 ⊖ threshold)) (lit c0·0) (lit c1·0)
 
-  -- the bright part of a colour: none up to the threshold. Document 01 allows for the division 0 / 0 of a white word at
-  -- threshold 255: it is never reached, since no word has a luma above 255 (BloomInside, `luma-top`), so that at 255
-  -- none is bright
+  -- the bright part of a colour: none up to the threshold. Document 01 allows for a division by zero at threshold 255, if
+  -- rounding lifted white above it. It does not: no luma is above 255 (`luma-top` in Inside/Bloom.antt), so at 255 no
+  -- colour is bright, and the divisor is 1 or more wherever it is reached
   unfoldable pub bright : F → Rgb → Rgb
   bright threshold c =
       let brightness = luma709 A c in

@@ -1,8 +1,9 @@
 -- Bloom, of a threshold t up to 255 and a radius up to 64. A word is bright only if its luma is above t, and no luma is
--- above that of white, which is 255.0 exactly (the three products and two sums of its luma, and rounding keeps the
--- order). So at t = 255 no word is bright, and the division 0 / 0 that document 01 allows for is never reached; for t
--- up to 254 the divisor 255 - t is at least 1. A bright channel is in 0..255, blurred along rows in -32895..32895,
--- along columns in -4243455..4243455, laid over in -4243710..4243710: finite, then limited to 0..255. Assumes nothing.
+-- above that of white, which is 255.0 exactly (three products and two sums, and rounding keeps the order). So at t = 255
+-- no word is bright, and the division by zero that document 01 allows for, if rounding lifted white above 255, is never
+-- reached; for t up to 254 the divisor 255 - t is at least 1. A bright channel is in 0..255, blurred along rows in
+-- -32895..32895, along columns in -4243455..4243455, laid over in -4243710..4243710: finite, then limited to 0..255.
+-- Assumes nothing.
 use mathlib.Core.Path.{_≡_, refl, subst}
 use mathlib.Core.List.{List}
 use Prim.Native.Nat.{ℕ, _+_, _*_, _/_, _%_, _≤_, _<_}
@@ -34,9 +35,15 @@ use Rattle.passes.specs.Rows.{Frame, placed-ext}
 abbrev luma : ℕ → Float
 luma p = luma709 plain (unpack plain p)
 
-pub luma-top : (p : ℕ) → Upto c255·0 (luma p)
+-- white is not lifted above 255
+white-luma : luma 0xffffff ≡ c255·0
 unfolding luma709 unpack ofBits ofInt add mul
-luma-top p =
+white-luma = refl
+
+-- rounding keeps the order, so no word has a luma above that of white
+below-white : (p : ℕ) → Upto (luma 0xffffff) (luma p)
+unfolding luma709 unpack ofBits ofInt add mul
+below-white p =
     let r = p / 65536 % 256 in
     let g = p / 256 % 256 in
     let b = p % 256 in
@@ -46,6 +53,9 @@ luma-top p =
     (times-upto c0·2126 (whole 255) c0·2126 (whole r) tt (lit≤ tt) (whole-upto 255 r (omega arith) (lit≤ tt)))
     (times-upto c0·7152 (whole 255) c0·7152 (whole g) tt (lit≤ tt) (whole-upto 255 g (omega arith) (lit≤ tt))))
     (times-upto c0·0722 (whole 255) c0·0722 (whole b) tt (lit≤ tt) (whole-upto 255 b (omega arith) (lit≤ tt)))
+
+pub luma-top : (p : ℕ) → Upto c255·0 (luma p)
+luma-top p = subst (λ (z : Float). Upto z (luma p)) white-luma (below-white p)
 
 -- so at threshold 255 no word is bright
 none-bright : (p t : ℕ) → le (luma p) (whole t) ≡ false → t ≤ 255 → t < 255
