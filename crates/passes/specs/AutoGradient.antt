@@ -1,5 +1,5 @@
--- Gradient: a warm and cool gradient by rows and a light centre by columns, weaker in a bright scene. A is the
--- arithmetic (Arith.antt). Definitions only.
+-- Gradient: a warm and cool gradient by rows and a light centre by columns, weaker in a bright scene.
+-- A is the arithmetic (Arith.antt): binary32 in the product. Definitions only.
 use Prim.Native.Nat.{ℕ}
 use mathlib.Core.List.{List}
 use lib.ListN.{length}

@@ -1,5 +1,5 @@
--- Bloom: what is bright in the frame, blurred along rows and then along columns, is laid over it. A is the arithmetic
--- (Arith.antt). Definitions only.
+-- Bloom: what is bright in the frame, blurred along rows and then along columns, is laid over it.
+-- A is the arithmetic (Arith.antt): binary32 in the product. Definitions only.
 use Prim.Native.Nat.{ℕ}
 use mathlib.Core.Bool.{cond}
 use mathlib.Core.List.{List}

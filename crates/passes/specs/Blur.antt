@@ -1,6 +1,6 @@
 -- The centre-weighted blur of NTSC and bloom along a line of n samples, in the order of the Rust's steps. The offsets
--- -radius .. radius are numbered k = 0 .. 2 * radius: offset k of the sample x is the sample x + k - radius. A is the
--- arithmetic (Arith.antt). Definitions only.
+-- -radius .. radius are numbered k = 0 .. 2 * radius: offset k of the sample x is the sample x + k - radius.
+-- A is the arithmetic (Arith.antt): binary32 in the product. Definitions only.
 use mathlib.Core.Bool.{Bool, true, false, _&&_, cond}
 use Prim.Native.Nat.{ℕ, zero, suc, _+_, _-_, _*_}
 use lib.Dec.{leb, ltb}

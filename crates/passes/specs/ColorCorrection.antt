@@ -1,5 +1,5 @@
--- Colour correction at gamma 1.0, where the original's power gives back its operand. Channels run from 0 to 1. A is the
--- arithmetic (Arith.antt). Definitions only.
+-- Colour correction at gamma 1.0, where the original's power gives back its operand. Channels run from 0 to 1.
+-- A is the arithmetic (Arith.antt): binary32 in the product. Definitions only.
 use Prim.Native.Nat.{ℕ}
 use mathlib.Core.List.{List}
 use Rattle.num.specs.Const.{c0·5}

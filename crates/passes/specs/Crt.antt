@@ -1,5 +1,6 @@
 -- CRT: a beam three rows high, a phosphor three columns wide, and a fall towards the edge. Its middle is that of the
--- places 0 to n - 1. A is the arithmetic (Arith.antt). Definitions only.
+-- places 0 to n - 1.
+-- A is the arithmetic (Arith.antt): binary32 in the product. Definitions only.
 use Prim.Native.Nat.{ℕ, zero, suc, _-_, _%_}
 use mathlib.Core.List.{List}
 use Rattle.num.specs.Const.{c0·0, c0·035, c0·12, c0·5, c1·0}

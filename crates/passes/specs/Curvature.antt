@@ -1,5 +1,5 @@
--- Curvature: each word is read from a copy of the frame, at a place bent outwards; 0 where that place is outside. A is
--- the arithmetic (Arith.antt). Definitions only.
+-- Curvature: each word is read from a copy of the frame, at a place bent outwards; 0 where that place is outside.
+-- A is the arithmetic (Arith.antt): binary32 in the product. Definitions only.
 use Prim.Native.Nat.{ℕ, _-_}
 use mathlib.Core.Bool.{Bool, cond, _||_}
 use mathlib.Core.List.{List}

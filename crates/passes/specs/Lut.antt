@@ -1,5 +1,5 @@
--- LUT: the preset number decides among seven colour treatments, blended with the original. Channels run from 0 to 1. A
--- is the arithmetic (Arith.antt). Definitions only.
+-- LUT: the preset number decides among seven colour treatments, blended with the original. Channels run from 0 to 1.
+-- A is the arithmetic (Arith.antt): binary32 in the product. Definitions only.
 use Prim.Native.Nat.{ℕ, zero, suc}
 use mathlib.Core.List.{List}
 use Rattle.num.specs.Const.{c0·01, c0·015, c0·16, c0·35, c0·42, c0·5, c0·58, c0·72, c0·82, c0·88, c0·92, c0·94, c0·95}

@@ -1,5 +1,5 @@
--- NTSC: the frame's chroma is blurred along rows and blended with its own; the luma stays sharp. A is the arithmetic
--- (Arith.antt). Definitions only.
+-- NTSC: the frame's chroma is blurred along rows and blended with its own; the luma stays sharp.
+-- A is the arithmetic (Arith.antt): binary32 in the product. Definitions only.
 use Prim.Native.Nat.{ℕ, zero, suc}
 use mathlib.Core.List.{List}
 use Rattle.num.specs.Const.{c0·10001, c0·14713, c0·28886, c0·39465, c0·436, c0·51499, c0·58060, c0·615, c1·13983}

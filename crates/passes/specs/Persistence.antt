@@ -1,5 +1,5 @@
--- Persistence: each frame is mixed with the frames before it, which the history keeps as they came. A is the arithmetic
--- (Arith.antt). Definitions only.
+-- Persistence: each frame is mixed with the frames before it, which the history keeps as they came.
+-- A is the arithmetic (Arith.antt): binary32 in the product. Definitions only.
 use Prim.Native.Nat.{ℕ, zero, suc, _*_}
 use mathlib.Core.Bool.{cond}
 use mathlib.Core.List.{List, [], _++_}

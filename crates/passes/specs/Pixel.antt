@@ -1,5 +1,5 @@
--- A pixel word 0xRRGGBB and its three channels; the ways from channels back to a word. A is the arithmetic
--- (Arith.antt). Definitions only.
+-- A pixel word 0xRRGGBB and its three channels; the ways from channels back to a word.
+-- A is the arithmetic (Arith.antt): binary32 in the product. Definitions only.
 use Prim.Native.Nat.{ℕ, zero, suc, _/_, _%_}
 use Rattle.num.specs.Const.{c0·0, c0·0722, c0·114, c0·2126, c0·299, c0·587, c0·7152, c1·0, c255·0}
 use Rattle.passes.specs.Arith.{Arith}

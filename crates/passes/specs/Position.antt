@@ -1,5 +1,5 @@
--- Where a place lies along a side, as gradient and curvature have it. A is the arithmetic (Arith.antt). Definitions
--- only.
+-- Where a place lies along a side, as gradient and curvature have it.
+-- A is the arithmetic (Arith.antt): binary32 in the product. Definitions only.
 use Prim.Native.Nat.{ℕ, _-_, max}
 use Rattle.num.specs.Const.{c1·0, c2·0}
 use Rattle.passes.specs.Arith.{Arith}

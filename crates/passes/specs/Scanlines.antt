@@ -1,5 +1,5 @@
--- Scanlines: odd rows are dimmed, even rows stay as they are, top byte included. A is the arithmetic (Arith.antt).
--- Definitions only.
+-- Scanlines: odd rows are dimmed, even rows stay as they are, top byte included.
+-- A is the arithmetic (Arith.antt): binary32 in the product. Definitions only.
 use Prim.Native.Nat.{ℕ, zero, suc, _%_}
 use mathlib.Core.List.{List}
 use Rattle.num.specs.Const.{c1·0}

@@ -1,5 +1,5 @@
--- Vignette: each word is dimmed by its distance from the middle (width / 2, height / 2). A is the arithmetic
--- (Arith.antt). Definitions only.
+-- Vignette: each word is dimmed by its distance from the middle (width / 2, height / 2).
+-- A is the arithmetic (Arith.antt): binary32 in the product. Definitions only.
 use Prim.Native.Nat.{ℕ}
 use mathlib.Core.List.{List}
 use Rattle.num.specs.Const.{c1·0, c2·0}

@@ -1,8 +1,8 @@
 -- Bloom, of a threshold t up to 255 and a radius up to 64. A word is bright only if its luma is above t, and no luma is
--- above that of white, which is 255.0 exactly (three products and two sums, and rounding keeps the order). So at t = 255
--- no word is bright, and the division by zero that document 01 allows for, if rounding lifted white above 255, is never
--- reached; for t up to 254 the divisor 255 - t is at least 1. A bright channel is in 0..255, blurred along rows in
--- -32895..32895, along columns in -4243455..4243455, laid over in -4243710..4243710: finite, then limited to 0..255.
+-- above that of white, which is 255.0 exactly (three products and two sums, and rounding keeps the order). So at t =
+-- 255 no word is bright, and the division by zero that document 01 allows for, if rounding lifted white above 255, is
+-- never reached; for t up to 254 the divisor 255 - t is at least 1. A bright channel is in 0..255, blurred along rows
+-- in -32895..32895, along columns in -4243455..4243455, laid over in -4243710..4243710: finite, then limited to 0..255.
 -- Assumes nothing.
 use mathlib.Core.Path.{_≡_, refl, subst}
 use mathlib.Core.List.{List}
@@ -20,7 +20,7 @@ use Rattle.num.specs.Sized.{exact}
 use Rattle.num.specs.Upto.{Upto, times-upto, plus-upto, upto-le, whole-upto}
 use Rattle.num.specs.Within.{within}
 use Rattle.passes.specs.Arith.{Arith, Agrees, plain}
-use Rattle.passes.specs.Bloom as Text
+use Rattle.passes.specs.Bloom as Bloom
 use Rattle.passes.specs.Blur.{blurAt}
 use Rattle.passes.specs.Inside.Blur.{blur-in}
 use Rattle.passes.specs.Inside.Shared.{Tint, tint, loose, unpacked, scaled-in, channel-in, packed-three}
@@ -76,12 +76,12 @@ abbrev dark : (B : Arith) → B .Rgb
 dark B = B .rgb (B .lit c0·0) (B .lit c0·0) (B .lit c0·0)
 
 abbrev light : (B : Arith) → ℕ → ℕ → B .Rgb
-light B t p = scaled B (Text.intensity B (B .whole t) (luma709 B (unpack B p))) (unpack B p)
+light B t p = scaled B (Bloom.intensity B (B .whole t) (luma709 B (unpack B p))) (unpack B p)
 
 module _ {A : Arith} (G : Agrees A) where
   bright-in : (p t : ℕ) → t ≤ 255
-      → Tint G 255 (Text.bright A (A .whole t) (unpack A p)) (Text.bright plain (whole t) (unpack plain p))
-  unfolding Text.bright
+      → Tint G 255 (Bloom.bright A (A .whole t) (unpack A p)) (Bloom.bright plain (whole t) (unpack plain p))
+  unfolding Bloom.bright
   bright-in p t l =
       let y = luma709-in (loose (unpacked G p)) tt tt tt in
       let k : Plus G 255 (A .whole t) (whole t) = whole⁺ 255 t l (lit≤ tt) in
@@ -104,8 +104,9 @@ module _ {A : Arith} (G : Agrees A) where
 
   pub bloom-inside : (w h threshold : ℕ) (strength : Float) (radius : ℕ) (frame : List ℕ) → Frame w h frame
       → threshold ≤ 255 → T (within 1 strength) → radius ≤ 64
-      → Text.bloom A w h threshold (A .lit strength) radius frame ≡ Text.bloom plain w h threshold strength radius frame
-  unfolding Text.bloom Text.composite
+      → Bloom.bloom A w h threshold (A .lit strength) radius frame
+      ≡ Bloom.bloom plain w h threshold strength radius frame
+  unfolding Bloom.bloom Bloom.composite
   bloom-inside w h threshold strength radius frame f l s m =
       placed-ext w h frame _ _ (f .area) (λ x y p i j.
       let c = loose (unpacked G p) in
@@ -113,20 +114,20 @@ module _ {A : Arith} (G : Agrees A) where
       packed-three (glow (c .red) (v .red)) (glow (c .green) (v .green)) (glow (c .blue) (v .blue)))
     where
       across : (which x y : ℕ) → x < w → y < h
-          → Has G 32895 (Text.horizontal A w radius (A .whole threshold) frame which x y)
-          (Text.horizontal plain w radius (whole threshold) frame which x y)
+          → Has G 32895 (Bloom.horizontal A w radius (A .whole threshold) frame which x y)
+          (Bloom.horizontal plain w radius (whole threshold) frame which x y)
       across which x y i j =
-          blur-in G 255 w radius x (λ k. Text.sample A (A .whole threshold) frame w which k y)
-          (λ k. Text.sample plain (whole threshold) frame w which k y)
+          blur-in G 255 w radius x (λ k. Bloom.sample A (A .whole threshold) frame w which k y)
+          (λ k. Bloom.sample plain (whole threshold) frame w which k y)
           (lit≤ tt) m i
           (λ k n. rw (cell-same G f k y n j) (channel-in which (bright-in (getD frame (y * w + k) 0) threshold l)))
 
       blurred : (which x y : ℕ) → x < w → y < h
-          → Has G 4243455 (blurAt A (λ k. Text.horizontal A w radius (A .whole threshold) frame which x k) h radius y)
-          (blurAt plain (λ k. Text.horizontal plain w radius (whole threshold) frame which x k) h radius y)
+          → Has G 4243455 (blurAt A (λ k. Bloom.horizontal A w radius (A .whole threshold) frame which x k) h radius y)
+          (blurAt plain (λ k. Bloom.horizontal plain w radius (whole threshold) frame which x k) h radius y)
       blurred which x y i j =
-          blur-in G 32895 h radius y (λ k. Text.horizontal A w radius (A .whole threshold) frame which x k)
-          (λ k. Text.horizontal plain w radius (whole threshold) frame which x k) (lit≤ tt) m j
+          blur-in G 32895 h radius y (λ k. Bloom.horizontal A w radius (A .whole threshold) frame which x k)
+          (λ k. Bloom.horizontal plain w radius (whole threshold) frame which x k) (lit≤ tt) m j
           (λ k n. across which x k i n)
 
       glow : {a b : A .F} {x y : Float} → Has G 255 a x → Has G 4243455 b y

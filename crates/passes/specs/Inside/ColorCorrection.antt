@@ -11,7 +11,7 @@ use Rattle.num.specs.Const.{c0·5}
 use Rattle.num.specs.Rewrite.{rewrite-ext}
 use Rattle.num.specs.Within.{within}
 use Rattle.passes.specs.Arith.{Arith, Agrees, plain}
-use Rattle.passes.specs.ColorCorrection as Text
+use Rattle.passes.specs.ColorCorrection as ColorCorrection
 use Rattle.passes.specs.Inside.Shared.{Tint, tint, united, packed-unit, luma709-in}
 use Rattle.passes.specs.Pixel.{packUnit, luma709}
 use Rattle.passes.specs.Range.{sized, Has, Plus, signed, lit, lit⁺, plus, minus, times}
@@ -24,22 +24,24 @@ about B saturation y x = B ._⊕_ y (B ._⊗_ (B ._⊖_ x y) saturation)
 module _ {A : Arith} (G : Agrees A) where
   pub color-correction-inside : (brightness contrast saturation : Float) (frame : List ℕ)
       → T (sized 1 brightness) → T (within 4 contrast) → T (within 4 saturation)
-      → Text.colorCorrection A (A .lit brightness) (A .lit contrast) (A .lit saturation) frame
-      ≡ Text.colorCorrection plain brightness contrast saturation frame
-  unfolding Text.colorCorrection Text.pixel ofBits
+      → ColorCorrection.colorCorrection A (A .lit brightness) (A .lit contrast) (A .lit saturation) frame
+      ≡ ColorCorrection.colorCorrection plain brightness contrast saturation frame
+  unfolding ColorCorrection.colorCorrection ColorCorrection.pixel ofBits
   color-correction-inside brightness contrast saturation frame b c s =
       rewrite-ext (length frame) _ _ frame (λ i p l.
       let u = united G p in
       saturated (tint (level (u .red)) (level (u .green)) (level (u .blue))))
     where
       level : {a : A .F} {x : Float} → Plus G 255 a x
-          → Has G 1029 (Text.level A (A .lit brightness) (A .lit contrast) a) (Text.level plain brightness contrast x)
+          → Has G 1029 (ColorCorrection.level A (A .lit brightness) (A .lit contrast) a)
+          (ColorCorrection.level plain brightness contrast x)
       level h =
           plus (times (minus (plus (signed h) (lit 1 brightness b) tt) (lit 1 c0·5 tt) tt)
           (signed (lit⁺ 4 contrast c)) tt) (lit 1 c0·5 tt) tt
 
       saturated : {c : A .Rgb} {d : Rgb} → Tint G 1029 c d
-          → packUnit A (Text.saturate A (A .lit saturation) c) ≡ packUnit plain (Text.saturate plain saturation d)
+          → packUnit A (ColorCorrection.saturate A (A .lit saturation) c)
+          ≡ packUnit plain (ColorCorrection.saturate plain saturation d)
       saturated {c} {d} h = packed-unit (tint (part (h .red)) (part (h .green)) (part (h .blue)))
         where
           part : {a : A .F} {x : Float} → Has G 1029 a x

@@ -11,7 +11,7 @@ use lib.Ieee.{Float, ofBits}
 use Rattle.num.specs.Const.{c0·035, c0·12, c0·5, c1·0}
 use Rattle.num.specs.Within.{within}
 use Rattle.passes.specs.Arith.{Arith, Agrees, plain}
-use Rattle.passes.specs.Crt as Text
+use Rattle.passes.specs.Crt as Crt
 use Rattle.passes.specs.Inside.Shared.{Tint⁺, tint⁺, unpacked, scaled-in, packed-nearest}
 use Rattle.passes.specs.Range.{Has, Plus, signed, lit⁺, whole⁺, minus, times, plus⁺, times⁺, over⁺, square⁺}
 use Rattle.passes.specs.Range.{most-one, one⁺, one-less, clamp-one}
@@ -23,16 +23,16 @@ abbrev dim : (B : Arith) → B .F → B .F
 dim B strength = B ._⊖_ (B .lit c1·0) (B ._⊗_ (B .lit c0·035) strength)
 
 module _ {A : Arith} (G : Agrees A) where
-  offset-in : (n k : ℕ) → n ≤ 1024 → k < n → Has G 2048 (Text.offset A n k) (Text.offset plain n k)
-  unfolding Text.offset within ofBits
+  offset-in : (n k : ℕ) → n ≤ 1024 → k < n → Has G 2048 (Crt.offset A n k) (Crt.offset plain n k)
+  unfolding Crt.offset within ofBits
   offset-in n k l m =
       let c = times⁺ (whole⁺ 1024 (n - 1) (omega arith) (lit≤ tt)) (lit⁺ 1 c0·5 tt) tt in
       times (minus (signed (whole⁺ 1024 k (omega arith) (lit≤ tt))) (signed c) tt)
       (signed (over⁺ one⁺ (most-one (signed c)) tt)) tt
 
   pub crt-inside : (w h : ℕ) (strength : Float) (frame : List ℕ) → Frame w h frame → T (within 1 strength)
-      → Text.crt A w h (A .lit strength) frame ≡ Text.crt plain w h strength frame
-  unfolding Text.crt Text.beam Text.phosphor Text.edge Text.shade within ofBits
+      → Crt.crt A w h (A .lit strength) frame ≡ Crt.crt plain w h strength frame
+  unfolding Crt.crt Crt.beam Crt.phosphor Crt.edge Crt.shade within ofBits
   crt-inside w h strength frame f s =
       placed-ext w h frame _ _ (f .area) (λ x y p l m.
       let factor = times⁺ (beam (y % 3)) (edge (offset-in w x (f .wide) l) (offset-in h y (f .high) m)) tt in
@@ -41,13 +41,13 @@ module _ {A : Arith} (G : Agrees A) where
       st : Plus G 1 (A .lit strength) strength
       st = lit⁺ 1 strength s
 
-      beam : (n : ℕ) → Plus G 1 (Text.beam A n (A .lit strength)) (Text.beam plain n strength)
+      beam : (n : ℕ) → Plus G 1 (Crt.beam A n (A .lit strength)) (Crt.beam plain n strength)
       beam zero = one-less (times⁺ (lit⁺ 1 c0·12 tt) st tt)
       beam (suc zero) = one⁺
       beam (suc (suc n)) = one-less (times⁺ (lit⁺ 1 c0·12 tt) st tt)
 
       edge : {a b : A .F} {x y : Float} → Has G 2048 a x → Has G 2048 b y
-          → Plus G 1 (Text.edge A (A .lit strength) a b) (Text.edge plain strength x y)
+          → Plus G 1 (Crt.edge A (A .lit strength) a b) (Crt.edge plain strength x y)
       edge h g =
           clamp-one (minus (signed one⁺)
           (signed (times⁺ (times⁺ st (lit⁺ 1 c0·12 tt) tt) (plus⁺ (square⁺ h tt) (square⁺ g tt) tt) tt)) tt)
@@ -56,7 +56,7 @@ module _ {A : Arith} (G : Agrees A) where
       dim-in = one-less (times⁺ (lit⁺ 1 c0·035 tt) st tt)
 
       tinted : (n : ℕ) {c : A .Rgb} {d : Rgb} → Tint⁺ G 255 c d
-          → Tint⁺ G 255 (Text.phosphor A n (dim A (A .lit strength)) c) (Text.phosphor plain n (dim plain strength) d)
+          → Tint⁺ G 255 (Crt.phosphor A n (dim A (A .lit strength)) c) (Crt.phosphor plain n (dim plain strength) d)
       tinted zero h = tint⁺ (h .red) (times⁺ (h .green) dim-in tt) (times⁺ (h .blue) dim-in tt)
       tinted (suc zero) h = tint⁺ (times⁺ (h .red) dim-in tt) (h .green) (times⁺ (h .blue) dim-in tt)
       tinted (suc (suc n)) h = tint⁺ (times⁺ (h .red) dim-in tt) (times⁺ (h .green) dim-in tt) (h .blue)

@@ -18,26 +18,26 @@ use Rattle.num.specs.Sized.{sized-number}
 use Rattle.num.specs.Steps.{roundOf}
 use Rattle.num.specs.Within.{within}
 use Rattle.passes.specs.Arith.{Arith, Agrees, plain}
-use Rattle.passes.specs.Curvature as Text
+use Rattle.passes.specs.Curvature as Curvature
 use Rattle.passes.specs.Inside.Shared.{neither, position-in}
 use Rattle.passes.specs.Range.{Has, signed, lit, lit⁺, whole⁺, plus, times, negated, round, one⁺}
 use Rattle.passes.specs.Rows.{Frame, placed-ext, row-ends}
 
-index-there : (n : ℕ) (x : Float) → 0 < n → n ≤ 1024 → Text.outside plain x ≡ false → indexOf n x < n
-unfolding Text.outside
+index-there : (n : ℕ) (x : Float) → 0 < n → n ≤ 1024 → Curvature.outside plain x ≡ false → indexOf n x < n
+unfolding Curvature.outside
 index-there n x p l e = let o = neither (lt x (neg c1·0)) (lt c1·0 x) e in index-lt n x p l (o .0) (o .1)
 
 module _ {A : Arith} (G : Agrees A) where
-  outside-same : {n : ℕ} {a : A .F} {x : Float} → Has G n a x → Text.outside A a ≡ Text.outside plain x
-  unfolding Text.outside
+  outside-same : {n : ℕ} {a : A .F} {x : Float} → Has G n a x → Curvature.outside A a ≡ Curvature.outside plain x
+  unfolding Curvature.outside
   outside-same {n} {a} {x} h =
       let one = signed {G = G} one⁺ in
       rw (G .below (h .is) (negated one .is), G .below (one .is) (h .is))
 
   -- the row or column of a coordinate that is not outside
-  index-in : (n : ℕ) {a : A .F} {x : Float} → n ≤ 1024 → Has G 57 a x → Text.outside plain x ≡ false
-      → Text.indexOf A n a ≡ indexOf n x
-  unfolding Text.outside ofBits
+  index-in : (n : ℕ) {a : A .F} {x : Float} → n ≤ 1024 → Has G 57 a x → Curvature.outside plain x ≡ false
+      → Curvature.indexOf A n a ≡ indexOf n x
+  unfolding Curvature.outside ofBits
   index-in n {a} {x} l h e =
       let y =
       times (times (plus h (signed one⁺) tt) (lit 1 c0·5 tt) tt)
@@ -50,13 +50,13 @@ module _ {A : Arith} (G : Agrees A) where
 
   sample-same : (w h : ℕ) (frame : List ℕ) {a b : A .F} {x y : Float} → 0 < w → 0 < h → Frame w h frame → Has G 57 a x
       → Has G 57 b y
-      → Text.sample A w h frame a b ≡ Text.sample plain w h frame x y
-  unfolding Text.sample
+      → Curvature.sample A w h frame a b ≡ Curvature.sample plain w h frame x y
+  unfolding Curvature.sample
   sample-same w h frame {a} {b} {x} {y} W H f p q =
-      rw (outside-same p, outside-same q) (go (Text.outside plain x) (Text.outside plain y) refl refl)
+      rw (outside-same p, outside-same q) (go (Curvature.outside plain x) (Curvature.outside plain y) refl refl)
     where
-      go : (u v : Bool) → Text.outside plain x ≡ u → Text.outside plain y ≡ v
-          → cond (u || v) 0 (A .cell w frame (Text.indexOf A w a) (Text.indexOf A h b))
+      go : (u v : Bool) → Curvature.outside plain x ≡ u → Curvature.outside plain y ≡ v
+          → cond (u || v) 0 (A .cell w frame (Curvature.indexOf A w a) (Curvature.indexOf A h b))
           ≡ cond (u || v) 0 (getD frame (indexOf h y * w + indexOf w x) 0)
       go true v e d = refl
       go false true e d = refl
@@ -68,8 +68,8 @@ module _ {A : Arith} (G : Agrees A) where
           (G .cell w frame (indexOf w x) (indexOf h y) column (omega arith))
 
   pub curvature-inside : (w h : ℕ) (amount : Float) (frame : List ℕ) → Frame w h frame → T (within 1 amount)
-      → Text.curvature A w h (A .lit amount) frame ≡ Text.curvature plain w h amount frame
-  unfolding Text.curvature Text.bend
+      → Curvature.curvature A w h (A .lit amount) frame ≡ Curvature.curvature plain w h amount frame
+  unfolding Curvature.curvature Curvature.bend
   curvature-inside w h amount frame f s =
       placed-ext w h frame _ _ (f .area) (λ x y p l m.
       let nx = position-in G w x (f .wide) l in

@@ -13,15 +13,15 @@ use Rattle.passes.specs.Arith.{Arith, Agrees, plain}
 use Rattle.passes.specs.Blur.{blurAt}
 use Rattle.passes.specs.Inside.Blur.{blur-in}
 use Rattle.passes.specs.Inside.Shared.{Tint, loose, unpacked, packed-three, luma601-in, cell-same}
-use Rattle.passes.specs.Ntsc as Text
+use Rattle.passes.specs.Ntsc as Ntsc
 use Rattle.passes.specs.Range.{Has, signed, lit, lit⁺, plus, minus, times, negated}
 use Rattle.passes.specs.Rows.{Frame, placed-ext}
 use Rattle.passes.specs.declared.pixel.Rgb.{Rgb}
 
 module _ {A : Arith} (G : Agrees A) where
   chroma-in : (which : ℕ) {c : A .Rgb} {d : Rgb} → Tint G 255 c d
-      → Has G 765 (Text.chroma A which c) (Text.chroma plain which d)
-  unfolding Text.chroma ofBits
+      → Has G 765 (Ntsc.chroma A which c) (Ntsc.chroma plain which d)
+  unfolding Ntsc.chroma ofBits
   chroma-in zero h =
       plus (minus (times (negated (lit 1 c0·14713 tt)) (h .red) tt) (times (lit 1 c0·28886 tt) (h .green) tt) tt)
       (times (lit 1 c0·436 tt) (h .blue) tt) tt
@@ -31,8 +31,8 @@ module _ {A : Arith} (G : Agrees A) where
 
   pub ntsc-inside : (w h : ℕ) (strength : Float) (bleed : ℕ) (frame : List ℕ) → Frame w h frame → T (within 1 strength)
       → bleed ≤ 64
-      → Text.ntsc A w (A .lit strength) bleed frame ≡ Text.ntsc plain w strength bleed frame
-  unfolding Text.ntsc Text.pixel ofBits
+      → Ntsc.ntsc A w (A .lit strength) bleed frame ≡ Ntsc.ntsc plain w strength bleed frame
+  unfolding Ntsc.ntsc Ntsc.pixel ofBits
   ntsc-inside w h strength bleed frame f s l =
       placed-ext w h frame _ _ (f .area) (λ x y p i j.
       let c = unpacked G p in
@@ -44,13 +44,13 @@ module _ {A : Arith} (G : Agrees A) where
       (plus luma (times (lit 3 c2·03211 tt) u tt) tt))
     where
       blurred : (which x y : ℕ) → x < w → y < h
-          → Has G 98685 (blurAt A (λ i. Text.sample A which frame w i y) w bleed x)
-          (blurAt plain (λ i. Text.sample plain which frame w i y) w bleed x)
+          → Has G 98685 (blurAt A (λ i. Ntsc.sample A which frame w i y) w bleed x)
+          (blurAt plain (λ i. Ntsc.sample plain which frame w i y) w bleed x)
       blurred which x y i j =
-          blur-in G 765 w bleed x (λ k. Text.sample A which frame w k y) (λ k. Text.sample plain which frame w k y)
+          blur-in G 765 w bleed x (λ k. Ntsc.sample A which frame w k y) (λ k. Ntsc.sample plain which frame w k y)
           (lit≤ tt) l i
           (λ k m. rw (cell-same G f k y m j) (chroma-in which (loose (unpacked G (getD frame (y * w + k) 0)))))
 
       blend : {a b : A .F} {x y : Float} → Has G 765 a x → Has G 98685 b y
-          → Has G 100215 (Text.blend A (A .lit strength) a b) (Text.blend plain strength x y)
+          → Has G 100215 (Ntsc.blend A (A .lit strength) a b) (Ntsc.blend plain strength x y)
       blend a b = plus a (times (minus b a tt) (signed (lit⁺ 1 strength s)) tt) tt

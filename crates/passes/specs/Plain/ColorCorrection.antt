@@ -4,13 +4,9 @@ use mathlib.Core.List.{List}
 use lib.Ieee.{Float}
 use Rattle.passes.specs as Text
 use Rattle.passes.specs.Arith.{plain}
-use Rattle.passes.specs.declared.pixel.Rgb.{Rgb}
 
 abbrev pub level : Float → Float → Float → Float
 level = Text.ColorCorrection.level plain
-
-abbrev pub saturate : Float → Rgb → Rgb
-saturate = Text.ColorCorrection.saturate plain
 
 abbrev pub pixel : Float → Float → Float → ℕ → ℕ
 pixel = Text.ColorCorrection.pixel plain

@@ -9,9 +9,6 @@ use Rattle.passes.specs.Arith.{plain}
 abbrev pub outside : Float → Bool
 outside = Text.Curvature.outside plain
 
-abbrev pub indexOf : ℕ → Float → ℕ
-indexOf = Text.Curvature.indexOf plain
-
 abbrev pub sample : ℕ → ℕ → List ℕ → Float → Float → ℕ
 sample = Text.Curvature.sample plain
 

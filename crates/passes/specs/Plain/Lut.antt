@@ -6,24 +6,6 @@ use Rattle.passes.specs as Text
 use Rattle.passes.specs.Arith.{plain}
 use Rattle.passes.specs.declared.pixel.Rgb.{Rgb}
 
-abbrev pub warmCrt : Rgb → Rgb
-warmCrt = Text.Lut.warmCrt plain
-
-abbrev pub coolCrt : Rgb → Rgb
-coolCrt = Text.Lut.coolCrt plain
-
-abbrev pub composite : Rgb → Rgb
-composite = Text.Lut.composite plain
-
-abbrev pub gameBoy : Rgb → Rgb
-gameBoy = Text.Lut.gameBoy plain
-
-abbrev pub amber : Rgb → Rgb
-amber = Text.Lut.amber plain
-
-abbrev pub highContrast : Rgb → Rgb
-highContrast = Text.Lut.highContrast plain
-
 abbrev pub transform : ℕ → Rgb → Rgb
 transform = Text.Lut.transform plain
 

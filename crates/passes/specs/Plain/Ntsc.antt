@@ -12,12 +12,6 @@ chroma = Text.Ntsc.chroma plain
 abbrev pub sample : ℕ → List ℕ → ℕ → ℕ → ℕ → Float
 sample = Text.Ntsc.sample plain
 
-abbrev pub blend : Float → Float → Float → Float
-blend = Text.Ntsc.blend plain
-
-abbrev pub colour : Float → Float → Float → Rgb
-colour = Text.Ntsc.colour plain
-
 abbrev pub pixel : Float → Float → Float → ℕ → ℕ
 pixel = Text.Ntsc.pixel plain
 

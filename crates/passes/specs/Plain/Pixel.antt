@@ -8,9 +8,6 @@ use Rattle.passes.specs.declared.pixel.Rgb.{Rgb}
 abbrev pub rgb : Float → Float → Float → Rgb
 rgb x y z = record { r = x; g = y; b = z }
 
-abbrev pub channels : (Float → Float) → Rgb → Rgb
-channels = Text.Pixel.channels plain
-
 abbrev pub scaled : Float → Rgb → Rgb
 scaled = Text.Pixel.scaled plain
 
