@@ -55,9 +55,10 @@ pub record Arith : Type 1 where
   pub word : ℕ → ℕ → ℕ → ℕ
   pub cell : ℕ → List ℕ → ℕ → ℕ → ℕ
 
--- the product's: binary32 and the number steps of document 01, and the Rust struct of three channels
-abbrev pub plain : Arith
-plain =
+-- binary32, the number steps of document 01 and the code's struct of three channels; `cut` is how a number is left, and
+-- `word` how channels are joined
+abbrev pub leaving : (cut : Float → ℕ) (word : ℕ → ℕ → ℕ → ℕ) → Arith
+leaving cut word =
     record {
       F = Float;
       lit = λ x. x;
@@ -73,7 +74,7 @@ plain =
       clamp = clampOf;
       round = roundOf;
       root = rootOf;
-      cut = cutOf;
+      cut = cut;
       Rgb = Declared.Rgb;
       rgb = λ x y z. record { r = x; g = y; b = z };
       red = λ c. c .r;
@@ -81,9 +82,13 @@ plain =
       blue = λ c. c .b;
       below = lt;
       atMost = le;
-      word = λ r g b. r * 65536 + g * 256 + b;
+      word = word;
       cell = λ w frame x y. getD frame (y * w + x) 0;
     }
+
+-- the product's
+abbrev pub plain : Arith
+plain = leaving cutOf (λ r g b. r * 65536 + g * 256 + b)
 
 -- `same a x`: the number a of the arithmetic stands for the finite binary32 value x. Each law says where the arithmetic
 -- has to do as the number step does.

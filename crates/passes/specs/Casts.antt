@@ -20,13 +20,8 @@ use Rattle.num.specs.Root.{rootOf}
 use Rattle.num.specs.Steps.{clampOf, minOf, maxOf, absOf, cutOf, roundOf}
 use Rattle.num.specs.Within.{within, Signed, size-le}
 use Rattle.num.specs.Bounds.{int-within}
-use Rattle.passes.specs.Arith.{Arith, Agrees}
+use Rattle.passes.specs.Arith.{Arith, Agrees, leaving}
 use Rattle.num.specs.Sized.{sized-finite, within-sized}
-
-pub record Colour (F : Type 0) : Type 0 where
-  pub r : F
-  pub g : F
-  pub b : F
 
 -- ---- what is finite stays finite
 
@@ -69,33 +64,7 @@ abbrev pub joined : ℕ → ℕ → ℕ → ℕ
 joined r g b = bitOr (bitOr (r * 65536 % 4294967296) (g * 256 % 4294967296)) b
 
 abbrev pub casts : Arith
-casts =
-    record {
-      F = Float;
-      lit = λ x. x;
-      whole = λ n. F32.whole n;
-      _⊕_ = λ x y. F32._⊕_ x y;
-      _⊖_ = λ x y. F32._⊖_ x y;
-      _⊗_ = λ x y. F32._⊗_ x y;
-      _⊘_ = λ x y. F32._⊘_ x y;
-      neg = Ieee.neg;
-      abs = absOf;
-      least = minOf;
-      most = maxOf;
-      clamp = clampOf;
-      round = roundOf;
-      root = rootOf;
-      cut = toUnsigned 32;
-      Rgb = Colour Float;
-      rgb = λ x y z. record { r = x; g = y; b = z };
-      red = λ c. c .r;
-      green = λ c. c .g;
-      blue = λ c. c .b;
-      below = lt;
-      atMost = le;
-      word = joined;
-      cell = λ w frame x y. getD frame (y * w + x) 0;
-    }
+casts = leaving (toUnsigned 32) joined
 
 cast-same : (x : Float) → T (within 1023 x) → toUnsigned 32 x ≡ cutOf x
 unfolding within toUnsigned cutOf
@@ -158,6 +127,12 @@ pub data Checked : Type 0 where
   value : Float → Checked
   outside : Checked
 
+-- three channels
+pub record Colour : Type 0 where
+  pub r : Checked
+  pub g : Checked
+  pub b : Checked
+
 -- a value that is finite, where a test passes
 abbrev pub keep : Bool → Float → Checked
 keep true x = value x
@@ -215,7 +190,7 @@ checked =
       round = one (λ x. true) roundOf;
       root = one plusSign rootOf;
       cut = cutChecked;
-      Rgb = Colour Checked;
+      Rgb = Colour;
       rgb = λ x y z. record { r = x; g = y; b = z };
       red = λ c. c .r;
       green = λ c. c .g;
