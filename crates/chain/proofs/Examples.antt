@@ -18,9 +18,9 @@ use Rattle.passes.specs.Plain.Persistence as Persistence
 use Rattle.chain.specs.Agree.{opened, SameCall, frames, none, more, before, point}
 use Rattle.chain.specs.Bits.{valueAt, fieldAt}
 use Rattle.chain.specs.Calls.{badSide, stops, lacks, Report, refusal, acceptance, unless, onFirst, presets}
-use Rattle.chain.specs.Calls.{unlessFramed, shown, frameReply}
+use Rattle.chain.specs.Calls.{unlessFramed, shownBy, frameReplyBy}
 use Rattle.chain.specs.Card.{stationOf, headerAt, recordsAt, endsAt, endAt, stationAt, accepted, openOf}
-use Rattle.chain.specs.Chain.{wash, over, turn, depth}
+use Rattle.chain.specs.Chain.{wash, overBy, turnBy, depth}
 use Rattle.chain.specs.Machine.{Call, frame, reset, switch, step, State, Seen, call, after, run, saw}
 use Rattle.chain.specs.Normal.{settled, normalPass, normalChain, persists, goodStation}
 use Rattle.chain.specs.Passes.{passAt, persistenceAt, lutAt}
@@ -114,8 +114,8 @@ points =
     ∷ []
 
 pub runs-hold : Hold shows × Hold reports × Hold points
-unfolding point before saw run after call frameReply unlessFramed shown unless stops lacks goodStation fineHeld sameHeld
-    badSide settled normalPass normalChain persists depth fold turn over wash onFirst presets ofBits ofInt add mul div
+unfolding point before saw run after call frameReplyBy unlessFramed shownBy unless stops lacks goodStation fineHeld sameHeld
+    badSide settled normalPass normalChain persists depth fold turnBy overBy wash onFirst presets ofBits ofInt add mul div
     lt clampOf cutOf rewrite Text.Pixel.unpack Text.Pixel.pack Text.Pixel.packLimited Text.Persistence.persistence
     Text.Persistence.decay Text.Persistence.total Text.Persistence.add Text.Persistence.mix Text.Persistence.pixel
     Text.Persistence.blended Text.Persistence.blend Persistence.copies Persistence.refilled Persistence.shifted
@@ -127,8 +127,8 @@ same : (p : ℕ) → SameCall (one 7 p) (one 8 p)
 same p = frames refl (λ fits. refl)
 
 pub agree : drop 2 (saw old (shared 7)) ≡ drop 2 (saw new (shared 8))
-unfolding point before saw run after call frameReply unlessFramed shown unless stops lacks goodStation fineHeld sameHeld
-    badSide settled normalPass normalChain persists depth fold turn over wash onFirst presets ofBits ofInt add mul div
+unfolding point before saw run after call frameReplyBy unlessFramed shownBy unless stops lacks goodStation fineHeld sameHeld
+    badSide settled normalPass normalChain persists depth fold turnBy overBy wash onFirst presets ofBits ofInt add mul div
     lt clampOf cutOf rewrite Text.Pixel.unpack Text.Pixel.pack Text.Pixel.packLimited Text.Persistence.persistence
     Text.Persistence.decay Text.Persistence.total Text.Persistence.add Text.Persistence.mix Text.Persistence.pixel
     Text.Persistence.blended Text.Persistence.blend Persistence.copies Persistence.refilled Persistence.shifted

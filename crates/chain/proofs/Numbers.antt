@@ -26,10 +26,10 @@ use Rattle.passes.specs.Lengths.{history-length}
 use Rattle.passes.specs.Range as Range
 use Rattle.passes.specs.Rows.{Frame}
 use Rattle.chain.specs.Alike.{chainOf}
-use Rattle.chain.specs.Calls.{framed, acceptance, hold, incoming, stops, unlessFramed, shown, frameReply}
-use Rattle.chain.specs.Chain.{wash, over, turn, chain, depthOf, depth}
+use Rattle.chain.specs.Calls.{framed, acceptance, hold, incoming, stops, unlessFramed, shown, shownBy, frameReply, frameReplyBy}
+use Rattle.chain.specs.Chain.{wash, over, overBy, turn, turnBy, chain, depthOf, depth}
 use Rattle.chain.specs.Normal.{negZero, settled, counted, normalPass, normalChain}
-use Rattle.chain.specs.Numbers.{overBy, turnBy, shownBy, frameReplyBy, Pass-inside, Numbers-inside, Casts-inside}
+use Rattle.chain.specs.Numbers.{Pass-inside, Numbers-inside, Casts-inside}
 use Rattle.chain.specs.Numbers.{Checked-inside}
 use Rattle.chain.specs.Passes.{kindOf}
 use Rattle.chain.specs.Typed.{Typed, TypedChain}
@@ -113,7 +113,7 @@ counted-most n k e = leb-true k n (both (leb 1 k) (leb k n) e .1)
 
 module _ (A : Arith) (G : Agrees A) where
   pub pass-inside : Pass-inside A
-  unfolding overBy over wash normalPass within ofBits
+  unfolding overBy wash normalPass within ofBits
   pass-inside w h (Ntsc strength bleed) x n t f room =
       let p = both (settled c0·0 c1·0 strength) (counted 64 bleed) n in
       ap (λ (l : List ℕ). flow l (x .held) (x .past))
@@ -164,7 +164,7 @@ module _ (A : Arith) (G : Agrees A) where
 
 -- a pass keeps the length of the frame, and that of the history
 over-frame : (w h : ℕ) (p : Pass) (x : Flow) → length (over w h p x .frame) ≡ length (x .frame)
-unfolding over wash
+unfolding overBy wash
 over-frame w h (Ntsc strength bleed) x = ntsc-length w h strength (x .frame) bleed
 over-frame w h (Bloom threshold strength radius) x = bloom-length w h strength (x .frame) threshold radius
 over-frame w h (AutoGradient strength vertical horizontal) x =
@@ -180,7 +180,7 @@ over-frame w h (Scanlines strength) x = scanlines-length w h strength (x .frame)
 
 over-past : (w h : ℕ) (p : Pass) (x : Flow) → depthOf p * length (x .frame) ≤ length (x .past)
     → length (over w h p x .past) ≡ length (x .past)
-unfolding over wash
+unfolding overBy wash
 over-past w h (Ntsc strength bleed) x room = refl
 over-past w h (Bloom threshold strength radius) x room = refl
 over-past w h (AutoGradient strength vertical horizontal) x room = refl
@@ -201,7 +201,7 @@ module _ (A : Arith) (G : Agrees A) (w h : ℕ) where
 
   turned : (x : Flow) (r : Record) → normalPass (r .pass) ≡ true → Typed (r .pass) → Frame w h (x .frame)
       → depthOf (r .pass) * length (x .frame) ≤ length (x .past) → Turned x r
-  unfolding turnBy turn
+  unfolding turnBy
   turned x r n t f room = go (r .on) refl
     where
       go : (b : Bool) → r .on ≡ b → Turned x r
@@ -231,7 +231,7 @@ module _ (A : Arith) (G : Agrees A) (w h : ℕ) where
 
   frame-inside-at : (s : Station) (words past : List ℕ) (floats ints : ℕ) → TypedChain (chainOf s)
       → frameReplyBy A w h s words past floats ints ≡ frameReply w h s words past floats ints
-  unfolding frameReplyBy frameReply unlessFramed shownBy shown
+  unfolding frameReplyBy unlessFramed shownBy
   frame-inside-at s words past floats ints t = go (stops s w h (length words) (length past) floats ints) refl
     where
       go : (k : ℕ) → stops s w h (length words) (length past) floats ints ≡ k

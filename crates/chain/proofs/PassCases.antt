@@ -24,7 +24,7 @@ use Rattle.passes.specs.Plain.Crt.{crt}
 use Rattle.passes.specs.Plain.Vignette.{vignette}
 use Rattle.passes.specs.Plain.Scanlines.{scanlines}
 use Rattle.chain.specs.Calls.{next, steppedPass, presetOf}
-use Rattle.chain.specs.Chain.{wash, over, depthOf}
+use Rattle.chain.specs.Chain.{wash, over, overBy, depthOf}
 use Rattle.chain.specs.Passes.{kindOf}
 use Rattle.chain.specs.declared.station.Pass.{Pass}
 use Rattle.chain.specs.declared.station.Pass.the-variants.{Ntsc, Bloom, AutoGradient, Persistence, Lut, Curvature}
@@ -41,7 +41,7 @@ pub record Plain (p : Pass) : Type 0 where
   pub no-depth : depthOf p ≡ 0
 
 pub by-memory : (P : Pass → Type 0) → ((amount : Float) (k : ℕ) → P (Persistence amount k)) → ((p : Pass) → Plain p → P p) → (p : Pass) → P p
-unfolding over
+unfolding overBy
 by-memory P f g (Ntsc s b) =
     g _ (record { paint = λ w h. ntsc w s b; keeps = λ w h l. ntsc-length w h s l b; whole = λ w h x. refl; kind = refl; no-depth = refl })
 by-memory P f g (Bloom t s r) =

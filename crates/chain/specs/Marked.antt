@@ -16,9 +16,9 @@ use Rattle.passes.specs.Plain.Persistence as Persistence
 use Rattle.chain.specs.Agree.{opened}
 use Rattle.chain.specs.Alike.{chainOf}
 use Rattle.chain.specs.Bits.{valueAt, fieldAt}
-use Rattle.chain.specs.Calls.{badSide, stops, unlessFramed, shown, frameReply}
+use Rattle.chain.specs.Calls.{badSide, stops, unlessFramed, shownBy, frameReplyBy}
 use Rattle.chain.specs.Card.{stationOf, headerAt, recordsAt, endsAt, endAt, stationAt, accepted, openOf}
-use Rattle.chain.specs.Chain.{wash, over, turn, chain, depth}
+use Rattle.chain.specs.Chain.{wash, overBy, turnBy, chain, depth}
 use Rattle.chain.specs.Machine.{frame, call, after, saw}
 use Rattle.chain.specs.Normal.{settled, normalPass, normalChain, persists, goodStation}
 use Rattle.chain.specs.Passes.{passAt, autoGradientAt, persistenceAt, curvatureAt, colorCorrectionAt, crtAt}
@@ -89,8 +89,8 @@ unfolding dec ofBits toBits ofInt add sub mul div neg lt le eq clampOf minOf max
     Text.ColorCorrection.colorCorrection Text.ColorCorrection.pixel openOf stationAt headerAt fieldAt valueAt refuseIf
     recordsAt endAt endsAt recordAt passAt autoGradientAt persistenceAt curvatureAt colorCorrectionAt crtAt vignetteAt
     scanlinesAt finiteAt limitedAt withinAt gainAt countAt cardOf chainCard packBytes valueOf chainBits recordsBits
-    recordBits passBits bits saw after call frameReply unlessFramed shown stops badSide goodStation normalChain
-    normalPass settled persists depth turn over wash
+    recordBits passBits bits saw after call frameReplyBy unlessFramed shownBy stops badSide goodStation normalChain
+    normalPass settled persists depth turnBy overBy wash
 marked =
     record {
       round-half = refl;
