@@ -14,8 +14,8 @@ use Rattle.num.specs.Const.{c0·0, c0·95}
 use Rattle.passes.specs.Flow.{sized, Flow}
 use Rattle.passes.specs.Fold.{fold}
 use Rattle.passes.specs.Lengths.{persistence-length, history-length, persistence-held}
-use Rattle.passes.specs.Persistence.{persistence}
-use Rattle.chain.specs.Chain.{wash, over, turn, chain, depthOf, depth}
+use Rattle.passes.specs.Plain.Persistence.{persistence}
+use Rattle.chain.specs.Chain.{wash, overBy, turnBy, chain, depthOf, depth}
 use Rattle.chain.specs.Normal.{settled, normalPass, normalChain, persists}
 use Rattle.chain.specs.Passes.{kindOf}
 use Rattle.chain.specs.Records.{kinds, among}
@@ -56,11 +56,11 @@ pub record Washes (rs : List Record) : Type 0 where
   pub whole : (w h : ℕ) (x : Flow) → chain w h rs x ≡ wash (paint w h) x
 
 unwashed : (r : Record) → r .on ≡ false → Washes (r ∷ [])
-unfolding fold turn wash
+unfolding fold turnBy wash
 unwashed r e = record { paint = λ w h frame. frame; keeps = λ w h frame. refl; whole = λ w h x. rw e }
 
 washed : (r : Record) → Plain (r .pass) → Washes (r ∷ [])
-unfolding fold turn
+unfolding fold turnBy
 washed r m = go (r .on) refl
   where
     go : (b : Bool) → r .on ≡ b → Washes (r ∷ [])
@@ -117,7 +117,7 @@ keeps-later r rs m s =
 
 keeps-now : (seen : List ℕ) (on : Bool) (amount : Float) (k : ℕ) (rs : List Record) → Headed seen (Persistence amount k) rs
     → on || persists rs ≡ true → Keeps (record { on = on; pass = Persistence amount k } ∷ rs)
-unfolding fold turn over wash depth normalPass
+unfolding fold turnBy overBy wash depth normalPass
 keeps-now seen true amount k rs q e =
     let rest = absent rs (no-second seen (Persistence amount k) rs q) in
     let a = washes rs (rest .0) in

@@ -11,15 +11,16 @@ use Rattle.num.specs.Cases.{Hold}
 use Rattle.num.specs.Const.{c0·5, c1·0}
 use Rattle.num.specs.Rewrite.{rewrite}
 use Rattle.num.specs.Steps.{clampOf, cutOf, plusZeroOf, limitOf}
+use Rattle.passes.specs as Text
 use Rattle.passes.specs.Flow.{sameHeld, fineHeld}
 use Rattle.passes.specs.Fold.{fold}
-use Rattle.passes.specs.Persistence as Persistence
-use Rattle.passes.specs.Pixel.{unpack, pack, packLimited}
+use Rattle.passes.specs.Plain.Persistence as Persistence
 use Rattle.chain.specs.Agree.{opened, SameCall, frames, none, more, before, point}
 use Rattle.chain.specs.Bits.{valueAt, fieldAt}
-use Rattle.chain.specs.Calls.{badSide, stops, lacks, Report, refusal, acceptance, unless, onFirst, presets, unlessFramed, shown, frameReply}
+use Rattle.chain.specs.Calls.{badSide, stops, lacks, Report, refusal, acceptance, unless, onFirst, presets}
+use Rattle.chain.specs.Calls.{unlessFramed, shownBy, frameReplyBy}
 use Rattle.chain.specs.Card.{stationOf, headerAt, recordsAt, endsAt, endAt, stationAt, accepted, openOf}
-use Rattle.chain.specs.Chain.{wash, over, turn, depth}
+use Rattle.chain.specs.Chain.{wash, overBy, turnBy, depth}
 use Rattle.chain.specs.Machine.{Call, frame, reset, switch, step, State, Seen, call, after, run, saw}
 use Rattle.chain.specs.Normal.{settled, normalPass, normalChain, persists, goodStation}
 use Rattle.chain.specs.Passes.{passAt, persistenceAt, lutAt}
@@ -43,13 +44,13 @@ abbrev station : Station
 station = stationOf (record { on = true; pass = Persistence c0·5 2 } ∷ record { on = false; pass = Lut 6 c1·0 } ∷ [])
 
 opens : openOf card ≡ accepted station
-unfolding openOf stationAt headerAt fieldAt valueAt refuseIf recordsAt endAt endsAt recordAt passAt persistenceAt lutAt presetAt countAt limitedAt finiteAt
-    ofBits lt eq limitOf plusZeroOf clampOf
+unfolding openOf stationAt headerAt fieldAt valueAt refuseIf recordsAt endAt endsAt recordAt passAt persistenceAt lutAt
+    presetAt countAt limitedAt finiteAt ofBits lt eq limitOf plusZeroOf clampOf
 opens = refl
 
 opens-other : openOf other ≡ accepted station
-unfolding openOf stationAt headerAt fieldAt valueAt refuseIf recordsAt endAt endsAt recordAt passAt persistenceAt lutAt presetAt countAt limitedAt finiteAt
-    ofBits lt eq limitOf plusZeroOf clampOf
+unfolding openOf stationAt headerAt fieldAt valueAt refuseIf recordsAt endAt endsAt recordAt passAt persistenceAt lutAt
+    presetAt countAt limitedAt finiteAt ofBits lt eq limitOf plusZeroOf clampOf
 opens-other = refl
 
 -- ## Runs
@@ -113,10 +114,11 @@ points =
     ∷ []
 
 pub runs-hold : Hold shows × Hold reports × Hold points
-unfolding point before saw run after call frameReply unlessFramed shown unless stops lacks goodStation fineHeld sameHeld badSide settled normalPass normalChain
-    persists depth fold turn over wash onFirst presets ofBits ofInt add mul div lt clampOf cutOf rewrite unpack pack packLimited
-    Persistence.persistence Persistence.decay Persistence.total Persistence.add Persistence.mix Persistence.pixel Persistence.blended Persistence.blend
-    Persistence.copies Persistence.refilled Persistence.shifted
+unfolding point before saw run after call frameReplyBy unlessFramed shownBy unless stops lacks goodStation fineHeld sameHeld
+    badSide settled normalPass normalChain persists depth fold turnBy overBy wash onFirst presets ofBits ofInt add mul div
+    lt clampOf cutOf rewrite Text.Pixel.unpack Text.Pixel.pack Text.Pixel.packLimited Text.Persistence.persistence
+    Text.Persistence.decay Text.Persistence.total Text.Persistence.add Text.Persistence.mix Text.Persistence.pixel
+    Text.Persistence.blended Text.Persistence.blend Persistence.copies Persistence.refilled Persistence.shifted
 runs-hold = (refl, refl, refl)
 
 -- ## The theorem at these stations
@@ -125,10 +127,11 @@ same : (p : ℕ) → SameCall (one 7 p) (one 8 p)
 same p = frames refl (λ fits. refl)
 
 pub agree : drop 2 (saw old (shared 7)) ≡ drop 2 (saw new (shared 8))
-unfolding point before saw run after call frameReply unlessFramed shown unless stops lacks goodStation fineHeld sameHeld badSide settled normalPass normalChain
-    persists depth fold turn over wash onFirst presets ofBits ofInt add mul div lt clampOf cutOf rewrite unpack pack packLimited
-    Persistence.persistence Persistence.decay Persistence.total Persistence.add Persistence.mix Persistence.pixel Persistence.blended Persistence.blend
-    Persistence.copies Persistence.refilled Persistence.shifted
+unfolding point before saw run after call frameReplyBy unlessFramed shownBy unless stops lacks goodStation fineHeld sameHeld
+    badSide settled normalPass normalChain persists depth fold turnBy overBy wash onFirst presets ofBits ofInt add mul div
+    lt clampOf cutOf rewrite Text.Pixel.unpack Text.Pixel.pack Text.Pixel.packLimited Text.Persistence.persistence
+    Text.Persistence.decay Text.Persistence.total Text.Persistence.add Text.Persistence.mix Text.Persistence.pixel
+    Text.Persistence.blended Text.Persistence.blend Persistence.copies Persistence.refilled Persistence.shifted
 agree =
     demand-3 card other station station opens opens-other refl (90 ∷ 91 ∷ 92 ∷ []) (5 ∷ 6 ∷ []) own [] (record { same-switches = refl; same-presets = refl })
     (shared 7) (shared 8) (more (same 0) (more (same 0x404040) (more (same 0x808080) (more (same 0xffffff) none))))

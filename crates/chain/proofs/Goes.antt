@@ -10,7 +10,7 @@ use lib.Dec.{ltb, eqb}
 use lib.ListN.{length, take, drop}
 use Rattle.passes.specs.Flow.{Flow, flow}
 use Rattle.chain.specs.Alike.{chainOf}
-use Rattle.chain.specs.Calls.{hold, badSide, stops, refusal, acceptance, framed, unlessFramed, shown, frameReply}
+use Rattle.chain.specs.Calls.{hold, badSide, stops, refusal, acceptance, framed, unlessFramed, shown, shownBy, frameReply, frameReplyBy}
 use Rattle.chain.specs.Chain.{chain, depth}
 use Rattle.chain.specs.Normal.{goodStation}
 use Rattle.chain.specs.declared.station.Station.{Station}
@@ -63,7 +63,7 @@ goes s w h words history floats ints e =
 -- a frame's reply by its refusal: everything as it was given
 pub refused-frame : (k w h : ℕ) (s : Station) (words past : List ℕ) (floats ints : ℕ) → (k ≡ 0 → ⊥) → k ≡ stops s w h (length words) (length past) floats ints
     → framed (refusal k) s words past ≡ frameReply w h s words past floats ints
-unfolding frameReply unlessFramed
+unfolding frameReplyBy unlessFramed
 refused-frame zero w h s words past floats ints n e = absurd (n refl)
 refused-frame (suc k) w h s words past floats ints n e = ap (λ (m : ℕ). unlessFramed m s words past (shown w h s words past)) e
 
@@ -71,7 +71,7 @@ refused-frame (suc k) w h s words past floats ints n e = ap (λ (m : ℕ). unles
 pub shown-frame : (w h : ℕ) (s : Station) (words past : List ℕ) (floats ints : ℕ) {frame′ past′ : List ℕ} {held′ : ℕ}
     → stops s w h (length words) (length past) floats ints ≡ 0 → flow frame′ held′ past′ ≡ chain w h (chainOf s) (flow (take (h * w) words) (s .held) past)
     → framed (acceptance []) (hold held′ s) (frame′ ++ drop (h * w) words) past′ ≡ frameReply w h s words past floats ints
-unfolding frameReply unlessFramed shown
+unfolding frameReplyBy unlessFramed shownBy
 shown-frame w h s words past floats ints e x =
     ap (λ (y : Flow). framed (acceptance []) (hold (y .held) s) (y .frame ++ drop (h * w) words) (y .past)) x
     ∙ ap (λ (m : ℕ). unlessFramed m s words past (shown w h s words past)) (sym e)

@@ -9,8 +9,9 @@ use borrow.Author.Tests.{eqb-true}
 use lib.Ieee.{Float}
 use lib.ListN.{length, take, drop, length-append}
 use lib.Seq.{take-append-add, take-append-le, take-take, length-take-le}
+use Rattle.passes.specs as Text
 use Rattle.passes.specs.Flow.{Held, nothing, area, sameHeld, Flow, flow}
-use Rattle.passes.specs.Persistence.{persistence, blend, copies, refilled, shifted}
+use Rattle.passes.specs.Plain.Persistence.{persistence, blend, copies, refilled, shifted}
 use Rattle.passes.specs.PersistenceLaws.{blend-take, length-copies}
 
 -- ## Two histories
@@ -85,7 +86,7 @@ module _ (amount : Float) (k : ℕ) (size : Held) where
   -- by what both hold
   by-held : (P : Flow → Flow → Type 0) (x y : Flow) → x .held ≡ y .held → (x .held ≡ size → P (kept x) (kept y)) → P (begun x) (begun y)
       → P (through x) (through y)
-  unfolding persistence
+  unfolding Text.Persistence.persistence
   by-held P x y e f g =
       subst (λ (z : Held). P (cond (sameHeld (x .held) size) (kept x) (begun x)) (cond (sameHeld z size) (kept y) (begun y))) e
       (go (sameHeld (x .held) size) refl)

@@ -10,9 +10,9 @@ use lib.Ieee.{Float}
 use Rattle.num.specs.Const.{c0·0, c0·95, c1·0}
 use Rattle.passes.specs.Flow.{Flow, flow}
 use Rattle.passes.specs.Fold.{Folded}
-use Rattle.passes.specs.Persistence.{persistence}
+use Rattle.passes.specs.Plain.Persistence.{persistence}
 use Rattle.passes.specs.Rows.{Frame}
-use Rattle.chain.specs.Chain.{over, turn}
+use Rattle.chain.specs.Chain.{over, overBy, turn, turnBy}
 use Rattle.chain.specs.Lent.{Lent, Ready}
 use Rattle.chain.specs.Normal.{normalPass, settled, counted}
 use Rattle.chain.specs.declared.station.Pass.{Pass}
@@ -55,15 +55,15 @@ washed w h frame {held} {pass} {case} {new} {painted} {past} e n o =
 -- persistence, by the frame's length
 pub persisted : (w h : ℕ) (x : Flow) {pass : Pass} {amount : Float} {depth : ℕ} {y : Flow} → length (x .frame) ≡ h * w → pass ≡ Persistence amount depth
     → y ≡ persistence amount depth (length (x .frame)) x → y ≡ over w h pass x
-unfolding over
+unfolding overBy
 persisted w h x {pass} {amount} {depth} s e o = o ∙ ap (λ (n : ℕ). persistence amount depth n x) s ∙ ap (λ (p : Pass). over w h p x) (sym e)
 
 pub turn-on : (w h : ℕ) (x : Flow) (r : Record) {y : Flow} → r .on ≡ true → y ≡ over w h (r .pass) x → y ≡ turn w h x r
-unfolding turn
+unfolding turnBy
 turn-on w h x r e o = o ∙ ap (λ (b : Bool). cond b (over w h (r .pass) x) x) (sym e)
 
 pub turn-off : (w h : ℕ) (x : Flow) (r : Record) → r .on ≡ false → x ≡ turn w h x r
-unfolding turn
+unfolding turnBy
 turn-off w h x r e = ap (λ (b : Bool). cond b (over w h (r .pass) x) x) (sym e)
 
 -- ## The loop over the records

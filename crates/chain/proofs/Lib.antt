@@ -1,5 +1,5 @@
--- Laws that the proofs of several functions cite, and the theorems of specs/Claims.antt: Theorems, Survives, Inside, Longest; of specs/Agree.antt: Agreement, Made.
--- Runs that are computed: Examples.
+-- Laws that the proofs of several functions cite, and the theorems of specs/Claims.antt: Theorems, Survives, Inside,
+-- Longest; of specs/Agree.antt: Agreement, Made; of specs/Numbers.antt: Numbers. Runs that are computed: Examples.
 pub mod Bits
 pub mod Bools
 pub mod Good
@@ -39,3 +39,4 @@ pub mod Agreement
 pub mod Made
 pub mod Examples
 pub mod Untouched
+pub mod Numbers

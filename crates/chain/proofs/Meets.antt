@@ -16,7 +16,7 @@ use Rattle.chain.specs.Agree.{SameCall, frames, resets, switches-to, ste
 use Rattle.chain.specs.Agree.{on, ok, takes, ends}
 use Rattle.chain.specs.Alike.{chainOf}
 use Rattle.chain.specs.Calls.{hold, rechain, stops, lacks, Report, acceptance, reply, unless, onFirst, turned, presets, stepLut}
-use Rattle.chain.specs.Calls.{Framed, unlessFramed, incoming, shown, frameReply}
+use Rattle.chain.specs.Calls.{Framed, unlessFramed, incoming, shown, shownBy, frameReplyBy}
 use Rattle.chain.specs.Chain.{wash, chain, depth}
 use Rattle.chain.specs.Machine.{Call, frame, reset, switch, step, State, seen, Done, lend, still, call, after}
 use Rattle.chain.specs.Normal.{persists}
@@ -139,7 +139,7 @@ module _ (s : Station) (b : Held) (H G : List ℕ) (fit-s : Fit s) (fit-t : Fit 
         → (k : ℕ) → stops s w h (length p) (length (take l H)) m i ≡ k
         → (n : ℕ) → n ≤ depth (chainOf s) → n ≤ cond (persists (chainOf s) && ok (this-frame k .answer)) (suc j) j
         → Step A n (lend (h * w) l H (this-frame k)) (lend (h * w) l G (that-frame k))
-    unfolding unlessFramed shown
+    unfolding unlessFramed shownBy
     frame-step A all e f zero z n le at =
         let g = goes s w h (length p) (length (take l H)) m i z in
         let room : depth (chainOf s) * (h * w) ≤ l = rw (length-take-le l H lent-s) at (g .past-room) in
@@ -170,7 +170,7 @@ module _ (s : Station) (b : Held) (H G : List ℕ) (fit-s : Fit s) (fit-t : Fit 
 
   call-step : {c d : Call} → SameCall c d → lent c ≤ length H → lent c ≤ length G
       → (n : ℕ) → n ≤ depth (chainOf s) → n ≤ cond (takes this c) (suc j) j → Step (Whole c) n (call c this) (call d that)
-  unfolding call frameReply
+  unfolding call frameReplyBy
   call-step (frames {w} {h} {lent = l} {floats = m} {ints = i} {words = p} {other = q} e f) lH lG n le at =
       let k = stops s w h (length p) (length (take l H)) m i in
       let stop : k ≡ stops (hold b s) w h (length q) (length (take l G)) m i =

@@ -11,22 +11,24 @@ use lib.Ieee.{Float}
 use lib.ListN.{length}
 use types.Run.{OneOf, miss}
 use Rattle.passes.specs.Flow.{Flow}
-use Rattle.passes.specs.Lengths.{ntsc-length, bloom-length, auto-gradient-length, lut-length, curvature-length, color-correction-length}
+use Rattle.passes.specs.Lengths.{ntsc-length, bloom-length, auto-gradient-length, lut-length, curvature-length}
+use Rattle.passes.specs.Lengths.{color-correction-length}
 use Rattle.passes.specs.Lengths.{crt-length, vignette-length, scanlines-length}
-use Rattle.passes.specs.Ntsc.{ntsc}
-use Rattle.passes.specs.Bloom.{bloom}
-use Rattle.passes.specs.AutoGradient.{autoGradient}
-use Rattle.passes.specs.Lut.{lut}
-use Rattle.passes.specs.Curvature.{curvature}
-use Rattle.passes.specs.ColorCorrection.{colorCorrection}
-use Rattle.passes.specs.Crt.{crt}
-use Rattle.passes.specs.Vignette.{vignette}
-use Rattle.passes.specs.Scanlines.{scanlines}
+use Rattle.passes.specs.Plain.Ntsc.{ntsc}
+use Rattle.passes.specs.Plain.Bloom.{bloom}
+use Rattle.passes.specs.Plain.AutoGradient.{autoGradient}
+use Rattle.passes.specs.Plain.Lut.{lut}
+use Rattle.passes.specs.Plain.Curvature.{curvature}
+use Rattle.passes.specs.Plain.ColorCorrection.{colorCorrection}
+use Rattle.passes.specs.Plain.Crt.{crt}
+use Rattle.passes.specs.Plain.Vignette.{vignette}
+use Rattle.passes.specs.Plain.Scanlines.{scanlines}
 use Rattle.chain.specs.Calls.{next, steppedPass, presetOf}
-use Rattle.chain.specs.Chain.{wash, over, depthOf}
+use Rattle.chain.specs.Chain.{wash, over, overBy, depthOf}
 use Rattle.chain.specs.Passes.{kindOf}
 use Rattle.chain.specs.declared.station.Pass.{Pass}
-use Rattle.chain.specs.declared.station.Pass.the-variants.{Ntsc, Bloom, AutoGradient, Persistence, Lut, Curvature, ColorCorrection, Crt, Vignette, Scanlines}
+use Rattle.chain.specs.declared.station.Pass.the-variants.{Ntsc, Bloom, AutoGradient, Persistence, Lut, Curvature}
+use Rattle.chain.specs.declared.station.Pass.the-variants.{ColorCorrection, Crt, Vignette, Scanlines}
 use Rattle.chain.proofs.station.Pass.{the-type}
 
 -- ## Persistence, or a pass that only paints the frame
@@ -39,7 +41,7 @@ pub record Plain (p : Pass) : Type 0 where
   pub no-depth : depthOf p ≡ 0
 
 pub by-memory : (P : Pass → Type 0) → ((amount : Float) (k : ℕ) → P (Persistence amount k)) → ((p : Pass) → Plain p → P p) → (p : Pass) → P p
-unfolding over
+unfolding overBy
 by-memory P f g (Ntsc s b) =
     g _ (record { paint = λ w h. ntsc w s b; keeps = λ w h l. ntsc-length w h s l b; whole = λ w h x. refl; kind = refl; no-depth = refl })
 by-memory P f g (Bloom t s r) =

@@ -15,7 +15,7 @@ use Rattle.passes.specs.Flow.{Held, nothing, sized, sameHeld, fineHeld, Flow}
 use Rattle.chain.specs.Agree.{opened}
 use Rattle.chain.specs.Alike.{chainOf}
 use Rattle.chain.specs.Calls.{hold, rechain, badSide, stops, lacks, Report, refusal, acceptance, Reply, reply, unless}
-use Rattle.chain.specs.Calls.{onFirst, turned, switched, stepped, stepLut, Framed, framed, unlessFramed, incoming, shown, frameReply}
+use Rattle.chain.specs.Calls.{onFirst, turned, switched, stepped, stepLut, Framed, framed, unlessFramed, incoming, shown, shownBy, frameReply, frameReplyBy}
 use Rattle.chain.specs.Card.{stationOf, accepted, openOf}
 use Rattle.chain.specs.Chain.{wash, chain, depth}
 use Rattle.chain.specs.Machine.{Call, frame, reset, switch, step, State, Seen, call, after, run, saw}
@@ -160,7 +160,7 @@ pub enough : (w h : ℕ) (s : Station) (words past : List ℕ) → h * w ≤ len
 enough w h s words past frame-room past-room = record { long = length-take-le (h * w) words frame-room; room = past-room }
 
 after-frame : (w h : ℕ) (s : Station) (words past : List ℕ) → Fit s → fineHeld (sized w h) ≡ true → After s (shown w h s words past .station)
-unfolding shown wash
+unfolding shownBy wash
 after-frame w h s words past f fine = go (good-apart s f)
   where
     x : Flow
@@ -186,7 +186,7 @@ by-stop P zero s words past r p q = q refl
 by-stop P (suc k) s words past r p q = p
 
 pub call-after : (c : Call) (s : State) → Fit (s .station) → After (s .station) (call c s .gives .station)
-unfolding call frameReply
+unfolding call frameReplyBy
 call-after (frame w h words l m i) s f =
     let past = take l (s .history) in
     by-stop (λ r. After (s .station) (r .station)) _ (s .station) words past _ (after-itself (s .station) f)
@@ -215,7 +215,7 @@ run-fixed s (c ∷ cs) f = run-fixed (after c s) cs (call-fit c s f) ∙ call-af
 -- ## The own buffer keeps its length
 
 frame-past : (w h : ℕ) (s : Station) (words past : List ℕ) (m i : ℕ) → Fit s → length (frameReply w h s words past m i .past) ≡ length past
-unfolding frameReply shown
+unfolding frameReplyBy shownBy
 frame-past w h s words past m i f =
     by-stop (λ r. length (r .past) ≡ length past) _ s words past _ refl
     (λ z.
@@ -263,7 +263,7 @@ acceptance-not r e = let z : _≡_ {A = ℕ} 0 1 = cc in omega arith
 
 -- to a good station, in one call
 pub call-not : (c : Call) (s : State) → goodStation (s .station) ≡ true → call c s .gives .answer ≡ refusal 13 → ⊥
-unfolding call frameReply shown
+unfolding call frameReplyBy shownBy
 call-not (frame w h words l m i) s e =
     by-stop (λ r. r .answer ≡ refusal 13 → ⊥) _ (s .station) words (take l (s .history)) _
     (refusal-not _ (stops-not (s .station) w h _ _ m i e)) (λ z. acceptance-not [])

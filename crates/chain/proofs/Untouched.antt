@@ -7,11 +7,13 @@ use mathlib.Core.List.{List, [], _++_}
 use lib.Ieee.{Float}
 use lib.ListN.{length, take, drop, take-append-drop}
 use lib.Seq.{length-take-le, drop-at}
+use Rattle.passes.specs as Text
 use Rattle.passes.specs.Flow.{Held, sized, sameHeld, Flow, flow}
-use Rattle.passes.specs.Persistence.{persistence, blend, refilled, shifted}
+use Rattle.passes.specs.Plain.Persistence.{persistence, blend, refilled, shifted}
 use Rattle.passes.specs.PersistenceLaws.{refilled-rest, shifted-rest}
 use Rattle.chain.specs.Alike.{chainOf}
-use Rattle.chain.specs.Calls.{Report, refusal, acceptance, reply, unless, stops, lacks, Framed, framed, unlessFramed, incoming, shown, frameReply}
+use Rattle.chain.specs.Calls.{Report, refusal, acceptance, reply, unless, stops, lacks, Framed, framed}
+use Rattle.chain.specs.Calls.{unlessFramed, incoming, shown, shownBy, frameReplyBy}
 use Rattle.chain.specs.Chain.{wash, chain, depth}
 use Rattle.chain.specs.Claims.{Refused-keeps, Untouched}
 use Rattle.chain.specs.Machine.{Call, frame, reset, switch, step, State, call, after}
@@ -34,12 +36,12 @@ reply-keeps (suc n) s t ns k e = refl
 
 frame-keeps : (n w h : ℕ) (s : Station) (words past : List ℕ) (k : ℕ) → unlessFramed n s words past (shown w h s words past) .answer ≡ refusal k
     → unlessFramed n s words past (shown w h s words past) ≡ framed (refusal k) s words past
-unfolding unlessFramed shown
+unfolding unlessFramed shownBy
 frame-keeps zero w h s words past k e = accepted-not [] k e
 frame-keeps (suc n) w h s words past k e = ap (λ (r : Report). framed r s words past) e
 
 call-keeps : (c : Call) (s : State) (k : ℕ) → call c s .gives .answer ≡ refusal k → after c s ≡ s
-unfolding call after frameReply
+unfolding call after frameReplyBy
 call-keeps (frame w h words l m i) s k e =
     let past = take l (s .history) in
     let kept = frame-keeps (stops (s .station) w h (length words) (length past) m i) w h (s .station) words past k e in
@@ -50,14 +52,14 @@ call-keeps (switch kind on) s k e = ap (λ (t : Station). record { station = t; 
 call-keeps step s k e = ap (λ (t : Station). record { station = t; history = s .history }) (reply-keeps (lacks (s .station) 5) (s .station) _ _ k e)
 
 pub refused-keeps : Refused-keeps
-unfolding frameReply
+unfolding frameReplyBy
 refused-keeps = (call-keeps, λ w h s words past floats ints k e. frame-keeps (stops s w h (length words) (length past) floats ints) w h s words past k e)
 
 -- ## What no frame touches
 
 persistence-rest : (amount : Float) (k : ℕ) (size : Held) (x : Flow) → k * length (x .frame) ≤ length (x .past)
     → drop (k * length (x .frame)) (persistence amount k size x .past) ≡ drop (k * length (x .frame)) (x .past)
-unfolding persistence
+unfolding Text.Persistence.persistence
 persistence-rest amount k size x fits = of (sameHeld (x .held) size)
   where
     of : (b : Bool)
@@ -88,7 +90,7 @@ Stays w h s words past r =
 
 stays : (w h : ℕ) (s : Station) (words past : List ℕ) (floats ints n : ℕ) → stops s w h (length words) (length past) floats ints ≡ n
     → Stays w h s words past (unlessFramed n s words past (shown w h s words past))
-unfolding unlessFramed shown
+unfolding unlessFramed shownBy
 stays w h s words past floats ints zero e =
     let g = goes s w h (length words) (length past) floats ints e in
     let a = apart (chainOf s) (good s (g .good) .normal) in
@@ -101,5 +103,5 @@ stays w h s words past floats ints zero e =
 stays w h s words past floats ints (suc n) e = (refl, refl, refl)
 
 pub untouched : Untouched
-unfolding frameReply
+unfolding frameReplyBy
 untouched w h s words past floats ints = stays w h s words past floats ints (stops s w h (length words) (length past) floats ints) refl

@@ -4,9 +4,10 @@ use mathlib.Core.Bool.{Bool, not, _&&_, _||_, cond}
 use mathlib.Core.List.{List, [], _∷_, _++_}
 use lib.Dec.{eqb, ltb}
 use lib.ListN.{length, take, drop}
+use Rattle.passes.specs.Arith.{Arith, plain}
 use Rattle.passes.specs.Flow.{Held, nothing, Flow, flow}
 use Rattle.chain.specs.Alike.{chainOf}
-use Rattle.chain.specs.Chain.{chain, depth}
+use Rattle.chain.specs.Chain.{chainBy, depth}
 use Rattle.chain.specs.Normal.{goodStation}
 use Rattle.chain.specs.Passes.{kindOf}
 use Rattle.chain.specs.Records.{kinds, among}
@@ -148,13 +149,22 @@ unlessFramed (suc k) s words past r = framed (refusal (suc k)) s words past
 abbrev pub incoming : (w h : ℕ) → Station → (words past : List ℕ) → Flow
 incoming w h s words past = flow (take (h * w) words) (s .held) past
 
--- an accepted frame: the chain runs over the first count words of the framebuffer
-unfoldable pub shown : (w h : ℕ) → Station → (words past : List ℕ) → Framed
-shown w h s words past =
-    let x : Flow = chain w h (chainOf s) (incoming w h s words past) in
-    framed (acceptance []) (hold (x .held) s) (x .frame ++ drop (h * w) words) (x .past)
+module _ (A : Arith) (w h : ℕ) where
+  -- an accepted frame: the chain runs over the first count words of the framebuffer
+  unfoldable pub shownBy : Station → (words past : List ℕ) → Framed
+  shownBy s words past =
+      let x : Flow = chainBy A w h (chainOf s) (incoming w h s words past) in
+      framed (acceptance []) (hold (x .held) s) (x .frame ++ drop (h * w) words) (x .past)
 
--- `floats` and `ints` are the lengths of the scratches
-unfoldable pub frameReply : (w h : ℕ) → Station → (words past : List ℕ) → (floats ints : ℕ) → Framed
-frameReply w h s words past floats ints =
-    unlessFramed (stops s w h (length words) (length past) floats ints) s words past (shown w h s words past)
+  -- `floats` and `ints` are the lengths of the scratches
+  unfoldable pub frameReplyBy : Station → (words past : List ℕ) → (floats ints : ℕ) → Framed
+  frameReplyBy s words past floats ints =
+      unlessFramed (stops s w h (length words) (length past) floats ints) s words past (shownBy s words past)
+
+-- the product's
+
+abbrev pub shown : (w h : ℕ) → Station → (words past : List ℕ) → Framed
+shown = shownBy plain
+
+abbrev pub frameReply : (w h : ℕ) → Station → (words past : List ℕ) → (floats ints : ℕ) → Framed
+frameReply = frameReplyBy plain

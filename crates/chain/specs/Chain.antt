@@ -2,6 +2,7 @@
 use Prim.Native.Nat.{ℕ, _+_}
 use mathlib.Core.Bool.{cond}
 use mathlib.Core.List.{List, [], _∷_}
+use Rattle.passes.specs.Arith.{Arith, plain}
 use Rattle.passes.specs.Fold.{fold}
 use Rattle.passes.specs.Flow.{sized, Flow, flow}
 use Rattle.passes.specs.Ntsc.{ntsc}
@@ -15,32 +16,49 @@ use Rattle.passes.specs.Crt.{crt}
 use Rattle.passes.specs.Vignette.{vignette}
 use Rattle.passes.specs.Scanlines.{scanlines}
 use Rattle.chain.specs.declared.station.Pass.{Pass}
-use Rattle.chain.specs.declared.station.Pass.the-variants.{Ntsc, Bloom, AutoGradient, Persistence, Lut, Curvature, ColorCorrection, Crt, Vignette, Scanlines}
+use Rattle.chain.specs.declared.station.Pass.the-variants.{Ntsc, Bloom, AutoGradient, Persistence, Lut, Curvature}
+use Rattle.chain.specs.declared.station.Pass.the-variants.{ColorCorrection, Crt, Vignette, Scanlines}
 use Rattle.chain.specs.declared.station.Record.{Record}
 
 -- a pass without memory
 unfoldable pub wash : (List ℕ → List ℕ) → Flow → Flow
 wash paint x = flow (paint (x .frame)) (x .held) (x .past)
 
--- one pass over a frame of width w and height h
-unfoldable pub over : (w h : ℕ) → Pass → Flow → Flow
-over w h (Ntsc strength bleed) = wash (ntsc w strength bleed)
-over w h (Bloom threshold strength radius) = wash (bloom w h threshold strength radius)
-over w h (AutoGradient strength vertical horizontal) = wash (autoGradient w h strength vertical horizontal)
-over w h (Persistence amount depth) = persistence amount depth (sized w h)
-over w h (Lut preset strength) = wash (lut preset strength)
-over w h (Curvature amount) = wash (curvature w h amount)
-over w h (ColorCorrection brightness contrast saturation gamma) = wash (colorCorrection brightness contrast saturation)
-over w h (Crt strength) = wash (crt w h strength)
-over w h (Vignette strength) = wash (vignette w h strength)
-over w h (Scanlines strength) = wash (scanlines w strength)
+-- ## The passes, over an arithmetic A (passes' Arith)
 
--- a record: its pass, where it is on
-unfoldable pub turn : (w h : ℕ) → Flow → Record → Flow
-turn w h x r = cond (r .on) (over w h (r .pass) x) x
+module _ (A : Arith) (w h : ℕ) where
+  -- one pass over a frame of width w and height h
+  unfoldable pub overBy : Pass → Flow → Flow
+  overBy (Ntsc strength bleed) = wash (ntsc A w (A .lit strength) bleed)
+  overBy (Bloom threshold strength radius) = wash (bloom A w h threshold (A .lit strength) radius)
+  overBy (AutoGradient strength vertical horizontal) =
+      wash (autoGradient A w h (A .lit strength) (A .lit vertical) (A .lit horizontal))
+  overBy (Persistence amount depth) = persistence A (A .lit amount) depth (sized w h)
+  overBy (Lut preset strength) = wash (lut A preset (A .lit strength))
+  overBy (Curvature amount) = wash (curvature A w h (A .lit amount))
+  overBy (ColorCorrection brightness contrast saturation gamma) =
+      wash (colorCorrection A (A .lit brightness) (A .lit contrast) (A .lit saturation))
+  overBy (Crt strength) = wash (crt A w h (A .lit strength))
+  overBy (Vignette strength) = wash (vignette A w h (A .lit strength))
+  overBy (Scanlines strength) = wash (scanlines A w (A .lit strength))
+
+  -- a record: its pass, where it is on
+  unfoldable pub turnBy : Flow → Record → Flow
+  turnBy x r = cond (r .on) (overBy (r .pass) x) x
+
+  abbrev pub chainBy : List Record → Flow → Flow
+  chainBy rs x = fold turnBy x rs
+
+-- the product's: binary32 and the number steps
+
+abbrev pub over : (w h : ℕ) → Pass → Flow → Flow
+over = overBy plain
+
+abbrev pub turn : (w h : ℕ) → Flow → Record → Flow
+turn = turnBy plain
 
 abbrev pub chain : (w h : ℕ) → List Record → Flow → Flow
-chain w h rs x = fold (turn w h) x rs
+chain = chainBy plain
 
 -- ## The places of the history
 

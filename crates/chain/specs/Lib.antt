@@ -1,5 +1,6 @@
--- Readers: Step, Bits, Settings, Passes, Records, Card. Writers: Written, Sheet, Write. The station test: Normal. What is proved of them: Alike, Typed, Claims.
--- The calls: Chain, Lent, Calls, Answers. The plain machine and demand 3: Machine, Agree. Worked cases: Cases, Marked.
+-- Readers: Step, Bits, Settings, Passes, Records, Card. Writers: Written, Sheet, Write. The station test: Normal. What
+-- is proved of them: Alike, Typed, Claims. The calls: Chain, Lent, Calls, Answers. The plain machine and demand 3:
+-- Machine, Agree. What the number steps leave undefined is not met: Numbers. Worked cases: Cases, Marked.
 pub mod Step
 pub mod Bits
 pub mod Settings
@@ -21,3 +22,4 @@ pub mod Machine
 pub mod Agree
 pub mod Cases
 pub mod Marked
+pub mod Numbers

@@ -9,30 +9,25 @@ use Rattle.num.specs.F32.{dec}
 use Rattle.num.specs.Rewrite.{rewrite}
 use Rattle.num.specs.Root.{rootOf}
 use Rattle.num.specs.Steps.{clampOf, minOf, maxOf, absOf, cutOf, roundOf, plusZeroOf, limitOf}
+use Rattle.passes.specs as Text
 use Rattle.passes.specs.Flow.{sameHeld, fineHeld, Flow}
 use Rattle.passes.specs.Fold.{fold}
-use Rattle.passes.specs.Pixel.{unpack, unit, pack, packNearest, packLimited, packUnit, dim, luma709}
-use Rattle.passes.specs.Position.{position}
-use Rattle.passes.specs.Scanlines as Scanlines
-use Rattle.passes.specs.Vignette as Vignette
-use Rattle.passes.specs.Crt as Crt
-use Rattle.passes.specs.Curvature as Curvature
-use Rattle.passes.specs.AutoGradient as AutoGradient
-use Rattle.passes.specs.Persistence as Persistence
-use Rattle.passes.specs.ColorCorrection as ColorCorrection
+use Rattle.passes.specs.Plain.Persistence as Persistence
 use Rattle.chain.specs.Agree.{opened}
 use Rattle.chain.specs.Alike.{chainOf}
 use Rattle.chain.specs.Bits.{valueAt, fieldAt}
-use Rattle.chain.specs.Calls.{badSide, stops, unlessFramed, shown, frameReply}
+use Rattle.chain.specs.Calls.{badSide, stops, unlessFramed, shownBy, frameReplyBy}
 use Rattle.chain.specs.Card.{stationOf, headerAt, recordsAt, endsAt, endAt, stationAt, accepted, openOf}
-use Rattle.chain.specs.Chain.{wash, over, turn, chain, depth}
+use Rattle.chain.specs.Chain.{wash, overBy, turnBy, chain, depth}
 use Rattle.chain.specs.Machine.{frame, call, after, saw}
 use Rattle.chain.specs.Normal.{settled, normalPass, normalChain, persists, goodStation}
-use Rattle.chain.specs.Passes.{passAt, autoGradientAt, persistenceAt, curvatureAt, colorCorrectionAt, crtAt, vignetteAt, scanlinesAt}
+use Rattle.chain.specs.Passes.{passAt, autoGradientAt, persistenceAt, curvatureAt, colorCorrectionAt, crtAt}
+use Rattle.chain.specs.Passes.{vignetteAt, scanlinesAt}
 use Rattle.chain.specs.Records.{recordAt}
 use Rattle.chain.specs.Settings.{finiteAt, limitedAt, withinAt, gainAt, countAt}
 use Rattle.chain.specs.Step.{refuseIf}
-use Rattle.chain.specs.Written.{bits, passBits, recordBits, recordsBits, chainBits, valueOf, pack as packBytes, chainCard, cardOf}
+use Rattle.chain.specs.Written.{bits, passBits, recordBits, recordsBits, chainBits, valueOf, pack as packBytes}
+use Rattle.chain.specs.Written.{chainCard, cardOf}
 
 -- the pictures of frames of that size, one after the other, from a station that is opened from the card
 abbrev pub shows : (card : List ℕ) (w h : ℕ) → List (List ℕ) → List (List ℕ)
@@ -81,19 +76,21 @@ pub record Marked : Type 0 where
       shows (0x11 ∷ 0x79 ∷ 0xfc ∷ 0 ∷ 0 ∷ 1 ∷ 0xfc ∷ 0 ∷ 0 ∷ 1 ∷ 0xfc ∷ 0 ∷ 0 ∷ 1 ∷ 0xfc ∷ 0 ∷ 0 ∷ 0 ∷ []) 1 1 ((0 ∷ []) ∷ []) ≡ (0xffffff ∷ []) ∷ []
 
 pub marked : Marked
-unfolding dec ofBits toBits ofInt add sub mul div neg lt le eq clampOf minOf maxOf absOf cutOf roundOf plusZeroOf limitOf rootOf
-    rewrite fold sameHeld fineHeld unpack unit pack packNearest packLimited packUnit dim luma709 position
-    Scanlines.scanlines Scanlines.inRow Vignette.vignette Vignette.square Vignette.factor
-    Crt.crt Crt.beam Crt.phosphor Crt.offset Crt.edge Crt.shade
-    Curvature.curvature Curvature.bend Curvature.sample Curvature.outside
-    AutoGradient.autoGradient AutoGradient.shaded AutoGradient.adaptive AutoGradient.addLuma AutoGradient.warm AutoGradient.brightness AutoGradient.shade
-    Persistence.persistence Persistence.decay Persistence.total Persistence.add Persistence.mix Persistence.pixel Persistence.blended Persistence.blend
-    Persistence.copies Persistence.refilled Persistence.shifted
-    ColorCorrection.colorCorrection ColorCorrection.pixel
-    openOf stationAt headerAt fieldAt valueAt refuseIf recordsAt endAt endsAt recordAt passAt autoGradientAt persistenceAt curvatureAt colorCorrectionAt crtAt
-    vignetteAt scanlinesAt finiteAt limitedAt withinAt gainAt countAt
-    cardOf chainCard packBytes valueOf chainBits recordsBits recordBits passBits bits
-    saw after call frameReply unlessFramed shown stops badSide goodStation normalChain normalPass settled persists depth turn over wash
+unfolding dec ofBits toBits ofInt add sub mul div neg lt le eq clampOf minOf maxOf absOf cutOf roundOf plusZeroOf
+    limitOf rootOf rewrite fold sameHeld fineHeld Text.Pixel.unpack Text.Pixel.unit Text.Pixel.pack
+    Text.Pixel.packNearest Text.Pixel.packLimited Text.Pixel.packUnit Text.Pixel.dim Text.Pixel.luma709
+    Text.Position.position Text.Scanlines.scanlines Text.Scanlines.inRow Text.Vignette.vignette Text.Vignette.square
+    Text.Vignette.factor Text.Crt.crt Text.Crt.beam Text.Crt.phosphor Text.Crt.offset Text.Crt.edge Text.Crt.shade
+    Text.Curvature.curvature Text.Curvature.bend Text.Curvature.sample Text.Curvature.outside
+    Text.AutoGradient.autoGradient Text.AutoGradient.shaded Text.AutoGradient.adaptive Text.AutoGradient.addLuma
+    Text.AutoGradient.warm Text.AutoGradient.brightness Text.AutoGradient.shade Text.Persistence.persistence
+    Text.Persistence.decay Text.Persistence.total Text.Persistence.add Text.Persistence.mix Text.Persistence.pixel
+    Text.Persistence.blended Text.Persistence.blend Persistence.copies Persistence.refilled Persistence.shifted
+    Text.ColorCorrection.colorCorrection Text.ColorCorrection.pixel openOf stationAt headerAt fieldAt valueAt refuseIf
+    recordsAt endAt endsAt recordAt passAt autoGradientAt persistenceAt curvatureAt colorCorrectionAt crtAt vignetteAt
+    scanlinesAt finiteAt limitedAt withinAt gainAt countAt cardOf chainCard packBytes valueOf chainBits recordsBits
+    recordBits passBits bits saw after call frameReplyBy unlessFramed shownBy stops badSide goodStation normalChain
+    normalPass settled persists depth turnBy overBy wash
 marked =
     record {
       round-half = refl;

@@ -4,16 +4,15 @@ use mathlib.Core.List.{List, [], _∷_}
 use mathlib.Core.Path.{_≡_, refl}
 use lib.Ieee.{ofBits, ofInt, sub, mul, div, lt}
 use Rattle.num.specs.F32.{dec}
+use Rattle.passes.specs as Text
 use Rattle.passes.specs.Fold.{fold}
 use Rattle.num.specs.Rewrite.{rewrite}
 use Rattle.num.specs.Steps.{cutOf, plusZeroOf, limitOf}
 use Rattle.passes.specs.Flow.{sameHeld, fineHeld}
-use Rattle.passes.specs.Pixel.{unpack, pack, dim}
-use Rattle.passes.specs.Scanlines as Scanlines
 use Rattle.chain.specs.Bits.{valueAt, fieldAt}
-use Rattle.chain.specs.Calls.{badSide, stops, lacks, unless, unlessFramed, shown, frameReply}
+use Rattle.chain.specs.Calls.{badSide, stops, lacks, unless, unlessFramed, shownBy, frameReplyBy}
 use Rattle.chain.specs.Card.{headerAt, recordsAt, endsAt, endAt, stationAt, openOf}
-use Rattle.chain.specs.Chain.{wash, over, turn, depth}
+use Rattle.chain.specs.Chain.{wash, overBy, turnBy, depth}
 use Rattle.chain.specs.Normal.{settled, normalPass, normalChain, persists, goodStation}
 use Rattle.chain.specs.Passes.{passAt, scanlinesAt}
 use Rattle.chain.specs.Records.{recordAt}
@@ -36,8 +35,10 @@ lines =
     ∷ E ∷ space ∷ 49 ∷ 50 ∷ newline ∷ []
 
 pub worked : printed input ≡ lines
-unfolding dec ofBits ofInt sub mul div lt cutOf plusZeroOf limitOf rewrite fold sameHeld fineHeld unpack pack dim Scanlines.scanlines Scanlines.inRow
-    openOf stationAt headerAt fieldAt valueAt refuseIf recordsAt endAt endsAt recordAt passAt scanlinesAt finiteAt limitedAt frameReply unlessFramed
-    shown stops lacks unless badSide goodStation normalChain normalPass settled persists depth turn over wash headWanted cardIn outside frameWanted
-    eventWanted frameFault eventFault unpacked called unlessFault playedOf eventLines printed decimal pixelsOf
+unfolding dec ofBits ofInt sub mul div lt cutOf plusZeroOf limitOf rewrite fold sameHeld fineHeld Text.Pixel.unpack
+    Text.Pixel.pack Text.Pixel.dim Text.Scanlines.scanlines Text.Scanlines.inRow openOf stationAt headerAt fieldAt
+    valueAt refuseIf recordsAt endAt endsAt recordAt passAt scanlinesAt finiteAt limitedAt frameReplyBy unlessFramed shownBy
+    stops lacks unless badSide goodStation normalChain normalPass settled persists depth turnBy overBy wash headWanted
+    cardIn outside frameWanted eventWanted frameFault eventFault unpacked called unlessFault playedOf eventLines printed
+    decimal pixelsOf
 worked = refl

@@ -1,9 +1,9 @@
--- The number steps and bounds: cut, round, clamp and minimum stay `within` a bound, a channel times a factor from 0 to 1 stays a channel, and what
--- cut makes of a rounded value. Assumes nothing.
+-- The number steps and bounds: cut, round, clamp and minimum stay `within` a bound, and what cut makes of a rounded value. Assumes nothing.
 use mathlib.Core.Path.{_≡_, refl, sym, ap, _∙_, subst}
 use mathlib.Core.Logic.{inl, inr}
 use Prim.Native.Nat.{ℕ, suc, _+_, _*_, _/_, _≤_, _<_, zero-le}
-use native.Mathlib.Nat.{mul-one, mul-comm, mul-pos, mul-le-mul-right, le-trans, le-of-eq, div-le-of-le-mul, le-of-suc-le-suc, div-lt-iff-lt-mul, div-eq-of-lt, mul-div-cancel, suc-mul, mul-left-comm}
+use native.Mathlib.Nat.{mul-one, mul-comm, mul-pos, mul-le-mul-right, le-trans, le-of-eq, div-le-of-le-mul}
+use native.Mathlib.Nat.{le-of-suc-le-suc, div-lt-iff-lt-mul, div-eq-of-lt, mul-div-cancel, suc-mul, mul-left-comm}
 use native.Mathlib.Omega.{arith}
 use mathlib.Core.Bool.{Bool, true, false, not, _&&_, _||_, cond, true≢false}
 use borrow.Author.Tests.{ltb-false, le-leb, lt-leb}
@@ -17,7 +17,8 @@ use Rattle.num.specs.Const.{c0·0, c1·0, c255·0}
 use Rattle.num.specs.F32.{_⊖_, _⊗_, whole}
 use Rattle.num.specs.Steps.{clampOf, minOf, cutOf, roundOf}
 use Rattle.num.specs.Order.{tests-le, asymmetric, lt-number}
-use Rattle.num.specs.Within.{within, size-le, minus-zero, within-plus, Signed, cross, zero-value, round-within, mul-within, Plain, sub-within}
+use Rattle.num.specs.Within.{within, size-le, minus-zero, within-plus, Signed, cross, zero-value, round-within}
+use Rattle.num.specs.Within.{mul-within, Plain, sub-within}
 
 -- ---- cut and round
 
@@ -142,7 +143,7 @@ unit-cut nan = le-trans (le-of-eq (ap (λ (y : Float). cutOf (y ⊗ c255·0)) (c
 unit-cut (inf s) = cut-within 255 _ (times-within 1 _ (lit≤ tt) (clamp-within 1 (inf s) c1·0 one-is tt))
 unit-cut (fin s m e) = cut-within 255 _ (times-within 1 _ (lit≤ tt) (clamp-within 1 (fin s m e) c1·0 one-is tt))
 
--- ---- a factor from 0 to 1, and a channel times it
+-- ---- a factor from 0 to 1, and whole numbers
 
 pub one-less-within : (x : Float) → T (within 1 x) → T (le x c1·0) → T (within 1 (c1·0 ⊖ x))
 one-less-within x h l = sub-within 1 1 c1·0 x (lit≤ tt) (value-within 1 c1·0 one-is) h l
@@ -150,16 +151,6 @@ one-less-within x h l = sub-within 1 1 c1·0 x (lit≤ tt) (value-within 1 c1·0
 pub int-within : (n : ℕ) → n ≤ 16777216 → T (within n (whole n))
 unfolding ofInt
 int-within n small = value-within n (round binary32 false n 1) (round-whole binary32 false n small)
-
-scaled-channel : (c : ℕ) (y : Float) → c ≤ 255 → T (within 1 y) → T (within 255 (whole c ⊗ y))
-scaled-channel c y h k = mul-within 255 1 (whole c) y (lit≤ tt) (widen c 255 (whole c) h (int-within c (le-trans h (lit≤ tt)))) k
-
--- it stays a channel: cut, or rounded and cut
-pub channel-cut : (c : ℕ) (y : Float) → c ≤ 255 → T (within 1 y) → cutOf (whole c ⊗ y) ≤ 255
-channel-cut c y h k = cut-within 255 (whole c ⊗ y) (scaled-channel c y h k)
-
-pub channel-nearest : (c : ℕ) (y : Float) → c ≤ 255 → T (within 1 y) → cutOf (roundOf (whole c ⊗ y)) ≤ 255
-channel-nearest c y h k = cut-within 255 (roundOf (whole c ⊗ y)) (round-step-within 255 (whole c ⊗ y) (lit≤ tt) (scaled-channel c y h k))
 
 -- ---- round, then cut
 

@@ -14,7 +14,8 @@ use lib.Ieee.Fits.{down-pos}
 use Rattle.num.specs.Const.{c0·5, c1·0}
 use Rattle.num.specs.F32.{_⊕_, _⊗_, whole}
 use Rattle.num.specs.Steps.{cutOf, roundOf}
-use Rattle.num.specs.Within.{within, size-le, minus-zero, within-plus, round-within, mul-within, Plain, add-within}
+use Rattle.num.specs.Within.{within, size-le, minus-zero, within-plus, round-within, mul-within, Plain}
+use Rattle.num.specs.Within.{add-within}
 use Rattle.num.specs.Bounds.{cut-within, round-step-within, int-within}
 
 half-within : (n : ℕ) (x : Float) → n ≤ 16777216 → T (within (2 * n) x) → T (within n (x ⊗ c0·5))
@@ -54,14 +55,20 @@ one-more-within (fin true m e) k h g = go (ltb (m * up e * 1) (1 * down e))
 abbrev pub indexOf : ℕ → Float → ℕ
 indexOf w x = cutOf (roundOf ((x ⊕ c1·0) ⊗ c0·5 ⊗ whole (w - 1)))
 
-number-index-lt : (w : ℕ) (x : Float) → 0 < w → w ≤ 1024 → T (not (isNan x)) → lt x (neg c1·0) ≡ false → lt c1·0 x ≡ false → indexOf w x < w
-number-index-lt w x p l k h g =
+-- the value that is rounded and cut lies from 0 to the last place
+pub index-within : (w : ℕ) (x : Float) → w ≤ 1024 → T (not (isNan x)) → lt x (neg c1·0) ≡ false → lt c1·0 x ≡ false
+    → T (within (w - 1) ((x ⊕ c1·0) ⊗ c0·5 ⊗ whole (w - 1)))
+index-within w x l k h g =
     let y = (x ⊕ c1·0) ⊗ c0·5 in
     let s : w - 1 ≤ 16777216 = omega arith in
-    let r : T (within (w - 1) (y ⊗ whole (w - 1))) =
     subst (λ (n : ℕ). T (within n (y ⊗ whole (w - 1)))) (one-mul (w - 1))
-    (mul-within 1 (w - 1) y (whole (w - 1)) (le-trans (le-of-eq (one-mul (w - 1))) s) (half-within 1 (x ⊕ c1·0) (lit≤ tt) (one-more-within x k h g)) (int-within (w - 1) s)) in
-    omega (arith, cut-within (w - 1) (roundOf (y ⊗ whole (w - 1))) (round-step-within (w - 1) (y ⊗ whole (w - 1)) s r))
+    (mul-within 1 (w - 1) y (whole (w - 1)) (le-trans (le-of-eq (one-mul (w - 1))) s) (half-within 1 (x ⊕ c1·0) (lit≤ tt) (one-more-within x k h g)) (int-within (w - 1) s))
+
+number-index-lt : (w : ℕ) (x : Float) → 0 < w → w ≤ 1024 → T (not (isNan x)) → lt x (neg c1·0) ≡ false → lt c1·0 x ≡ false → indexOf w x < w
+number-index-lt w x p l k h g =
+    let y = (x ⊕ c1·0) ⊗ c0·5 ⊗ whole (w - 1) in
+    let s : w - 1 ≤ 16777216 = omega arith in
+    omega (arith, cut-within (w - 1) (roundOf y) (round-step-within (w - 1) y s (index-within w x l k h g)))
 
 nan-index : (w : ℕ) → indexOf w nan ≡ 0
 unfolding add mul roundOf cutOf

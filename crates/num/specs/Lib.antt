@@ -1,5 +1,6 @@
--- Definitions: F32, Const, Steps, Root, NearestRoot, and Private for the contracts of private functions. Laws that callers cite: Order, Within, Bounds,
--- Index, Signs, Values. Laws of loops that rewrite a slice: Rewrite. Worked cases: Cases.
+-- Definitions: F32, Const, Steps, Root, NearestRoot, and Private for the contracts of private functions. Laws that
+-- callers cite: Order, Within, Bounds, Index, Signs, Values; of rounding and ranges: Sized, Least, Quotients, Squares,
+-- Upto. Laws of loops that rewrite a slice: Rewrite. Worked cases: Cases.
 pub mod F32
 pub mod Const
 pub mod Steps
@@ -12,5 +13,10 @@ pub mod Bounds
 pub mod Index
 pub mod Signs
 pub mod Values
+pub mod Sized
+pub mod Least
+pub mod Quotients
+pub mod Squares
+pub mod Upto
 pub mod Rewrite
 pub mod Cases

@@ -4,10 +4,10 @@ use mathlib.Core.List.{List}
 use Prim.Native.Nat.{ℕ, _+_, _-_, _<_}
 use lib.ListN.{length, getD, take, drop}
 use lib.Ieee.{Float}
-use Rattle.passes.specs.Pixel.{unpack}
+use Rattle.passes.specs.Plain.Pixel.{unpack}
 use Rattle.passes.specs.Rows.{Rowed, row-length, row-word}
-use Rattle.passes.specs.Blur.{blurBy}
-use Rattle.passes.specs.Ntsc.{chroma, pixel, sample}
+use Rattle.passes.specs.Plain.Blur.{blurBy}
+use Rattle.passes.specs.Plain.Ntsc.{chroma, pixel, sample}
 use Rattle.passes.proofs.Offsets.{blur-same}
 
 -- a component of a row, blurred

@@ -17,7 +17,8 @@ use Rattle.num.specs.Const.{c2·0}
 use Rattle.num.specs.F32.{_⊖_, _⊗_, _⊘_, whole}
 use Rattle.num.specs.Signs.{round-neg, square-neg, div-neg}
 use Rattle.num.specs.Values.{whole-value, half-value}
-use Rattle.passes.specs.Vignette.{square}
+use Rattle.passes.specs as Text
+use Rattle.passes.specs.Plain.Vignette.{square}
 
 -- a quotient squared drops the sign of what is divided
 abbrev ratio : Float → Float → Float
@@ -91,7 +92,7 @@ middle n l =
 -- ---- the law
 
 square-is : (n k : ℕ) → n ≤ 1024 → k ≤ 1024 → square n k ≡ ratio (whole n ⊘ c2·0) (round binary32 false (gap n k) 2)
-unfolding square
+unfolding Text.Vignette.square
 square-is n k l m =
     let d = difference (whole k) (whole n ⊘ c2·0) n k (whole-value k (omega arith)) (middle n l) in
     ap (ratio (whole n ⊘ c2·0)) (d .1) ∙ ratio-sign (whole n ⊘ c2·0) (d .0) (gap n k) 2

@@ -13,9 +13,12 @@ use lib.Seq.{length-take-le, getD-take, getD-drop}
 use lib.Ieee.{Float, nan}
 use borrow.Author.Tests.{le-leb, lt-leb, lt-ltb, le-ltb, ltb-true}
 use Rattle.num.specs.F32.{_⊕_, _⊗_}
-use Rattle.num.specs.Rewrite.{Rewritten, rewrite, every, fill, length-rewrite, rewrite-ext, rewrite-same, rewrite-stop, getD-rewrite, getD-fill, mid, part}
+use Rattle.num.specs.Rewrite.{Rewritten, rewrite, every, fill, length-rewrite, rewrite-ext, rewrite-same, rewrite-stop}
+use Rattle.num.specs.Rewrite.{getD-rewrite, getD-fill, mid, part}
+use Rattle.passes.specs as Text
 use Rattle.passes.specs.declared.blur.Four.{Four}
-use Rattle.passes.specs.Blur.{at, cell, weight, distance, inside, taken, step, total, weights, weighted, ratio, blurBy, blurAt, Begins}
+use Rattle.passes.specs.Plain.Blur.{at, cell, weight, distance, inside, taken, step, total, weights, weighted}
+use Rattle.passes.specs.Plain.Blur.{ratio, blurBy, blurAt, Begins}
 use Rattle.passes.specs.Private.{fourWeights, onward}
 
 lt-or-le : (a b : ℕ) → (a < b) ⊎ (b ≤ a)
@@ -52,7 +55,7 @@ taken-same false p q = p
 -- only the samples inside matter
 total-same : (term term′ : ℕ → Float → Float) (n radius x k : ℕ) → ((i : ℕ) (w : Float) → i < n → term i w ≡ term′ i w)
     → total term n radius x k ≡ total term′ n radius x k
-unfolding total
+unfolding Text.Blur.total
 total-same term term′ n radius x zero h = refl
 total-same term term′ n radius x (suc k) h =
     taken-same (inside n radius x k) (total-same term term′ n radius x k h) (λ e. h (x + k - radius) _ (inside-below n radius x k e))
@@ -66,12 +69,12 @@ pub blur-by : (sums f : ℕ → Float) (n radius x : ℕ) → sums x ≡ weights
 blur-by sums f n radius x e = ap (ratio (weighted f n radius x)) e
 
 pub total-more : (term : ℕ → Float → Float) (n radius x k : ℕ) → total term n radius x (k + 1) ≡ step term n radius x k (total term n radius x k)
-unfolding total
+unfolding Text.Blur.total
 total-more term n radius x k = rw add-one
 
 -- m offsets more
 pub total-onward : (term : ℕ → Float → Float) (n radius x k m : ℕ) → onward term n radius x k m (total term n radius x k) ≡ total term n radius x (k + m)
-unfolding total onward
+unfolding Text.Blur.total onward
 total-onward term n radius x k zero = ap (total term n radius x) (sym (add-zero k))
 total-onward term n radius x k (suc m) = ap (step term n radius x (k + m)) (total-onward term n radius x k m) ∙ ap (total term n radius x) (sym (add-suc k m))
 

@@ -5,10 +5,10 @@ use Prim.Native.Nat.{ℕ, _+_, _-_, _*_, _/_, _%_, _≤_, _<_}
 use native.Mathlib.Omega.{arith}
 use lib.ListN.{length, getD, take, drop}
 use lib.Ieee.{Float, nan}
-use Rattle.passes.specs.Pixel.{rgb}
+use Rattle.passes.specs.Plain.Pixel.{rgb}
 use Rattle.passes.specs.Rows.{lent-length, lent-word, sampled, getD-sampled, column, row, row-ends}
-use Rattle.passes.specs.Blur.{at, weights, blurBy, down}
-use Rattle.passes.specs.Bloom.{composite, brightOf, sample, horizontalBy, stored}
+use Rattle.passes.specs.Plain.Blur.{at, weights, blurBy, down}
+use Rattle.passes.specs.Plain.Bloom.{composite, brightOf, sample, horizontalBy, stored}
 use Rattle.passes.proofs.Offsets.{blur-same}
 
 pub same-composite : (s : Float) {r r′ g g′ b b′ : Float} (p : ℕ) → r ≡ r′ → g ≡ g′ → b ≡ b′

@@ -10,9 +10,10 @@ use lib.Dec.{ltb}
 use lib.ListN.{length, getD, take, drop, length-append, List·getD-append}
 use lib.Seq.{length-take-le, getD-take, getD-append-add}
 use borrow.Author.Tests.{ltb-true, ltb-false, lt-ltb, le-ltb, le-leb, lt-leb}
-use Rattle.num.specs.Rewrite.{rewrite, Rewritten, part, rewrite-same, rewrite-ext, rewrite-twice, rewrite-split, rewrite-copy, rewrite-stop, length-rewrite, getD-rewrite-rest}
+use Rattle.num.specs.Rewrite.{rewrite, Rewritten, part, rewrite-same, rewrite-ext, rewrite-twice, rewrite-split}
+use Rattle.num.specs.Rewrite.{rewrite-copy, rewrite-stop, length-rewrite, getD-rewrite-rest}
 use Rattle.passes.specs.Rows.{some, column, row-ends, lent-length, lent-word}
-use Rattle.passes.specs.Persistence.{shifted}
+use Rattle.passes.specs.Plain.Persistence.{shifted}
 use Rattle.passes.specs.Private.{came, rowShift}
 
 -- ## The rule, by column

@@ -1,60 +1,67 @@
--- Bloom: what is bright in the frame, blurred along rows and then along columns, is laid over it. Assumes nothing.
-use Prim.Native.Nat.{ℕ, _+_, _*_}
+-- Bloom: what is bright in the frame, blurred along rows and then along columns, is laid over it.
+-- A is the arithmetic (Arith.antt): binary32 in the product. Definitions only.
+use Prim.Native.Nat.{ℕ}
 use mathlib.Core.Bool.{cond}
 use mathlib.Core.List.{List}
-use lib.ListN.{getD}
-use lib.Ieee.{Float, le}
-use Rattle.num.specs.Steps.{clampOf}
 use Rattle.num.specs.Const.{c0·0, c1·0, c255·0}
-use Rattle.num.specs.F32.{_⊕_, _⊖_, _⊗_, _⊘_, whole}
-use Rattle.passes.specs.Pixel.{packLimited, unpack, rgb, scaled, channel, luma709}
-use Rattle.passes.specs.Blur.{blurBy, weights, down, cell}
 use Rattle.num.specs.Rewrite.{every}
+use Rattle.passes.specs.Arith.{Arith}
+use Rattle.passes.specs.Blur.{blurBy, weights, down}
+use Rattle.passes.specs.Pixel.{packLimited, unpack, scaled, channel, luma709}
 use Rattle.passes.specs.Rows.{placed}
-use Rattle.passes.specs.declared.pixel.Rgb.{Rgb}
 
--- how far a brightness lies above the threshold, from 0 to 1
-abbrev pub intensity : Float → Float → Float
-intensity threshold brightness = clampOf ((brightness ⊖ threshold) ⊘ (c255·0 ⊖ threshold)) c0·0 c1·0
+module _ (A : Arith) where
+  open Arith A using (F, lit, whole, _⊕_, _⊖_, _⊗_, _⊘_, clamp, atMost, Rgb, rgb, red, green, blue, cell)
 
--- the bright part of a colour: none up to the threshold
-unfoldable pub bright : Float → Rgb → Rgb
-bright threshold c =
-    let brightness = luma709 c in
-    cond (le brightness threshold) (rgb c0·0 c0·0 c0·0) (scaled (intensity threshold brightness) c)
+  infixl 6 _⊕_
+  infixl 6 _⊖_
+  infixl 7 _⊗_
+  infixl 7 _⊘_
+  -- how far a brightness lies above the threshold, from 0 to 1
+  abbrev pub intensity : F → F → F
+  intensity threshold brightness = clamp ((brightness ⊖ threshold) ⊘ (lit c255·0 ⊖ threshold)) (lit c0·0) (lit c1·0)
 
--- one channel of a word's bright part, and of that at column x and row y of a frame
-abbrev pub brightOf : Float → ℕ → ℕ → Float
-brightOf threshold which p = channel which (bright threshold (unpack p))
+  -- the bright part of a colour: none up to the threshold. Document 01 allows for a division by zero at threshold 255, if
+  -- rounding lifted white above it. It does not: no luma is above 255 (`luma-top` in Inside/Bloom.antt), so at 255 no
+  -- colour is bright, and the divisor is 1 or more wherever it is reached
+  unfoldable pub bright : F → Rgb → Rgb
+  bright threshold c =
+      let brightness = luma709 A c in
+      let nothing = rgb (lit c0·0) (lit c0·0) (lit c0·0) in
+      cond (atMost brightness threshold) nothing (scaled A (intensity threshold brightness) c)
 
-abbrev pub sample : Float → List ℕ → ℕ → ℕ → ℕ → ℕ → Float
-sample threshold frame w which x y = brightOf threshold which (getD frame (y * w + x) 0)
+  -- one channel of a word's bright part, and of that at column x and row y of a frame
+  abbrev pub brightOf : F → ℕ → ℕ → F
+  brightOf threshold which p = channel A which (bright threshold (unpack A p))
 
--- blurred along rows; `sums` gives the sum of the weights at each column
-abbrev pub horizontalBy : (ℕ → Float) → ℕ → ℕ → Float → List ℕ → ℕ → ℕ → ℕ → Float
-horizontalBy sums w radius threshold frame which x y = blurBy sums (λ i. sample threshold frame w which i y) w radius x
+  abbrev pub sample : F → List ℕ → ℕ → ℕ → ℕ → ℕ → F
+  sample threshold frame w which x y = brightOf threshold which (cell w frame x y)
 
-abbrev pub horizontal : ℕ → ℕ → Float → List ℕ → ℕ → ℕ → ℕ → Float
-horizontal w radius threshold frame = horizontalBy (weights w radius) w radius threshold frame
+  -- blurred along rows; `sums` gives the sum of the weights at each column
+  abbrev pub horizontalBy : (ℕ → F) → ℕ → ℕ → F → List ℕ → ℕ → ℕ → ℕ → F
+  horizontalBy sums w radius threshold frame which x y =
+      blurBy A sums (λ i. sample threshold frame w which i y) w radius x
 
--- three planes of samples, blurred along columns
-abbrev pub vertical : ℕ → ℕ → (ℕ → ℕ → ℕ → Float) → ℕ → ℕ → Rgb
-vertical h radius plane x y = rgb (down h radius (plane 0) x y) (down h radius (plane 1) x y) (down h radius (plane 2) x y)
+  abbrev pub horizontal : ℕ → ℕ → F → List ℕ → ℕ → ℕ → ℕ → F
+  horizontal w radius threshold frame = horizontalBy (weights A w radius) w radius threshold frame
 
--- the glow of a word laid over it
-unfoldable pub composite : Float → Rgb → ℕ → ℕ
-composite strength glow p =
-    let c = unpack p in
-    packLimited (rgb (c .r ⊕ glow .r ⊗ strength) (c .g ⊕ glow .g ⊗ strength) (c .b ⊕ glow .b ⊗ strength))
+  -- three planes of samples, blurred along columns
+  abbrev pub vertical : ℕ → ℕ → (ℕ → ℕ → ℕ → F) → ℕ → ℕ → Rgb
+  vertical h radius plane x y =
+      rgb (down A h radius (plane 0) x y) (down A h radius (plane 1) x y) (down A h radius (plane 2) x y)
 
--- a frame and three planes that are blurred along rows
-abbrev pub over : ℕ → ℕ → Float → ℕ → (ℕ → ℕ → ℕ → Float) → List ℕ → List ℕ
-over w h strength radius plane frame = every (placed w (λ x y. composite strength (vertical h radius plane x y))) frame
+  -- the glow of a word laid over it
+  unfoldable pub composite : F → Rgb → ℕ → ℕ
+  composite strength glow p =
+      let c = unpack A p in
+      packLimited A
+      (rgb (red c ⊕ red glow ⊗ strength) (green c ⊕ green glow ⊗ strength) (blue c ⊕ blue glow ⊗ strength))
 
-unfoldable pub bloom : ℕ → ℕ → ℕ → Float → ℕ → List ℕ → List ℕ
-bloom w h threshold strength radius frame = over w h strength radius (horizontal w radius (whole threshold) frame) frame
+  -- a frame and three planes that are blurred along rows
+  abbrev pub over : ℕ → ℕ → F → ℕ → (ℕ → ℕ → ℕ → F) → List ℕ → List ℕ
+  over w h strength radius plane frame =
+      every (placed w (λ x y. composite strength (vertical h radius plane x y))) frame
 
--- ---- the planes as they are stored: row y has its red samples, then its green ones, then its blue ones
-
-abbrev pub stored : List Float → ℕ → ℕ → ℕ → ℕ → Float
-stored planes w which x y = cell planes (3 * w) (which * w + x) y
+  unfoldable pub bloom : ℕ → ℕ → ℕ → F → ℕ → List ℕ → List ℕ
+  bloom w h threshold strength radius frame =
+      over w h strength radius (horizontal w radius (whole threshold) frame) frame

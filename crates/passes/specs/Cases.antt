@@ -1,5 +1,6 @@
--- The cases of the passes: those that document 01 marks (●), and one for each treatment that it leaves to the Rust. Each list pairs what a definition gives
--- with what it should give, and one proof by computation holds the whole list. Assumes nothing.
+-- The cases of the passes: those that document 01 marks (●), and one for each treatment that it leaves to the Rust.
+-- Each list pairs what a definition gives with what it should give, and one proof by computation holds the whole list.
+-- Assumes nothing.
 use mathlib.Core.List.{List, [], _∷_}
 use mathlib.Core.Path.{refl}
 use Prim.Native.Nat.{ℕ}
@@ -8,22 +9,20 @@ use Rattle.num.specs.Cases.{Hold}
 use Rattle.num.specs.Const.{c0·0, c0·5, c1·0}
 use Rattle.num.specs.Root.{rootOf}
 use Rattle.num.specs.Steps.{clampOf, minOf, maxOf, absOf, cutOf, roundOf}
+use Rattle.passes.specs as Text
 use Rattle.passes.specs.Fold.{fold}
-use Rattle.passes.specs.Pixel.{unpack, unit, channel, pack, packNearest, packLimited, packUnit, dim, luma601, luma709}
-use Rattle.passes.specs.Position.{position}
 use Rattle.num.specs.Rewrite.{rewrite}
 use Rattle.passes.specs.Flow.{sized, sameHeld, Flow, flow}
-use Rattle.passes.specs.Blur as Blur
-use Rattle.passes.specs.Scanlines as Scanlines
-use Rattle.passes.specs.Vignette as Vignette
-use Rattle.passes.specs.Crt as Crt
-use Rattle.passes.specs.Curvature as Curvature
-use Rattle.passes.specs.AutoGradient as AutoGradient
-use Rattle.passes.specs.Persistence as Persistence
-use Rattle.passes.specs.ColorCorrection as ColorCorrection
-use Rattle.passes.specs.Lut as Lut
-use Rattle.passes.specs.Ntsc as Ntsc
-use Rattle.passes.specs.Bloom as Bloom
+use Rattle.passes.specs.Plain.Scanlines as Scanlines
+use Rattle.passes.specs.Plain.Vignette as Vignette
+use Rattle.passes.specs.Plain.Crt as Crt
+use Rattle.passes.specs.Plain.Curvature as Curvature
+use Rattle.passes.specs.Plain.AutoGradient as AutoGradient
+use Rattle.passes.specs.Plain.Persistence as Persistence
+use Rattle.passes.specs.Plain.ColorCorrection as ColorCorrection
+use Rattle.passes.specs.Plain.Lut as Lut
+use Rattle.passes.specs.Plain.Ntsc as Ntsc
+use Rattle.passes.specs.Plain.Bloom as Bloom
 
 abbrev grey : List ℕ
 grey = 0xc8c8c8 ∷ 0xc8c8c8 ∷ 0xc8c8c8 ∷ 0xc8c8c8 ∷ 0xc8c8c8 ∷ 0xc8c8c8 ∷ 0xc8c8c8 ∷ 0xc8c8c8 ∷ 0xc8c8c8 ∷ []
@@ -44,9 +43,9 @@ second = shown first 0
 abbrev third : Flow
 third = shown second 0
 
--- ● Scanlines 1.0, 1 by 2. Vignette 1.0, 2 by 2: only the lower right pixel survives. CRT 1.0, 3 by 3 of C8C8C8: centre C1C8C1. Curvature 0.5, 3 by 3: only
--- the centre survives; amount 0 keeps all. Gradient 1, 1, 0 on one black pixel. Persistence 0.5, depth 1: three frames, and the history after them.
--- Colour 1, 1, 1, 1 on black.
+-- ● Scanlines 1.0, 1 by 2. Vignette 1.0, 2 by 2: only the lower right pixel survives. CRT 1.0, 3 by 3 of C8C8C8: centre
+-- C1C8C1. Curvature 0.5, 3 by 3: only the centre survives; amount 0 keeps all. Gradient 1, 1, 0 on one black pixel.
+-- Persistence 0.5, depth 1: three frames, and the history after them. Colour 1, 1, 1, 1 on black.
 abbrev pub marked : List (List ℕ × List ℕ)
 marked =
     (Scanlines.scanlines 1 c1·0 (0xaa123456 ∷ 0xaa123456 ∷ []), 0xaa123456 ∷ 0 ∷ [])
@@ -63,15 +62,16 @@ marked =
     ∷ []
 
 pub marked-hold : Hold marked
-unfolding ofBits ofInt add sub mul div neg lt le clampOf minOf maxOf absOf cutOf roundOf rootOf
-    rewrite fold unpack unit pack packNearest packLimited packUnit dim luma709 position
-    Scanlines.scanlines Scanlines.inRow Vignette.vignette Vignette.square Vignette.factor
-    Crt.crt Crt.beam Crt.phosphor Crt.offset Crt.edge Crt.shade
-    Curvature.curvature Curvature.bend Curvature.sample Curvature.outside
-    AutoGradient.autoGradient AutoGradient.shaded AutoGradient.adaptive AutoGradient.addLuma AutoGradient.warm AutoGradient.brightness AutoGradient.shade
-    sameHeld Persistence.persistence Persistence.decay Persistence.total Persistence.add Persistence.mix Persistence.pixel Persistence.blended Persistence.blend
-    Persistence.copies Persistence.refilled Persistence.shifted
-    ColorCorrection.colorCorrection ColorCorrection.pixel
+unfolding ofBits ofInt add sub mul div neg lt le clampOf minOf maxOf absOf cutOf roundOf rootOf rewrite fold
+    Text.Pixel.unpack Text.Pixel.unit Text.Pixel.pack Text.Pixel.packNearest Text.Pixel.packLimited Text.Pixel.packUnit
+    Text.Pixel.dim Text.Pixel.luma709 Text.Position.position Text.Scanlines.scanlines Text.Scanlines.inRow
+    Text.Vignette.vignette Text.Vignette.square Text.Vignette.factor Text.Crt.crt Text.Crt.beam Text.Crt.phosphor
+    Text.Crt.offset Text.Crt.edge Text.Crt.shade Text.Curvature.curvature Text.Curvature.bend Text.Curvature.sample
+    Text.Curvature.outside Text.AutoGradient.autoGradient Text.AutoGradient.shaded Text.AutoGradient.adaptive
+    Text.AutoGradient.addLuma Text.AutoGradient.warm Text.AutoGradient.brightness Text.AutoGradient.shade sameHeld
+    Text.Persistence.persistence Text.Persistence.decay Text.Persistence.total Text.Persistence.add Text.Persistence.mix
+    Text.Persistence.pixel Text.Persistence.blended Text.Persistence.blend Persistence.copies Persistence.refilled
+    Persistence.shifted Text.ColorCorrection.colorCorrection Text.ColorCorrection.pixel
 marked-hold = refl
 
 -- three colours under each preset at strength 1.0, the first with its top byte set: Identity's steps run too
@@ -90,10 +90,12 @@ presets =
     ∷ []
 
 pub presets-hold : Hold presets
-unfolding ofBits ofInt add sub mul div clampOf cutOf roundOf rewrite unpack unit pack packUnit luma601 Lut.lut Lut.pixel Lut.transform
+unfolding ofBits ofInt add sub mul div clampOf cutOf roundOf rewrite Text.Pixel.unpack Text.Pixel.unit Text.Pixel.pack
+    Text.Pixel.packUnit Text.Pixel.luma601 Text.Lut.lut Text.Lut.pixel Text.Lut.transform
 presets-hold = refl
 
--- NTSC, bleed 1, at strength 1.0 on three colours and at 0.0 on three greys, 3 by 1; bloom, strength 1.0, radius 1, 2 by 2, at thresholds 0, 254 and 255
+-- NTSC, bleed 1, at strength 1.0 on three colours and at 0.0 on three greys, 3 by 1; bloom, strength 1.0, radius 1, 2
+-- by 2, at thresholds 0, 254 and 255
 abbrev pub blurs : List (List ℕ × List ℕ)
 blurs =
     (Ntsc.ntsc 3 c1·0 1 (0xff0000 ∷ 0x00ff00 ∷ 0x0000ff ∷ []), 0x913c00 ∷ 0x70b070 ∷ 0x002c81 ∷ [])
@@ -104,6 +106,7 @@ blurs =
     ∷ []
 
 pub blurs-hold : Hold blurs
-unfolding ofBits ofInt add sub mul div neg lt le clampOf cutOf rewrite unpack pack packLimited channel luma601 luma709 Blur.weight Blur.total
-    Ntsc.ntsc Ntsc.pixel Ntsc.chroma Bloom.bloom Bloom.bright Bloom.composite
+unfolding ofBits ofInt add sub mul div neg lt le clampOf cutOf rewrite Text.Pixel.unpack Text.Pixel.pack
+    Text.Pixel.packLimited Text.Pixel.channel Text.Pixel.luma601 Text.Pixel.luma709 Text.Blur.weight Text.Blur.total
+    Text.Ntsc.ntsc Text.Ntsc.pixel Text.Ntsc.chroma Text.Bloom.bloom Text.Bloom.bright Text.Bloom.composite
 blurs-hold = refl

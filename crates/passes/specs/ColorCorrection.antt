@@ -1,23 +1,31 @@
--- Colour correction at gamma 1.0, where the original's power gives back its operand. Channels run from 0 to 1. Assumes nothing.
+-- Colour correction at gamma 1.0, where the original's power gives back its operand. Channels run from 0 to 1.
+-- A is the arithmetic (Arith.antt): binary32 in the product. Definitions only.
 use Prim.Native.Nat.{ℕ}
 use mathlib.Core.List.{List}
-use lib.Ieee.{Float}
 use Rattle.num.specs.Const.{c0·5}
-use Rattle.num.specs.F32.{_⊕_, _⊖_, _⊗_}
-use Rattle.passes.specs.Pixel.{luma709, packUnit, unit, channels}
 use Rattle.num.specs.Rewrite.{every}
-use Rattle.passes.specs.declared.pixel.Rgb.{Rgb}
+use Rattle.passes.specs.Arith.{Arith}
+use Rattle.passes.specs.Pixel.{luma709, packUnit, unit, channels}
 
--- brightness, then contrast about the middle
-abbrev pub level : Float → Float → Float → Float
-level brightness contrast x = (x ⊕ brightness ⊖ c0·5) ⊗ contrast ⊕ c0·5
+module _ (A : Arith) where
+  open Arith A using (F, lit, _⊕_, _⊖_, _⊗_, Rgb)
 
--- saturation about the luma
-abbrev pub saturate : Float → Rgb → Rgb
-saturate saturation c = let luminance = luma709 c in channels (λ x. luminance ⊕ (x ⊖ luminance) ⊗ saturation) c
+  infixl 6 _⊕_
+  infixl 6 _⊖_
+  infixl 7 _⊗_
+  -- brightness, then contrast about the middle
+  abbrev pub level : F → F → F → F
+  level brightness contrast x = (x ⊕ brightness ⊖ lit c0·5) ⊗ contrast ⊕ lit c0·5
 
-unfoldable pub pixel : Float → Float → Float → ℕ → ℕ
-pixel brightness contrast saturation p = packUnit (saturate saturation (channels (level brightness contrast) (unit p)))
+  -- saturation about the luma
+  abbrev pub saturate : F → Rgb → Rgb
+  saturate saturation c =
+      let luminance = luma709 A c in
+      channels A (λ x. luminance ⊕ (x ⊖ luminance) ⊗ saturation) c
 
-unfoldable pub colorCorrection : Float → Float → Float → List ℕ → List ℕ
-colorCorrection brightness contrast saturation frame = every (λ i. pixel brightness contrast saturation) frame
+  unfoldable pub pixel : F → F → F → ℕ → ℕ
+  pixel brightness contrast saturation p =
+      packUnit A (saturate saturation (channels A (level brightness contrast) (unit A p)))
+
+  unfoldable pub colorCorrection : F → F → F → List ℕ → List ℕ
+  colorCorrection brightness contrast saturation frame = every (λ i. pixel brightness contrast saturation) frame

@@ -1,6 +1,10 @@
--- Laws of loops over a frame: Rows, Fold (num has Rewrite). Definitions that several share: Pixel, Position, Blur. Those that only private functions cite: Private. The passes, each named as its Rust file.
+-- Laws of loops over a frame: Rows, Fold (num has Rewrite). What a pass may do with numbers: Arith. The passes, each
+-- named as its Rust file, and what several share (Pixel, Position, Blur), over any arithmetic; Plain has them at
+-- binary32. Those that only private functions cite: Private. No pass meets what document 01 leaves undefined: Range,
+-- Inside, Casts.
 pub mod Rows
 pub mod Fold
+pub mod Arith
 pub mod Pixel
 pub mod Position
 pub mod Blur
@@ -15,7 +19,11 @@ pub mod Ntsc
 pub mod Bloom
 pub mod Flow
 pub mod Persistence
+pub mod Plain
 pub mod PersistenceLaws
 pub mod Private
 pub mod Lengths
 pub mod Cases
+pub mod Range
+pub mod Inside
+pub mod Casts

@@ -9,8 +9,9 @@ use lib.Seq.{take-append-add, getD-take, length-take-le, drop-at}
 use lib.Ieee.{Float}
 use Rattle.num.specs.Const.{c1·0}
 use Rattle.num.specs.F32.{_⊘_}
-use Rattle.passes.specs.Pixel.{packLimited}
-use Rattle.passes.specs.Persistence.{total, weight, add, mix, pixel, blended, blend, copies, refilled, shifted}
+use Rattle.passes.specs as Text
+use Rattle.passes.specs.Plain.Pixel.{packLimited}
+use Rattle.passes.specs.Plain.Persistence.{total, weight, add, mix, blended, blend, copies, refilled, shifted}
 use Rattle.num.specs.Rewrite.{length-rewrite, rewrite-ext}
 use Rattle.passes.specs.Rows.{row-ends}
 use Rattle.passes.specs.declared.pixel.Rgb.{Rgb}
@@ -18,13 +19,13 @@ use Rattle.passes.specs.declared.pixel.Rgb.{Rgb}
 -- ## The picture
 
 pub blend-length : (amount : Float) (k : ℕ) (past frame : List ℕ) → length (blend amount k past frame) ≡ length frame
-unfolding blend blended
+unfolding Text.Persistence.blend Text.Persistence.blended
 blend-length amount k past frame = length-rewrite (length frame) _ frame
 
 -- two mixes with the same weights of the same words
 pub mix-same : (w : Float) (ws vs : ℕ → Float) (past was : List ℕ) (n i p k : ℕ) → ((j : ℕ) → j < k → ws j ≡ vs j)
     → ((j : ℕ) → j < k → getD past (j * n + i) 0 ≡ getD was (j * n + i) 0) → mix w ws past n i p k ≡ mix w vs was n i p k
-unfolding mix
+unfolding Text.Persistence.mix
 mix-same w ws vs past was n i p zero f g = refl
 mix-same w ws vs past was n i p (suc k) f g =
     ap₂ (λ (x : Float) (q : ℕ). add (mix w ws past n i p k) x q) (f k (le-refl (suc k))) (g k (le-refl (suc k)))
@@ -33,14 +34,14 @@ mix-same w ws vs past was n i p (suc k) f g =
 -- the weights of the k older frames alone count
 pub blended-same : (w : Float) (ws vs : ℕ → Float) (k : ℕ) (past frame : List ℕ) → ((j : ℕ) → j < k → ws j ≡ vs j)
     → blended w ws k past frame ≡ blended w vs k past frame
-unfolding blended pixel
+unfolding Text.Persistence.blended Text.Persistence.pixel
 blended-same w ws vs k past frame f =
     rewrite-ext (length frame) _ _ frame
     (λ i p l. ap packLimited (mix-same w ws vs past past (length frame) i p k f (λ j h. refl)))
 
 -- the k places alone are read
 pub blend-take : (amount : Float) (k : ℕ) (past frame : List ℕ) → blend amount k (take (k * length frame) past) frame ≡ blend amount k past frame
-unfolding blend blended pixel
+unfolding Text.Persistence.blend Text.Persistence.blended Text.Persistence.pixel
 blend-take amount k past frame =
     let t = total amount k in
     let n = length frame in

@@ -7,7 +7,7 @@ use lib.Dec.{leb, ltb}
 use lib.ListN.{length, getD}
 use lib.Ieee.{Float}
 use Rattle.passes.specs.declared.blur.Four.{Four}
-use Rattle.passes.specs.Blur.{distance, weight, step}
+use Rattle.passes.specs.Plain.Blur.{distance, weight, step}
 
 -- ---- LUT by a table
 

@@ -1,20 +1,24 @@
--- Scanlines: odd rows are dimmed, even rows stay as they are, top byte included. Assumes nothing.
+-- Scanlines: odd rows are dimmed, even rows stay as they are, top byte included.
+-- A is the arithmetic (Arith.antt): binary32 in the product. Definitions only.
 use Prim.Native.Nat.{ℕ, zero, suc, _%_}
 use mathlib.Core.List.{List}
-use lib.Ieee.{Float}
 use Rattle.num.specs.Const.{c1·0}
-use Rattle.num.specs.F32.{_⊖_}
-use Rattle.passes.specs.Pixel.{dim}
 use Rattle.num.specs.Rewrite.{every}
+use Rattle.passes.specs.Arith.{Arith}
+use Rattle.passes.specs.Pixel.{dim}
 use Rattle.passes.specs.Rows.{placed}
 
--- by the row modulo two
-unfoldable pub inRow : ℕ → Float → ℕ → ℕ
-inRow zero strength p = p
-inRow (suc n) strength p = dim (c1·0 ⊖ strength) p
+module _ (A : Arith) where
+  open Arith A using (F, lit, _⊖_)
 
-abbrev pub at : Float → ℕ → ℕ → ℕ → ℕ
-at strength x y = inRow (y % 2) strength
+  infixl 6 _⊖_
+  -- by the row modulo two
+  unfoldable pub inRow : ℕ → F → ℕ → ℕ
+  inRow zero strength p = p
+  inRow (suc n) strength p = dim A (lit c1·0 ⊖ strength) p
 
-unfoldable pub scanlines : ℕ → Float → List ℕ → List ℕ
-scanlines w strength frame = every (placed w (at strength)) frame
+  abbrev pub at : F → ℕ → ℕ → ℕ → ℕ
+  at strength x y = inRow (y % 2) strength
+
+  unfoldable pub scanlines : ℕ → F → List ℕ → List ℕ
+  scanlines w strength frame = every (placed w (at strength)) frame

@@ -6,7 +6,7 @@ ghost use Rattle.num.specs.Const.{c0·0};
 ghost use Rattle.passes.specs.Fold.{fold};
 ghost use Rattle.num.specs.Rewrite.{every};
 ghost use Rattle.passes.specs.Rows.{Frame};
-ghost use Rattle.passes.specs.AutoGradient as AutoGradient;
+ghost use Rattle.passes.specs.Plain.AutoGradient as AutoGradient;
 use crate::pixel;
 use crate::pixel::Rgb;
 use crate::rows;

@@ -2,11 +2,11 @@
 ghost use mathlib.Core.Path.{_≡_};
 ghost use Prim.Native.Nat.{_+_, _*_, _/_, _%_, _≤_, _<_};
 ghost use lib.ListN.{length, getD, drop};
-ghost use Rattle.passes.specs.Pixel.{rgb};
+ghost use Rattle.passes.specs.Plain.Pixel.{rgb};
 ghost use Rattle.num.specs.Rewrite.{every, fill};
 ghost use Rattle.passes.specs.Rows.{Frame, sampled};
-ghost use Rattle.passes.specs.Blur.{at, blurBy, ratio};
-ghost use Rattle.passes.specs.Bloom as Bloom;
+ghost use Rattle.passes.specs.Plain.Blur.{at, blurBy, ratio};
+ghost use Rattle.passes.specs.Plain.Bloom as Bloom;
 use crate::blur;
 use crate::pixel;
 use crate::pixel::Rgb;

@@ -6,8 +6,8 @@ ghost use lib.ListN.{length, take, drop};
 ghost use Rattle.num.specs.Const.{c0·0};
 ghost use Rattle.num.specs.F32.{_⊕_, _⊗_};
 ghost use Rattle.num.specs.Rewrite.{rewrite, every, fill};
-ghost use Rattle.passes.specs.Blur as Blur;
-ghost use Rattle.passes.specs.Blur.{at, cell};
+ghost use Rattle.passes.specs.Plain.Blur as Blur;
+ghost use Rattle.passes.specs.Plain.Blur.{at, cell};
 ghost use Rattle.passes.specs.Private.{fourWeights, onward};
 
 // 1 - distance / (radius + 1)

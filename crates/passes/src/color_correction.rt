@@ -1,6 +1,6 @@
 // Colour correction at gamma 1.0, where the original's power gives back its operand.
 ghost use mathlib.Core.Path.{_≡_};
-ghost use Rattle.passes.specs.ColorCorrection as ColorCorrection;
+ghost use Rattle.passes.specs.Plain.ColorCorrection as ColorCorrection;
 use crate::pixel;
 use crate::pixel::Rgb;
 

@@ -4,7 +4,7 @@ ghost use Prim.Native.Nat.{_≤_, _<_};
 ghost use lib.ListN.{length};
 ghost use Rattle.num.specs.Rewrite.{every};
 ghost use Rattle.passes.specs.Rows.{Frame};
-ghost use Rattle.passes.specs.Crt as Crt;
+ghost use Rattle.passes.specs.Plain.Crt as Crt;
 use crate::pixel;
 use crate::pixel::Rgb;
 

@@ -6,7 +6,7 @@ ghost use lib.ListN.{length, getD, drop};
 ghost use Rattle.num.specs.Index.{indexOf};
 ghost use Rattle.num.specs.Rewrite.{every};
 ghost use Rattle.passes.specs.Rows.{Frame};
-ghost use Rattle.passes.specs.Curvature as Curvature;
+ghost use Rattle.passes.specs.Plain.Curvature as Curvature;
 use crate::rows;
 
 fn outside(s: f32) -> bool

@@ -3,7 +3,7 @@ ghost use mathlib.Core.Path.{_≡_};
 ghost use Prim.Native.Nat.{_*_, _≤_};
 ghost use lib.ListN.{length, getD};
 ghost use Rattle.num.specs.Rewrite.{every, fill};
-ghost use Rattle.passes.specs.Lut as Lut;
+ghost use Rattle.passes.specs.Plain.Lut as Lut;
 ghost use Rattle.passes.specs.Private.{picked};
 use crate::pixel;
 use crate::pixel::Rgb;

@@ -1,6 +1,6 @@
 // A pixel word 0xRRGGBB, its three channels, and the ways from channels back to a word.
 ghost use mathlib.Core.Path.{_≡_};
-ghost use Rattle.passes.specs.Pixel as Pixel;
+ghost use Rattle.passes.specs.Plain.Pixel as Pixel;
 
 pub struct Rgb {
     pub r: f32,

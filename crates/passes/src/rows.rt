@@ -2,7 +2,7 @@
 ghost use mathlib.Core.Path.{_≡_};
 ghost use Prim.Native.Nat.{_-_, max, _≤_};
 ghost use lib.ListN.{length};
-ghost use Rattle.passes.specs.Position as Position;
+ghost use Rattle.passes.specs.Plain.Position as Position;
 
 // n - 1, and at least 1.
 fn last(n: usize) -> usize

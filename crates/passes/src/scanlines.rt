@@ -2,7 +2,7 @@
 ghost use mathlib.Core.Path.{_≡_};
 ghost use Rattle.num.specs.Rewrite.{every};
 ghost use Rattle.passes.specs.Rows.{Frame};
-ghost use Rattle.passes.specs.Scanlines as Scanlines;
+ghost use Rattle.passes.specs.Plain.Scanlines as Scanlines;
 use crate::pixel;
 
 // One row of the frame.

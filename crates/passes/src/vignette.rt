@@ -7,10 +7,10 @@ ghost use lib.ListN.{length, getD, drop};
 ghost use lib.Ieee.{nan};
 ghost use Rattle.num.specs.F32.{_⊕_};
 ghost use Rattle.num.specs.Root.{rootOf};
-ghost use Rattle.passes.specs.Pixel as Pixel;
+ghost use Rattle.passes.specs.Plain.Pixel as Pixel;
 ghost use Rattle.num.specs.Rewrite.{every, fill};
 ghost use Rattle.passes.specs.Rows.{Frame, sampled};
-ghost use Rattle.passes.specs.Vignette as Vignette;
+ghost use Rattle.passes.specs.Plain.Vignette as Vignette;
 use crate::pixel;
 
 // How far k is from the middle of n, in halves of n, squared.

@@ -2,18 +2,18 @@
 ghost use mathlib.Core.Path.{_≡_};
 ghost use Prim.Native.Nat.{_*_, _≤_, _<_};
 ghost use lib.ListN.{length, drop};
-ghost use Rattle.passes.specs.Bloom as Bloom;
-ghost use Rattle.passes.specs.Crt as Crt;
-ghost use Rattle.passes.specs.Curvature as Curvature;
+ghost use Rattle.passes.specs.Plain.Bloom as Bloom;
+ghost use Rattle.passes.specs.Plain.Crt as Crt;
+ghost use Rattle.passes.specs.Plain.Curvature as Curvature;
 ghost use Rattle.passes.specs.Flow.{flow};
-ghost use Rattle.passes.specs.Ntsc as Ntsc;
-ghost use Rattle.passes.specs.Persistence as Persistence;
+ghost use Rattle.passes.specs.Plain.Ntsc as Ntsc;
+ghost use Rattle.passes.specs.Plain.Persistence as Persistence;
 ghost use Rattle.passes.specs.Rows.{Frame};
-ghost use Rattle.passes.specs.AutoGradient as AutoGradient;
-ghost use Rattle.passes.specs.ColorCorrection as ColorCorrection;
-ghost use Rattle.passes.specs.Lut as Lut;
-ghost use Rattle.passes.specs.Scanlines as Scanlines;
-ghost use Rattle.passes.specs.Vignette as Vignette;
+ghost use Rattle.passes.specs.Plain.AutoGradient as AutoGradient;
+ghost use Rattle.passes.specs.Plain.ColorCorrection as ColorCorrection;
+ghost use Rattle.passes.specs.Plain.Lut as Lut;
+ghost use Rattle.passes.specs.Plain.Scanlines as Scanlines;
+ghost use Rattle.passes.specs.Plain.Vignette as Vignette;
 
 #[no_mangle]
 pub extern "C" fn probe_auto_gradient(

@@ -4,7 +4,7 @@ use native.Mathlib.Omega.{arith}
 use borrow.Author.Needs.{needs}
 use Rattle.passes.specs.Flow.{flow}
 use Rattle.passes.specs.Rows.{frame-small}
-use Rattle.chain.specs.Chain.{over, wash}
+use Rattle.chain.specs.Chain.{overBy, wash}
 use Rattle.chain.proofs.Lending.{bleed-fine, radius-fine, depth-fine, washed, persisted}
 use Rattle.chain.proofs.run.run_pass.Statement.{statement}
 use Rattle.chain.proofs.run.run_pass.Tie as tie
@@ -27,19 +27,19 @@ apply-requires-4 c κs =
     (deep .0, deep .1, omega arith, frame-small (start .pre .0 .shape))
 
 returns : tie.Need-returns
-unfolding over wash
+unfolding overBy wash
 returns c =
     let a = c .before .before .before .before .before .before .before .before .before .before .before .args in
     washed (a .width) (a .height) (a .frame .now) (c .before .before .before .before .before .pass .given .1) (c .before .before .apply .ensures) refl
 
 returns-2 : tie.Need-returns-2
-unfolding over wash
+unfolding overBy wash
 returns-2 c =
     let a = c .before .before .before .before .before .before .before .before .before .before .before .before .before .before .args in
     washed (a .width) (a .height) (a .frame .now) (c .before .before .before .before .before .before .before .before .pass2 .given .1) (c .before .before .before .before .apply2 .ensures .0) refl
 
 returns-3 : tie.Need-returns-3
-unfolding over wash
+unfolding overBy wash
 returns-3 c =
     let a = c .before .before .before .before .before .before .before .before .before .before .before .args in
     washed (a .width) (a .height) (a .frame .now) (c .before .before .before .before .before .pass3 .given .1) (c .before .before .apply3 .ensures) refl
@@ -51,37 +51,37 @@ returns-4 c =
     persisted (a .width) (a .height) (flow (a .frame .now) (a .held) (a .history .now)) (start .pre .0 .shape .area) (c .before .before .before .before .before .before .before .before .before .before .before .pass4 .given .1) (c .before .before .before .before .before .before .apply4 .ensures .0)
 
 returns-5 : tie.Need-returns-5
-unfolding over wash
+unfolding overBy wash
 returns-5 c =
     let a = c .before .before .before .before .before .before .before .before .before .before .before .args in
     washed (a .width) (a .height) (a .frame .now) (c .before .before .before .before .before .pass5 .given .1) (c .before .before .apply5 .ensures) refl
 
 returns-6 : tie.Need-returns-6
-unfolding over wash
+unfolding overBy wash
 returns-6 c =
     let a = c .before .before .before .before .before .before .before .before .before .before .before .before .before .before .args in
     washed (a .width) (a .height) (a .frame .now) (c .before .before .before .before .before .before .before .before .pass6 .given .1) (c .before .before .before .before .apply6 .ensures .0) refl
 
 returns-7 : tie.Need-returns-7
-unfolding over wash
+unfolding overBy wash
 returns-7 c =
     let a = c .before .before .before .before .before .before .before .before .before .before .before .args in
     washed (a .width) (a .height) (a .frame .now) (c .before .before .before .before .before .pass7 .given .1) (c .before .before .apply7 .ensures) refl
 
 returns-8 : tie.Need-returns-8
-unfolding over wash
+unfolding overBy wash
 returns-8 c =
     let a = c .before .before .before .before .before .before .before .before .before .before .before .args in
     washed (a .width) (a .height) (a .frame .now) (c .before .before .before .before .before .pass8 .given .1) (c .before .before .apply8 .ensures) refl
 
 returns-9 : tie.Need-returns-9
-unfolding over wash
+unfolding overBy wash
 returns-9 c =
     let a = c .before .before .before .before .before .before .before .before .before .before .before .before .before .before .args in
     washed (a .width) (a .height) (a .frame .now) (c .before .before .before .before .before .before .before .before .pass9 .given .1) (c .before .before .before .before .apply9 .ensures .0) refl
 
 returns-10 : tie.Need-returns-10
-unfolding over wash
+unfolding overBy wash
 returns-10 c =
     let a = c .before .before .before .before .before .before .before .before .before .before .before .args in
     washed (a .width) (a .height) (a .frame .now) (c .before .before .before .before .before .pass10 .given .1) (c .before .before .apply10 .ensures) refl

@@ -1,7 +1,7 @@
 -- `passes::auto_gradient::apply` meets its contract. Assumes nothing.
 use native.Mathlib.Omega.{arith}
+use Rattle.passes.specs as Text
 use Rattle.passes.specs.Rows.{frame-small}
-use Rattle.passes.specs.AutoGradient.{autoGradient}
 use borrow.Author.Needs.{needs}
 use Rattle.passes.proofs.auto_gradient.apply.Statement.{statement}
 use Rattle.passes.proofs.auto_gradient.apply.Tie as tie
@@ -13,7 +13,7 @@ adaptive-requires : tie.Need-adaptive-requires
 adaptive-requires c κs = omega (arith, frame-small (c .before .before .before .pre))
 
 returns : tie.Need-returns
-unfolding autoGradient
+unfolding Text.AutoGradient.autoGradient
 returns c = cc
 
 pub apply-spec : {M : Type 1} → statement M

@@ -1,11 +1,11 @@
 -- `passes::auto_gradient::brightness` meets its contract. Assumes nothing.
 use borrow.Author.Needs.{needs}
-use Rattle.passes.specs.AutoGradient.{brightness}
+use Rattle.passes.specs as Text
 use Rattle.passes.proofs.auto_gradient.brightness.Statement.{statement}
 use Rattle.passes.proofs.auto_gradient.brightness.Tie as tie
 
 returns : tie.Need-returns
-unfolding brightness
+unfolding Text.AutoGradient.brightness
 returns c = cc
 
 pub brightness-spec : {M : Type 1} → statement M

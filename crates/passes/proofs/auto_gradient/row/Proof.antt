@@ -3,7 +3,7 @@ use Prim.Native.Nat.{_-_}
 use native.Mathlib.Omega.{arith}
 use lib.ListN.{length}
 use Rattle.num.specs.Rewrite.{Rewritten, none, more, all}
-use Rattle.passes.specs.AutoGradient.{at}
+use Rattle.passes.specs.Plain.AutoGradient.{at}
 use Rattle.passes.proofs.auto_gradient.row.Statement.{statement}
 use Rattle.passes.proofs.auto_gradient.row.Tie as tie
 

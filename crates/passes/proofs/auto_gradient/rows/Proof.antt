@@ -1,8 +1,9 @@
 -- `passes::auto_gradient::rows` meets its contract: row by row. Assumes nothing.
 use Prim.Native.Nat.{_-_}
 use native.Mathlib.Omega.{arith}
+use Rattle.passes.specs as Text
 use Rattle.passes.specs.Rows.{Rowed, no-rows, row-in, row-length, row-done, rows-all}
-use Rattle.passes.specs.AutoGradient.{at, shaded}
+use Rattle.passes.specs.Plain.AutoGradient.{at}
 use Rattle.passes.proofs.auto_gradient.rows.Statement.{statement}
 use Rattle.passes.proofs.auto_gradient.rows.Tie as tie
 
@@ -32,7 +33,7 @@ loop-again c =
     row-done (in-loop .before .loop .inv) _ (in-loop .loop-test .taken) (c .before .before .row .ensures)
 
 returns : tie.Need-returns Inv-loop μ-loop
-unfolding shaded
+unfolding Text.AutoGradient.shaded
 returns c = rows-all (c .before .loop .inv) (c .loop-test .left)
 
 pub rows-spec : {M : Type 1} → statement M

@@ -9,9 +9,10 @@ use lib.Seq.{length-take-le, take-at, drop-at}
 use lib.Ieee.{Float}
 use borrow.Author.Needs.{needs}
 use Rattle.num.specs.F32.{whole}
+use Rattle.passes.specs as Text
 use Rattle.passes.specs.Rows.{placed-ext}
-use Rattle.passes.specs.Blur.{at, weights, down}
-use Rattle.passes.specs.Bloom.{bloom, composite, vertical, stored, sample, horizontal, horizontalBy}
+use Rattle.passes.specs.Plain.Blur.{at, weights, down}
+use Rattle.passes.specs.Plain.Bloom.{composite, vertical, stored, sample, horizontal, horizontalBy}
 use Rattle.passes.proofs.Offsets.{front, weight-at, blur-by, blur-same}
 use Rattle.passes.proofs.Planes.{same-composite, down-is}
 use Rattle.passes.proofs.bloom.apply.Statement.{statement}
@@ -84,7 +85,7 @@ composite-rows-requires c κs =
     ((start k .pre .1 .0, ap length (shared h) ∙ written h ∙ planes-sized k, sums-long k), start k .pre .0)
 
 returns : tie.Need-returns
-unfolding bloom
+unfolding Text.Bloom.bloom
 returns c =
     let r = c .before .before .before in
     let h = r .before .before .before .before .before .before .before in

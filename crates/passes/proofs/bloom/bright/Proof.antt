@@ -3,19 +3,20 @@ use mathlib.Core.Path.{_≡_, sym, ap, _∙_}
 use mathlib.Core.Bool.{true, false}
 use lib.Ieee.{Float, le, sub}
 use Rattle.num.specs.Const.{c0·0}
-use Rattle.passes.specs.Pixel.{rgb, scaled, luma709}
-use Rattle.passes.specs.Bloom.{bright, intensity}
+use Rattle.passes.specs as Text
+use Rattle.passes.specs.Plain.Pixel.{rgb, scaled, luma709}
+use Rattle.passes.specs.Plain.Bloom.{bright, intensity}
 use Rattle.passes.specs.declared.pixel.Rgb.{Rgb}
 use Rattle.passes.proofs.bloom.bright.Statement.{statement}
 use Rattle.passes.proofs.bloom.bright.Tie as tie
 
 module _ (threshold : Float) (c : Rgb) where
   upto : {l : Float} → l ≡ luma709 c → le l threshold ≡ true → rgb c0·0 c0·0 c0·0 ≡ bright threshold c
-  unfolding bright
+  unfolding Text.Bloom.bright
   upto e h = let k : le (luma709 c) threshold ≡ true = ap (λ (z : Float). le z threshold) (sym e) ∙ h in rw k
 
   above : {l t : Float} {r : Rgb} → l ≡ luma709 c → le l threshold ≡ false → t ≡ intensity threshold l → r ≡ scaled t c → r ≡ bright threshold c
-  unfolding bright
+  unfolding Text.Bloom.bright
   above {l} {t} {r} e h f g =
       let k : le (luma709 c) threshold ≡ false = ap (λ (z : Float). le z threshold) (sym e) ∙ h in
       g ∙ ap (λ (z : Float). scaled z c) (f ∙ ap (intensity threshold) e) ∙ rw k

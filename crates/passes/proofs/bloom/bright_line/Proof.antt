@@ -5,8 +5,8 @@ use native.Mathlib.Omega.{arith}
 use lib.ListN.{length, getD}
 use lib.Ieee.{nan}
 use Rattle.num.specs.Rewrite.{Rewritten, none, more, all}
-use Rattle.passes.specs.Pixel.{channel}
-use Rattle.passes.specs.Bloom.{bright, brightOf}
+use Rattle.passes.specs.Plain.Pixel.{channel}
+use Rattle.passes.specs.Plain.Bloom.{bright, brightOf}
 use Rattle.passes.proofs.bloom.bright_line.Statement.{statement}
 use Rattle.passes.proofs.bloom.bright_line.Tie as tie
 

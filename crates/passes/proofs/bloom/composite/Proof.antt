@@ -1,10 +1,10 @@
 -- `passes::bloom::composite` meets its contract. Assumes nothing.
-use Rattle.passes.specs.Bloom.{composite}
+use Rattle.passes.specs as Text
 use Rattle.passes.proofs.bloom.composite.Statement.{statement}
 use Rattle.passes.proofs.bloom.composite.Tie as tie
 
 returns : tie.Need-returns
-unfolding composite
+unfolding Text.Bloom.composite
 returns c = cc
 
 pub composite-spec : {M : Type 1} → statement M

@@ -3,10 +3,10 @@ use Prim.Native.Nat.{_+_, _*_, _-_}
 use mathlib.Core.Path.{_∙_}
 use native.Mathlib.Omega.{arith}
 use lib.ListN.{length}
-use Rattle.passes.specs.Pixel.{rgb}
+use Rattle.passes.specs.Plain.Pixel.{rgb}
 use Rattle.num.specs.Rewrite.{Rewritten, none, more, all}
-use Rattle.passes.specs.Blur.{at, ratio}
-use Rattle.passes.specs.Bloom.{composite}
+use Rattle.passes.specs.Plain.Blur.{at, ratio}
+use Rattle.passes.specs.Plain.Bloom.{composite}
 use Rattle.passes.proofs.Planes.{same-composite}
 use Rattle.passes.proofs.bloom.composite_row.Statement.{statement}
 use Rattle.passes.proofs.bloom.composite_row.Tie as tie

@@ -6,11 +6,11 @@ use native.Mathlib.Omega.{arith}
 use native.Mathlib.Nat.{zero-mul, one-mul}
 use lib.ListN.{length, take, drop}
 use lib.Ieee.{Float, nan}
-use Rattle.passes.specs.Pixel.{rgb}
+use Rattle.passes.specs.Plain.Pixel.{rgb}
 use Rattle.num.specs.Rewrite.{fill, getD-fill}
 use Rattle.passes.specs.Rows.{Rowed, no-rows, row-in, row-length, row-by, rows-all}
-use Rattle.passes.specs.Blur.{at, cell, weighted, weights, ratio, down}
-use Rattle.passes.specs.Bloom.{composite, vertical, stored}
+use Rattle.passes.specs.Plain.Blur.{at, cell, weighted, weights, ratio, down}
+use Rattle.passes.specs.Plain.Bloom.{composite, vertical, stored}
 use Rattle.passes.proofs.Planes.{same-composite}
 use Rattle.passes.proofs.bloom.composite_rows.Statement.{statement}
 use Rattle.passes.proofs.bloom.composite_rows.Tie as tie

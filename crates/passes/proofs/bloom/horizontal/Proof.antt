@@ -6,8 +6,8 @@ use native.Mathlib.Nat.{suc-mul, zero-mul}
 use native.Mathlib.Numerals.{add-one}
 use lib.ListN.{length, getD, take, drop}
 use Rattle.passes.specs.Rows.{Rowed, no-rows, row-in, row-length, row-by, rows-all}
-use Rattle.passes.specs.Blur.{at, blurBy}
-use Rattle.passes.specs.Bloom.{brightOf, horizontalBy}
+use Rattle.passes.specs.Plain.Blur.{at, blurBy}
+use Rattle.passes.specs.Plain.Bloom.{brightOf, horizontalBy}
 use Rattle.passes.proofs.Planes.{beside, beside-in, row-across}
 use Rattle.passes.proofs.bloom.horizontal.Statement.{statement}
 use Rattle.passes.proofs.bloom.horizontal.Tie as tie

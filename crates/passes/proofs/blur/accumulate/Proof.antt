@@ -4,7 +4,8 @@ use native.Mathlib.Omega.{arith}
 use lib.ListN.{length}
 use borrow.Author.Needs.{needs}
 use Rattle.num.specs.F32.{_⊗_}
-use Rattle.passes.specs.Blur.{at, total}
+use Rattle.passes.specs as Text
+use Rattle.passes.specs.Plain.Blur.{at, total}
 use Rattle.passes.proofs.Offsets.{total-onward}
 use Rattle.passes.proofs.Sums.{Summed, summed-none, summed-on, summed-all}
 use Rattle.passes.proofs.blur.accumulate.Statement.{statement}
@@ -17,7 +18,7 @@ abbrev μ-loop : tie.MeasureT-loop
 μ-loop acc₀ src radius k₀ acc k = 2 * radius + 1 - k
 
 loop-holds : tie.Need-loop-holds Inv-loop μ-loop
-unfolding total
+unfolding Text.Blur.total
 loop-holds c = summed-none (c .before .before .before .before .before .before .args .acc .now) _ (c .before .before .clear .ensures)
 
 loop-again : tie.Need-loop-again Inv-loop μ-loop
@@ -29,7 +30,7 @@ loop-again c =
     summed-on (l .inv) r _ _ (o .add-offsets .ensures .1) (λ x q. total-onward (λ i w. at (a .src .now) i ⊗ w) (length (a .src .now)) (a .radius) x (l .k) r) (o .add-offsets .ensures .2)
 
 returns : tie.Need-returns Inv-loop μ-loop
-unfolding total
+unfolding Text.Blur.total
 returns c = summed-all (c .before .loop .inv) (c .before .before .before .before .before .before .before .before .args .acc .now) (c .loop-test .left) (c .before .before .before .before .clear .ensures)
 
 pub accumulate-spec : {M : Type 1} → statement M

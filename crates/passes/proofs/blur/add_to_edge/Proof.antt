@@ -8,7 +8,7 @@ use lib.ListN.{length, take, drop}
 use lib.Ieee.{Float}
 use Rattle.num.specs.F32.{_⊗_}
 use Rattle.num.specs.Rewrite.{Rewritten, rewrite, every}
-use Rattle.passes.specs.Blur.{at}
+use Rattle.passes.specs.Plain.Blur.{at}
 use Rattle.passes.specs.Private.{onward}
 use Rattle.passes.proofs.Offsets.{fourfold-none, further, further-long}
 use Rattle.passes.proofs.blur.add_to_edge.Statement.{statement}

@@ -3,7 +3,7 @@ use mathlib.Core.Path.{_∙_}
 use lib.ListN.{length}
 use borrow.Author.Needs.{needs}
 use Rattle.num.specs.Rewrite.{every-twice}
-use Rattle.passes.specs.Blur.{at, weighted, ratio}
+use Rattle.passes.specs.Plain.Blur.{at, weighted, ratio}
 use Rattle.passes.proofs.blur.blur_line.Statement.{statement}
 use Rattle.passes.proofs.blur.blur_line.Tie as tie
 

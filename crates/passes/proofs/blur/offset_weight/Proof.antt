@@ -2,7 +2,7 @@
 use mathlib.Core.Path.{_∙_, ap}
 use native.Mathlib.Omega.{arith}
 use borrow.Author.Needs.{needs}
-use Rattle.passes.specs.Blur.{weight}
+use Rattle.passes.specs.Plain.Blur.{weight}
 use Rattle.passes.proofs.blur.offset_weight.Statement.{statement}
 use Rattle.passes.proofs.blur.offset_weight.Tie as tie
 

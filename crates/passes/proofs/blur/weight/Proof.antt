@@ -3,12 +3,12 @@ use mathlib.Core.Path.{refl}
 use native.Mathlib.Omega.{arith}
 use lib.Ieee.{sub}
 use Rattle.num.specs.Bounds.{in-float}
-use Rattle.passes.specs.Blur.{weight}
+use Rattle.passes.specs as Text
 use Rattle.passes.proofs.blur.weight.Statement.{statement}
 use Rattle.passes.proofs.blur.weight.Tie as tie
 
 returns : tie.Need-returns
-unfolding sub weight
+unfolding sub Text.Blur.weight
 returns c = refl
 
 pub weight-spec : {M : Type 1} → statement M

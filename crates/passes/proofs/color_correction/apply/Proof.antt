@@ -3,7 +3,8 @@ use Prim.Native.Nat.{_-_}
 use native.Mathlib.Omega.{arith}
 use lib.ListN.{length}
 use Rattle.num.specs.Rewrite.{Rewritten, none, more, all}
-use Rattle.passes.specs.ColorCorrection.{colorCorrection, pixel}
+use Rattle.passes.specs as Text
+use Rattle.passes.specs.Plain.ColorCorrection.{pixel}
 use Rattle.passes.proofs.color_correction.apply.Statement.{statement}
 use Rattle.passes.proofs.color_correction.apply.Tie as tie
 
@@ -17,7 +18,7 @@ loop-again : tie.Need-loop-again Inv-loop μ-loop
 loop-again c = more (c .before .before .before .loop .inv) 0 (c .before .before .loop-test .taken) (c .pixel .ensures)
 
 returns : tie.Need-returns Inv-loop μ-loop
-unfolding colorCorrection
+unfolding Text.ColorCorrection.colorCorrection
 returns c = all (c .before .loop .inv) (c .loop-test .left)
 
 -- an index is below the length, and its offset in bytes fits

@@ -1,10 +1,10 @@
 -- `passes::color_correction::pixel` meets its contract. Assumes nothing.
-use Rattle.passes.specs.ColorCorrection.{pixel}
+use Rattle.passes.specs as Text
 use Rattle.passes.proofs.color_correction.pixel.Statement.{statement}
 use Rattle.passes.proofs.color_correction.pixel.Tie as tie
 
 returns : tie.Need-returns
-unfolding pixel
+unfolding Text.ColorCorrection.pixel
 returns c = cc
 
 pub pixel-spec : {M : Type 1} → statement M

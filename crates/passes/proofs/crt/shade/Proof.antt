@@ -1,10 +1,10 @@
 -- `passes::crt::shade` meets its contract. Assumes nothing.
-use Rattle.passes.specs.Crt.{shade}
+use Rattle.passes.specs as Text
 use Rattle.passes.proofs.crt.shade.Statement.{statement}
 use Rattle.passes.proofs.crt.shade.Tie as tie
 
 returns : tie.Need-returns
-unfolding shade
+unfolding Text.Crt.shade
 returns c = cc
 
 pub shade-spec : {M : Type 1} → statement M

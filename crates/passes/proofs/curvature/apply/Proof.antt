@@ -6,8 +6,9 @@ use native.Mathlib.Omega.{arith}
 use lib.ListN.{length, take, drop}
 use lib.Seq.{length-take-le, take-at, drop-at}
 use borrow.Author.Needs.{needs}
+use Rattle.passes.specs as Text
 use Rattle.passes.specs.Rows.{Frame}
-use Rattle.passes.specs.Curvature.{bent, curvature}
+use Rattle.passes.specs.Plain.Curvature.{bent}
 use Rattle.passes.proofs.curvature.apply.Statement.{statement}
 use Rattle.passes.proofs.curvature.apply.Tie as tie
 
@@ -29,7 +30,7 @@ rows-requires c κs =
     (a .pre .0, subst (λ (z : List ℕ). Frame (a .args .width) (a .args .height) z) (sym (copied k)) (a .pre .0))
 
 returns : tie.Need-returns
-unfolding curvature
+unfolding Text.Curvature.curvature
 returns c =
     let k = c .before .before .before .before .before .before .before in
     let a = k .before .before .before .before .before .args in (

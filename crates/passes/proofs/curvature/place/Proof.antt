@@ -9,22 +9,23 @@ use lib.ListN.{length, getD, List·getD-eq-default}
 use lib.Ieee.{Float}
 use borrow.Author.Needs.{needs}
 use Rattle.num.specs.Index.{indexOf}
+use Rattle.passes.specs as Text
 use Rattle.passes.specs.Rows.{frame-small}
-use Rattle.passes.specs.Curvature.{outside, sample}
+use Rattle.passes.specs.Plain.Curvature.{outside, sample}
 use Rattle.passes.proofs.curvature.place.Statement.{statement}
 use Rattle.passes.proofs.curvature.place.Tie as tie
 
 module _ (w h : ℕ) (copy : List ℕ) (sx sy : Float) where
   beside : outside sx ≡ true → getD copy (length copy) 0 ≡ sample w h copy sx sy
-  unfolding sample
+  unfolding Text.Curvature.sample
   beside e = rw e (List·getD-eq-default copy 0 (le-refl (length copy)))
 
   above : outside sx ≡ false → outside sy ≡ true → getD copy (length copy) 0 ≡ sample w h copy sx sy
-  unfolding sample
+  unfolding Text.Curvature.sample
   above e f = rw (e, f) (List·getD-eq-default copy 0 (le-refl (length copy)))
 
   there : outside sx ≡ false → outside sy ≡ false → {a b : ℕ} → a ≡ indexOf h sy → b ≡ indexOf w sx → getD copy (a * w + b) 0 ≡ sample w h copy sx sy
-  unfolding sample
+  unfolding Text.Curvature.sample
   there e f p q = rw (e, f, p, q)
 
 -- whatever the coordinate, the row is below 1024

@@ -7,7 +7,7 @@ use mathlib.Core.List.{List, [], _∷_}
 use lib.ListN.{length, getD, set, length-set}
 use borrow.Author.Needs.{needs}
 use Rattle.num.specs.Rewrite.{rewrite, Rewritten, none, more, all, length-rewrite, rewrite-past}
-use Rattle.passes.specs.Curvature.{at}
+use Rattle.passes.specs.Plain.Curvature.{at}
 use Rattle.passes.proofs.curvature.places.Statement.{statement}
 use Rattle.passes.proofs.curvature.places.Tie as tie
 

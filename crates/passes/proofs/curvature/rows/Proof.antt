@@ -2,7 +2,7 @@
 use Prim.Native.Nat.{_-_}
 use native.Mathlib.Omega.{arith}
 use Rattle.passes.specs.Rows.{Rowed, no-rows, row-in, row-length, row-done, rows-all}
-use Rattle.passes.specs.Curvature.{at}
+use Rattle.passes.specs.Plain.Curvature.{at}
 use Rattle.passes.proofs.curvature.rows.Statement.{statement}
 use Rattle.passes.proofs.curvature.rows.Tie as tie
 

@@ -7,7 +7,8 @@ use borrow.Author.Needs.{needs}
 use lib.ListN.{length, getD}
 use lib.Ieee.{Float}
 use Rattle.num.specs.Rewrite.{every, fill, rewrite-ext, length-rewrite, getD-fill}
-use Rattle.passes.specs.Lut.{lut, pixel}
+use Rattle.passes.specs as Text
+use Rattle.passes.specs.Plain.Lut.{lut, pixel}
 use Rattle.passes.specs.Private.{picked}
 use Rattle.passes.proofs.Greys.{Alone, alone, picked-is}
 use Rattle.passes.proofs.lut.apply.Statement.{statement}
@@ -29,7 +30,7 @@ filled f xs ys l e = l ∙ sym (ap length e ∙ length-rewrite (length xs) (λ k
 
 by-table : (preset : ℕ) (strength : Float) (xs ys frame out : List ℕ) → Alone preset → _≡_ {A = ℕ} 256 (length xs) → ys ≡ fill (λ k. pixel preset strength (k * 65793)) xs
     → out ≡ every (λ i. picked (λ k. getD ys k 0)) frame → out ≡ lut preset strength frame
-unfolding lut
+unfolding Text.Lut.lut
 by-table preset strength xs ys frame out a l e o = o ∙ rewrite-ext (length frame) (λ i. picked (λ k. getD ys k 0)) (λ i. pixel preset strength) frame (λ i p _. picked-is preset strength a (λ k. getD ys k 0) p entry)
   where
     entry : (k : ℕ) → k < 256 → getD ys k 0 ≡ pixel preset strength (k * 65793)

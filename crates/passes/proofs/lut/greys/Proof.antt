@@ -3,7 +3,7 @@ use Prim.Native.Nat.{_-_, _*_}
 use native.Mathlib.Omega.{arith}
 use lib.ListN.{length}
 use Rattle.num.specs.Rewrite.{Rewritten, none, more, all}
-use Rattle.passes.specs.Lut.{pixel}
+use Rattle.passes.specs.Plain.Lut.{pixel}
 use Rattle.passes.proofs.lut.greys.Statement.{statement}
 use Rattle.passes.proofs.lut.greys.Tie as tie
 

@@ -6,10 +6,11 @@ use native.Mathlib.Omega.{arith}
 use lib.ListN.{length, take}
 use lib.Ieee.{Float}
 use borrow.Author.Needs.{needs}
+use Rattle.passes.specs as Text
 use Rattle.passes.specs.Rows.{placed-ext}
-use Rattle.passes.specs.Blur.{weights}
-use Rattle.passes.specs.Blur as Blur
-use Rattle.passes.specs.Ntsc.{ntsc, at, sample}
+use Rattle.passes.specs.Plain.Blur.{weights}
+use Rattle.passes.specs.Plain.Blur as Blur
+use Rattle.passes.specs.Plain.Ntsc.{at, sample}
 use Rattle.passes.proofs.Offsets.{front, weight-at, blur-by}
 use Rattle.passes.proofs.Chroma.{same-pixel}
 use Rattle.passes.proofs.ntsc.apply.Statement.{statement}
@@ -31,7 +32,7 @@ rows-requires c κs =
     )
 
 returns : tie.Need-returns
-unfolding ntsc
+unfolding Text.Ntsc.ntsc
 returns c =
     let r = c .before .before .before .before .before in
     let k = r .before .before .before .before .before .before in

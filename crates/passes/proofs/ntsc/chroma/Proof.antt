@@ -2,7 +2,7 @@
 use Prim.Native.Nat.{ℕ, suc, _-_, _≤_}
 use mathlib.Core.Path.{_≡_}
 use native.Mathlib.Omega.{arith}
-use Rattle.passes.specs.Ntsc.{chroma}
+use Rattle.passes.specs as Text
 use Rattle.passes.proofs.ntsc.chroma.Statement.{statement}
 use Rattle.passes.proofs.ntsc.chroma.Tie as tie
 
@@ -10,11 +10,11 @@ from-1 : (n : ℕ) → 1 ≤ n → n ≡ suc (n - 1)
 from-1 n h = omega arith
 
 returns : tie.Need-returns
-unfolding chroma
+unfolding Text.Ntsc.chroma
 returns c = rw (c .before .before .before .match .keys1)
 
 returns-2 : tie.Need-returns-2
-unfolding chroma
+unfolding Text.Ntsc.chroma
 returns-2 c = rw (from-1 (c .before .before .before .before .args .which) (omega arith))
 
 pub chroma-spec : {M : Type 1} → statement M

@@ -4,9 +4,9 @@ use mathlib.Core.Path.{_∙_, ap}
 use native.Mathlib.Omega.{arith}
 use lib.ListN.{length, getD}
 use lib.Ieee.{nan}
-use Rattle.passes.specs.Pixel.{unpack}
+use Rattle.passes.specs.Plain.Pixel.{unpack}
 use Rattle.num.specs.Rewrite.{Rewritten, none, more, all}
-use Rattle.passes.specs.Ntsc.{chroma}
+use Rattle.passes.specs.Plain.Ntsc.{chroma}
 use Rattle.passes.proofs.ntsc.chroma_line.Statement.{statement}
 use Rattle.passes.proofs.ntsc.chroma_line.Tie as tie
 

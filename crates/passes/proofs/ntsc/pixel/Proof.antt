@@ -1,10 +1,10 @@
 -- `passes::ntsc::pixel` meets its contract. Assumes nothing.
-use Rattle.passes.specs.Ntsc.{pixel}
+use Rattle.passes.specs as Text
 use Rattle.passes.proofs.ntsc.pixel.Statement.{statement}
 use Rattle.passes.proofs.ntsc.pixel.Tie as tie
 
 returns : tie.Need-returns
-unfolding pixel
+unfolding Text.Ntsc.pixel
 returns c = cc
 
 pub pixel-spec : {M : Type 1} → statement M

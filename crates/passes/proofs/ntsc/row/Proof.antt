@@ -4,10 +4,10 @@ use Prim.Native.Nat.{ℕ}
 use lib.ListN.{length, getD}
 use lib.Ieee.{Float}
 use borrow.Author.Needs.{needs}
-use Rattle.passes.specs.Pixel.{unpack}
+use Rattle.passes.specs.Plain.Pixel.{unpack}
 use Rattle.num.specs.Rewrite.{rewrite-ext}
-use Rattle.passes.specs.Blur.{at}
-use Rattle.passes.specs.Ntsc.{chroma, pixel}
+use Rattle.passes.specs.Plain.Blur.{at}
+use Rattle.passes.specs.Plain.Ntsc.{chroma, pixel}
 use Rattle.passes.proofs.Offsets.{blur-of}
 use Rattle.passes.proofs.Chroma.{smear, same-pixel}
 use Rattle.passes.proofs.ntsc.row.Statement.{statement}

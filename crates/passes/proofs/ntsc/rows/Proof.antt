@@ -4,8 +4,8 @@ use mathlib.Core.Path.{_≡_, sym, _∙_}
 use native.Mathlib.Omega.{arith}
 use lib.ListN.{length, take, drop}
 use Rattle.passes.specs.Rows.{Rowed, no-rows, row-in, row-length, row-by, rows-all}
-use Rattle.passes.specs.Blur as Blur
-use Rattle.passes.specs.Ntsc.{pixel, at}
+use Rattle.passes.specs.Plain.Blur as Blur
+use Rattle.passes.specs.Plain.Ntsc.{pixel, at}
 use Rattle.passes.proofs.Chroma.{smear, smear-across, same-pixel}
 use Rattle.passes.proofs.ntsc.rows.Statement.{statement}
 use Rattle.passes.proofs.ntsc.rows.Tie as tie

@@ -2,14 +2,14 @@
 use mathlib.Core.Path.{ap, _∙_}
 use borrow.Author.Needs.{needs}
 use Rattle.num.specs.Rewrite.{rewrite-at}
-use Rattle.passes.specs.Persistence.{pixel}
-use Rattle.passes.specs.Pixel.{packLimited}
+use Rattle.passes.specs as Text
+use Rattle.passes.specs.Plain.Pixel.{packLimited}
 use Rattle.passes.proofs.Mixes.{whole}
 use Rattle.passes.proofs.persistence.blend_row.Statement.{statement}
 use Rattle.passes.proofs.persistence.blend_row.Tie as tie
 
 returns : tie.Need-returns
-unfolding pixel
+unfolding Text.Persistence.pixel
 returns c =
     let f = c .before .before in
     let b = f .before .before .before .before .before in

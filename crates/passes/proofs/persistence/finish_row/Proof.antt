@@ -3,8 +3,8 @@ use Prim.Native.Nat.{_-_}
 use native.Mathlib.Omega.{arith}
 use lib.ListN.{length}
 use Rattle.num.specs.Rewrite.{Rewritten, none, more, all}
-use Rattle.passes.specs.Blur.{at}
-use Rattle.passes.specs.Pixel.{packLimited, rgb}
+use Rattle.passes.specs.Plain.Blur.{at}
+use Rattle.passes.specs.Plain.Pixel.{packLimited, rgb}
 use Rattle.passes.proofs.persistence.finish_row.Statement.{statement}
 use Rattle.passes.proofs.persistence.finish_row.Tie as tie
 

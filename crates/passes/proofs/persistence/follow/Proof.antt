@@ -9,7 +9,8 @@ use lib.Ieee.{Float, nan}
 use borrow.Author.Needs.{needs}
 use Rattle.num.specs.Const.{c1·0}
 use Rattle.num.specs.F32.{_⊘_}
-use Rattle.passes.specs.Persistence.{total, weight, blended, blend, shifted}
+use Rattle.passes.specs as Text
+use Rattle.passes.specs.Plain.Persistence.{total, weight, blended, blend, shifted}
 use Rattle.passes.specs.PersistenceLaws.{blended-same}
 use Rattle.num.specs.Rewrite.{fill, getD-fill, length-rewrite}
 use Rattle.passes.proofs.persistence.follow.Statement.{statement}
@@ -19,7 +20,7 @@ use Rattle.passes.proofs.persistence.follow.Tie as tie
 by-weights : {picture : List ℕ} {ws : List Float} {sum : Float} (line : List Float) (amount : Float) (k : ℕ) (past frame : List ℕ) → length line ≡ k
     → picture ≡ blended (c1·0 ⊘ sum) (λ j. getD ws j nan) (length ws) past frame → ws ≡ fill (weight amount sum) line → sum ≡ total amount k
     → picture ≡ blend amount k past frame
-unfolding blend
+unfolding Text.Persistence.blend
 by-weights {picture} {ws} {sum} line amount k past frame l h e s =
     let many : length ws ≡ k = ap length e ∙ length-rewrite (length line) _ line ∙ l in
     h ∙ ap (λ (m : ℕ). blended (c1·0 ⊘ sum) (λ j. getD ws j nan) m past frame) many

@@ -7,9 +7,10 @@ use lib.ListN.{length, getD, take, drop, length-drop}
 use lib.Seq.{length-take-le, getD-take, getD-drop}
 use lib.Ieee.{Float, nan}
 use Rattle.num.specs.Rewrite.{rewrite, every, Rewritten, none, part, all, getD-rewrite-rest}
-use Rattle.passes.specs.Persistence.{blended, pixel}
+use Rattle.passes.specs as Text
+use Rattle.passes.specs.Plain.Persistence.{pixel}
 use Rattle.passes.specs.PersistenceLaws.{mix-same}
-use Rattle.passes.specs.Pixel.{packLimited}
+use Rattle.passes.specs.Plain.Pixel.{packLimited}
 use Rattle.passes.specs.Private.{rowShift}
 use Rattle.passes.specs.Rows.{column}
 use Rattle.passes.proofs.Shifts.{partly, partly-none, partly-length, partly-word, partly-more, partly-all}
@@ -26,7 +27,7 @@ module _ {w : Float} {ws : ℕ → Float} {k at : ℕ} {frame₀ past₀ frame p
   kept = ap length (t .history) ∙ partly-length k frame₀ past₀ at
 
   same-pixel : (x p : ℕ) → at + x < length frame₀ → pixel w ws k past (length frame₀) (at + x) p ≡ pixel w ws k past₀ (length frame₀) (at + x) p
-  unfolding pixel
+  unfolding Text.Persistence.pixel
   same-pixel x p l =
       let n = length frame₀ in
       ap packLimited
@@ -78,7 +79,7 @@ loop-again c =
     followed (e .before .before .loop .inv) (e .row-end .result) (omega arith) (omega arith) _ _ (called .follow-row .ensures .0) (called .follow-row .ensures .1)
 
 returns : tie.Need-returns Inv-loop μ-loop
-unfolding blended
+unfolding Text.Persistence.blended
 returns c =
     let l = c .before .loop in
     let start = c .before .before .before .before .before in

@@ -5,7 +5,8 @@ use native.Mathlib.Numerals.{add-one}
 use native.Mathlib.Omega.{arith}
 use Rattle.num.specs.Const.{c0·55}
 use Rattle.num.specs.F32.{_⊕_, _⊗_}
-use Rattle.passes.specs.Persistence.{decay, total}
+use Rattle.passes.specs as Text
+use Rattle.passes.specs.Plain.Persistence.{decay, total}
 use Rattle.passes.proofs.persistence.total.Statement.{statement}
 use Rattle.passes.proofs.persistence.total.Tie as tie
 
@@ -16,11 +17,11 @@ abbrev μ-loop : tie.MeasureT-loop
 μ-loop amount depth sum₀ weight₀ j₀ sum weight j = depth - j
 
 loop-holds : tie.Need-loop-holds Inv-loop μ-loop
-unfolding total decay
+unfolding Text.Persistence.total Text.Persistence.decay
 loop-holds c = (omega arith, refl, refl)
 
 loop-again : tie.Need-loop-again Inv-loop μ-loop
-unfolding total decay
+unfolding Text.Persistence.total Text.Persistence.decay
 loop-again c =
     let inv = c .before .loop .inv in
     (omega arith, rw add-one (ap₂ _⊕_ (inv .1) (inv .2)), rw add-one (ap (λ w. w ⊗ c0·55) (inv .2)))

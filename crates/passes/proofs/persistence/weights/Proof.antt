@@ -7,7 +7,8 @@ use lib.ListN.{length}
 use lib.Ieee.{nan}
 use Rattle.num.specs.Const.{c0·55}
 use Rattle.num.specs.F32.{_⊗_, _⊘_}
-use Rattle.passes.specs.Persistence.{decay, weight}
+use Rattle.passes.specs as Text
+use Rattle.passes.specs.Plain.Persistence.{decay, weight}
 use Rattle.num.specs.Rewrite.{Rewritten, none, more, all}
 use Rattle.passes.proofs.persistence.weights.Statement.{statement}
 use Rattle.passes.proofs.persistence.weights.Tie as tie
@@ -19,11 +20,11 @@ abbrev μ-loop : tie.MeasureT-loop
 μ-loop out₀ amount sum w₀ j₀ out w j = length out₀ - j
 
 loop-holds : tie.Need-loop-holds Inv-loop μ-loop
-unfolding decay
+unfolding Text.Persistence.decay
 loop-holds c = (none _ _, refl)
 
 loop-again : tie.Need-loop-again Inv-loop μ-loop
-unfolding decay
+unfolding Text.Persistence.decay
 loop-again c =
     let inv = c .before .loop .inv in
     let sum = c .before .before .args .sum in

@@ -1,10 +1,10 @@
 -- `passes::pixel::luma709` meets its contract. Assumes nothing.
-use Rattle.passes.specs.Pixel.{luma709}
+use Rattle.passes.specs as Text
 use Rattle.passes.proofs.pixel.luma709.Statement.{statement}
 use Rattle.passes.proofs.pixel.luma709.Tie as tie
 
 returns : tie.Need-returns
-unfolding luma709
+unfolding Text.Pixel.luma709
 returns c = cc
 
 pub luma709-spec : {M : Type 1} → statement M

@@ -1,11 +1,11 @@
 -- `passes::pixel::pack` meets its contract: each channel is at most 1023, so nothing wraps. Assumes nothing.
 use native.Mathlib.Omega.{arith}
-use Rattle.passes.specs.Pixel.{pack}
+use Rattle.passes.specs as Text
 use Rattle.passes.proofs.pixel.pack.Statement.{statement}
 use Rattle.passes.proofs.pixel.pack.Tie as tie
 
 returns : tie.Need-returns
-unfolding pack
+unfolding Text.Pixel.pack
 returns c = omega arith
 
 pub pack-spec : {M : Type 1} → statement M

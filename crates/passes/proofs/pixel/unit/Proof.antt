@@ -1,10 +1,10 @@
 -- `passes::pixel::unit` meets its contract. Assumes nothing.
-use Rattle.passes.specs.Pixel.{unit}
+use Rattle.passes.specs as Text
 use Rattle.passes.proofs.pixel.unit.Statement.{statement}
 use Rattle.passes.proofs.pixel.unit.Tie as tie
 
 returns : tie.Need-returns
-unfolding unit
+unfolding Text.Pixel.unit
 returns c = cc
 
 pub unit-spec : {M : Type 1} → statement M

@@ -1,11 +1,11 @@
 -- `passes::rows::position` meets its contract. Assumes nothing.
 use borrow.Author.Needs.{needs}
-use Rattle.passes.specs.Position.{position}
+use Rattle.passes.specs as Text
 use Rattle.passes.proofs.rows.position.Statement.{statement}
 use Rattle.passes.proofs.rows.position.Tie as tie
 
 returns : tie.Need-returns
-unfolding position
+unfolding Text.Position.position
 returns c = cc
 
 pub position-spec : {M : Type 1} → statement M

@@ -1,8 +1,9 @@
 -- `passes::scanlines::apply` meets its contract: row by row. Assumes nothing.
 use Prim.Native.Nat.{_-_}
 use native.Mathlib.Omega.{arith}
+use Rattle.passes.specs as Text
 use Rattle.passes.specs.Rows.{Rowed, no-rows, row-in, row-done, rows-all}
-use Rattle.passes.specs.Scanlines.{at, scanlines}
+use Rattle.passes.specs.Plain.Scanlines.{at}
 use Rattle.passes.proofs.scanlines.apply.Statement.{statement}
 use Rattle.passes.proofs.scanlines.apply.Tie as tie
 
@@ -27,7 +28,7 @@ loop-again c =
     row-done (in-loop .before .loop .inv) _ (in-loop .loop-test .taken) (c .before .before .row .ensures)
 
 returns : tie.Need-returns Inv-loop μ-loop
-unfolding scanlines
+unfolding Text.Scanlines.scanlines
 returns c = rows-all (c .before .loop .inv) (c .loop-test .left)
 
 pub apply-spec : {M : Type 1} → statement M

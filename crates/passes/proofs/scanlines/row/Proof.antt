@@ -7,17 +7,18 @@ use lib.Ieee.{Float}
 use Rattle.num.specs.Const.{c1·0}
 use Rattle.num.specs.F32.{_⊖_}
 use Rattle.num.specs.Rewrite.{Rewritten, none, more, all, rewrite-same}
-use Rattle.passes.specs.Scanlines.{at, inRow}
-use Rattle.passes.specs.Pixel.{dim}
+use Rattle.passes.specs as Text
+use Rattle.passes.specs.Plain.Scanlines.{at, inRow}
+use Rattle.passes.specs.Plain.Pixel.{dim}
 use Rattle.passes.proofs.scanlines.row.Statement.{statement}
 use Rattle.passes.proofs.scanlines.row.Tie as tie
 
 even : (n : ℕ) (s : Float) (p : ℕ) → n ≡ 0 → inRow n s p ≡ p
-unfolding inRow
+unfolding Text.Scanlines.inRow
 even n s p e = rw e
 
 odd : (n : ℕ) (s : Float) (p : ℕ) → (n ≡ 0 → ⊥) → dim (c1·0 ⊖ s) p ≡ inRow n s p
-unfolding inRow
+unfolding Text.Scanlines.inRow
 odd zero s p h = absurd (h refl)
 odd (suc n) s p h = refl
 

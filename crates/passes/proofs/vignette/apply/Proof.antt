@@ -2,10 +2,12 @@
 use Prim.Native.Nat.{_-_}
 use mathlib.Core.Path.{sym}
 use native.Mathlib.Omega.{arith}
-use Rattle.passes.specs.Pixel.{dim}
+use Rattle.passes.specs as Text
+use Rattle.passes.specs.Plain.Pixel.{dim}
 use Rattle.passes.specs.Rows.{Rowed, no-rows, row-in, row-length, row-by, rows-all}
-use Rattle.passes.specs.Vignette.{factorAt, vignette}
-use Rattle.passes.proofs.Quarter.{Table, quarter-in, quarter-frame, kept, filled, rest, line-in, line-length, by-line}
+use Rattle.passes.specs.Plain.Vignette.{factorAt}
+use Rattle.passes.proofs.Quarter.{Table, quarter-in, quarter-frame, kept, filled, rest, line-in, line-length}
+use Rattle.passes.proofs.Quarter.{by-line}
 use Rattle.passes.proofs.vignette.apply.Statement.{statement}
 use Rattle.passes.proofs.vignette.apply.Tie as tie
 
@@ -81,7 +83,7 @@ same-length-2 c =
     kept (start .args .scratch .now) (start .pre) _ _ (c .before .before .before .before .lines .ensures)
 
 returns : tie.Need-returns Inv-loop μ-loop
-unfolding vignette
+unfolding Text.Vignette.vignette
 returns c =
     let start = c .before .before .before .before .before .before .before .before in (
       rows-all (c .before .loop .inv .0) (c .loop-test .left),

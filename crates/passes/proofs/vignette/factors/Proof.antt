@@ -4,7 +4,7 @@ use native.Mathlib.Omega.{arith}
 use lib.ListN.{length}
 use lib.Ieee.{nan}
 use Rattle.num.specs.Rewrite.{Rewritten, none, more, all}
-use Rattle.passes.specs.Vignette.{factor}
+use Rattle.passes.specs.Plain.Vignette.{factor}
 use Rattle.passes.proofs.vignette.factors.Statement.{statement}
 use Rattle.passes.proofs.vignette.factors.Tie as tie
 

@@ -4,7 +4,7 @@ use borrow.Author.Needs.{needs}
 use Rattle.num.specs.F32.{_⊕_}
 use Rattle.num.specs.Rewrite.{every-twice}
 use Rattle.num.specs.Root.{rootOf}
-use Rattle.passes.specs.Vignette.{square, factor}
+use Rattle.passes.specs.Plain.Vignette.{square, factor}
 use Rattle.passes.proofs.vignette.line.Statement.{statement}
 use Rattle.passes.proofs.vignette.line.Tie as tie
 

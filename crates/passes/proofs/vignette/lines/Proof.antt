@@ -2,7 +2,7 @@
 use Prim.Native.Nat.{_-_}
 use native.Mathlib.Omega.{arith}
 use Rattle.passes.specs.Rows.{Rowed, no-rows, row-in, row-length, row-done, rows-all}
-use Rattle.passes.specs.Vignette.{factorAt}
+use Rattle.passes.specs.Plain.Vignette.{factorAt}
 use Rattle.passes.proofs.vignette.lines.Statement.{statement}
 use Rattle.passes.proofs.vignette.lines.Tie as tie
 

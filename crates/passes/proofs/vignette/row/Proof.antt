@@ -5,7 +5,7 @@ use mathlib.Core.List.{List}
 use native.Mathlib.Omega.{arith}
 use lib.ListN.{length, getD, length-set}
 use lib.Ieee.{Float, nan}
-use Rattle.passes.specs.Pixel.{dim}
+use Rattle.passes.specs.Plain.Pixel.{dim}
 use Rattle.num.specs.Rewrite.{Rewritten, none, more, all}
 use Rattle.passes.proofs.Mirror.{nearer}
 use Rattle.passes.proofs.vignette.row.Statement.{statement}

@@ -6,7 +6,7 @@ use lib.ListN.{length}
 use lib.Ieee.{Float, nan}
 use Rattle.num.specs.F32.{_⊕_}
 use Rattle.num.specs.Rewrite.{Rewritten, none, more, all}
-use Rattle.passes.specs.Vignette.{square}
+use Rattle.passes.specs.Plain.Vignette.{square}
 use Rattle.passes.proofs.vignette.squares.Statement.{statement}
 use Rattle.passes.proofs.vignette.squares.Tie as tie
 

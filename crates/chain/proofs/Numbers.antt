@@ -1,0 +1,255 @@
+-- The claims of specs/Numbers.antt: normalised settings lie in the ranges that passes' Inside asks for, and the
+-- refusals leave frames that it takes. Assumes nothing.
+use Prim.Native.Nat.{ℕ, zero, suc, _+_, _*_, _≤_, _<_}
+use native.Mathlib.Nat.{mul-le-mul-right, le-of-mul-le-mul-right, add-mul}
+use native.Mathlib.Omega.{arith}
+use mathlib.Core.Path.{_≡_, refl, ap, subst, _∙_}
+use mathlib.Core.Bool.{Bool, true, false, not, _&&_}
+use mathlib.Core.List.{List, [], _∷_, _++_}
+use borrow.Author.Tests.{ltb-false, leb-true, not-true}
+use lib.Dec.{T, leb, ltb, lit<, le→leb}
+use lib.ListN.{length, drop}
+use lib.Seq.{length-take-le}
+use lib.Ieee.{Float, nan, inf, fin, up, down, lt, neg, ofBits}
+use lib.Ieee.Fits.{down-pos}
+use lib.Ieee.Scale.{finite}
+use Rattle.num.specs.Const.{c0·0, c0·5, c0·95, c1·0, c4·0}
+use Rattle.num.specs.Within.{within, size-le, within-plus, zero-value}
+use Rattle.passes.specs.Arith.{Arith, Agrees}
+use Rattle.passes.specs.Casts.{casts, casts-agree, checked, checked-agree}
+use Rattle.passes.specs.Flow.{sized, Flow, flow}
+use Rattle.passes.specs.Fold.{fold}
+use Rattle.passes.specs.Inside as Inside
+use Rattle.passes.specs.Lengths.{scanlines-length, vignette-length, crt-length, curvature-length, auto-gradient-length}
+use Rattle.passes.specs.Lengths.{lut-length, color-correction-length, ntsc-length, bloom-length, persistence-length}
+use Rattle.passes.specs.Lengths.{history-length}
+use Rattle.passes.specs.Range as Range
+use Rattle.passes.specs.Rows.{Frame}
+use Rattle.chain.specs.Alike.{chainOf}
+use Rattle.chain.specs.Calls.{framed, acceptance, hold, incoming, stops, unlessFramed, shown, shownBy, frameReply, frameReplyBy}
+use Rattle.chain.specs.Chain.{wash, over, overBy, turn, turnBy, chain, depthOf, depth}
+use Rattle.chain.specs.Normal.{negZero, settled, counted, normalPass, normalChain}
+use Rattle.chain.specs.Numbers.{Pass-inside, Numbers-inside, Casts-inside}
+use Rattle.chain.specs.Numbers.{Checked-inside}
+use Rattle.chain.specs.Passes.{kindOf}
+use Rattle.chain.specs.Typed.{Typed, TypedChain}
+use Rattle.chain.specs.declared.station.Pass.{Pass}
+use Rattle.chain.specs.declared.station.Pass.the-variants.{Ntsc, Bloom, AutoGradient, Persistence, Lut, Curvature}
+use Rattle.chain.specs.declared.station.Pass.the-variants.{ColorCorrection, Crt, Vignette, Scanlines}
+use Rattle.chain.specs.declared.station.Record.{Record}
+use Rattle.chain.specs.declared.station.Station.{Station}
+use Rattle.chain.proofs.Bools.{false-true, both}
+use Rattle.chain.proofs.Goes.{goes}
+use Rattle.chain.proofs.Good.{good, headed}
+
+-- ## Settings
+
+record Settled (low high x : Float) : Type 0 where
+  number : finite x ≡ true
+  least : lt x low ≡ false
+  most : lt high x ≡ false
+
+settled-parts : (low high x : Float) → settled low high x ≡ true → Settled low high x
+unfolding settled
+settled-parts low high x e =
+    let a = both _ (not (negZero x)) e in
+    let b = both _ (not (lt high x)) (a .0) in
+    let c = both (finite x) (not (lt x low)) (b .0) in
+    record { number = c .0; least = not-true _ (c .1); most = not-true _ (b .1) }
+
+-- from 0 to an end that is at most n
+settled-within : (n : ℕ) (high x : Float) → T (within n high) → settled c0·0 high x ≡ true → T (within n x)
+unfolding within lt ofBits
+settled-within n high x h e = let q = settled-parts c0·0 high x e in go high x h (q .number) (q .least) (q .most)
+  where
+    go : (high x : Float) → T (within n high) → finite x ≡ true → lt x c0·0 ≡ false → lt high x ≡ false → T (within n x)
+    go high nan h f l u = false-true f
+    go high (inf s) h f l u = false-true f
+    go high (fin true m e) h f l u =
+        zero-value n (fin true m e) true 1 (lit< tt)
+        (refl, none (m * up e * 1) (0 * down e) (ltb-false 0 (m * up e * 1 + 0 * down e) l))
+      where
+        none : (a b : ℕ) → a + b ≤ 0 → a ≡ b
+        none a b h = omega arith
+    go nan (fin false m e) h f l u = absurd h
+    go (inf s) (fin false m e) h f l u = absurd h
+    go (fin true i g) (fin false m e) h f l u =
+        within-plus n m e
+        (nothing (i * up g * down e) (m * up e) (down g) (n * down e) (down-pos g)
+        (ltb-false 0 (i * up g * down e + m * up e * down g) u))
+      where
+        nothing : (b a d r : ℕ) → 0 < d → b + a * d ≤ 0 → a ≤ r
+        nothing b a d r p h = le-of-mul-le-mul-right {m = a} {n = r} {k = d} (omega arith) p
+    go (fin false i g) (fin false m e) h f l u =
+        within-plus n m e
+        (under (m * up e) (down e) (i * up g) (down g) (down-pos g) (size-le n false i g h)
+        (ltb-false (i * up g * down e) (m * up e * down g) u))
+      where
+        under : (a c b d : ℕ) → 0 < d → b ≤ n * d → a * d ≤ b * c → a ≤ n * c
+        under a c b d p h k =
+            le-of-mul-le-mul-right {m = a} {n = n * c} {k = d} (let q = mul-le-mul-right c h in omega arith) p
+
+-- from -1 to 1
+settled-sized : (x : Float) → settled (neg c1·0) c1·0 x ≡ true → T (Range.sized 1 x)
+unfolding lt neg ofBits
+settled-sized x e = let q = settled-parts (neg c1·0) c1·0 x e in go x (q .number) (q .least) (q .most)
+  where
+    go : (x : Float) → finite x ≡ true → lt x (neg c1·0) ≡ false → lt c1·0 x ≡ false → T (Range.sized 1 x)
+    go nan f l u = false-true f
+    go (inf s) f l u = false-true f
+    go (fin true m e) f l u =
+        let k = ltb-false (1 * down e) (m * up e * 1) l in le→leb (m * up e) (1 * down e) (omega arith)
+    go (fin false m e) f l u =
+        let k = ltb-false (1 * down e) (m * up e * 1) u in le→leb (m * up e) (1 * down e) (omega arith)
+
+unit : (x : Float) → settled c0·0 c1·0 x ≡ true → T (within 1 x)
+unfolding within ofBits
+unit x e = settled-within 1 c1·0 x tt e
+
+counted-most : (n k : ℕ) → counted n k ≡ true → k ≤ n
+counted-most n k e = leb-true k n (both (leb 1 k) (leb k n) e .1)
+
+-- ## One pass
+
+module _ (A : Arith) (G : Agrees A) where
+  pub pass-inside : Pass-inside A
+  unfolding overBy wash normalPass within ofBits
+  pass-inside w h (Ntsc strength bleed) x n t f room =
+      let p = both (settled c0·0 c1·0 strength) (counted 64 bleed) n in
+      ap (λ (l : List ℕ). flow l (x .held) (x .past))
+      (Inside.ntsc-inside G w h strength bleed (x .frame) f (unit strength (p .0)) (counted-most 64 bleed (p .1)))
+  pass-inside w h (Bloom threshold strength radius) x n t f room =
+      let p = both (settled c0·0 c1·0 strength) (counted 64 radius) n in
+      let l : threshold ≤ 255 = (let u = t .0 in omega arith) in
+      ap (λ (l : List ℕ). flow l (x .held) (x .past))
+      (Inside.bloom-inside G w h threshold strength radius (x .frame) f l (unit strength (p .0))
+      (counted-most 64 radius (p .1)))
+  pass-inside w h (AutoGradient strength vertical horizontal) x n t f room =
+      let p = both (settled c0·0 c1·0 strength && settled c0·0 c1·0 vertical) (settled c0·0 c1·0 horizontal) n in
+      let q = both (settled c0·0 c1·0 strength) (settled c0·0 c1·0 vertical) (p .0) in
+      ap (λ (l : List ℕ). flow l (x .held) (x .past))
+      (Inside.auto-gradient-inside G w h strength vertical horizontal (x .frame) f (unit strength (q .0))
+      (unit vertical (q .1)) (unit horizontal (p .1)))
+  pass-inside w h (Persistence amount k) x n t f room =
+      let p = both (settled c0·0 c0·95 amount) (counted 8 k) n in
+      Inside.persistence-inside G amount k (sized w h) x (settled-within 1 c0·95 amount tt (p .0))
+      (counted-most 8 k (p .1)) room
+  pass-inside w h (Lut preset strength) x n t f room =
+      ap (λ (l : List ℕ). flow l (x .held) (x .past))
+      (Inside.lut-inside G preset strength (x .frame)
+      (unit strength (both (ltb preset 7) (settled c0·0 c1·0 strength) n .1)))
+  pass-inside w h (Curvature amount) x n t f room =
+      ap (λ (l : List ℕ). flow l (x .held) (x .past))
+      (Inside.curvature-inside G w h amount (x .frame) f (settled-within 1 c0·5 amount tt n))
+  pass-inside w h (ColorCorrection brightness contrast saturation gamma) x n t f room =
+      let b = settled (neg c1·0) c1·0 brightness in
+      let c = settled c0·0 c4·0 contrast in
+      let s = settled c0·0 c4·0 saturation in
+      let p = both (b && c && s) (settled c1·0 c1·0 gamma) n in
+      let q = both (b && c) s (p .0) in
+      let r = both b c (q .0) in
+      ap (λ (l : List ℕ). flow l (x .held) (x .past))
+      (Inside.color-correction-inside G brightness contrast saturation (x .frame) (settled-sized brightness (r .0))
+      (settled-within 4 c4·0 contrast tt (r .1)) (settled-within 4 c4·0 saturation tt (q .1)))
+  pass-inside w h (Crt strength) x n t f room =
+      ap (λ (l : List ℕ). flow l (x .held) (x .past)) (Inside.crt-inside G w h strength (x .frame) f (unit strength n))
+  pass-inside w h (Vignette strength) x n t f room =
+      ap (λ (l : List ℕ). flow l (x .held) (x .past))
+      (Inside.vignette-inside G w h strength (x .frame) f (unit strength n))
+  pass-inside w h (Scanlines strength) x n t f room =
+      ap (λ (l : List ℕ). flow l (x .held) (x .past))
+      (Inside.scanlines-inside G w strength (x .frame) (unit strength n))
+
+-- ## The chain
+
+-- a pass keeps the length of the frame, and that of the history
+over-frame : (w h : ℕ) (p : Pass) (x : Flow) → length (over w h p x .frame) ≡ length (x .frame)
+unfolding overBy wash
+over-frame w h (Ntsc strength bleed) x = ntsc-length w h strength (x .frame) bleed
+over-frame w h (Bloom threshold strength radius) x = bloom-length w h strength (x .frame) threshold radius
+over-frame w h (AutoGradient strength vertical horizontal) x =
+    auto-gradient-length w h strength (x .frame) vertical horizontal
+over-frame w h (Persistence amount k) x = persistence-length amount k (sized w h) x
+over-frame w h (Lut preset strength) x = lut-length w h strength (x .frame) preset
+over-frame w h (Curvature amount) x = curvature-length w h amount (x .frame)
+over-frame w h (ColorCorrection brightness contrast saturation gamma) x =
+    color-correction-length w h brightness (x .frame) contrast saturation
+over-frame w h (Crt strength) x = crt-length w h strength (x .frame)
+over-frame w h (Vignette strength) x = vignette-length w h strength (x .frame)
+over-frame w h (Scanlines strength) x = scanlines-length w h strength (x .frame)
+
+over-past : (w h : ℕ) (p : Pass) (x : Flow) → depthOf p * length (x .frame) ≤ length (x .past)
+    → length (over w h p x .past) ≡ length (x .past)
+unfolding overBy wash
+over-past w h (Ntsc strength bleed) x room = refl
+over-past w h (Bloom threshold strength radius) x room = refl
+over-past w h (AutoGradient strength vertical horizontal) x room = refl
+over-past w h (Persistence amount k) x room = history-length amount k (sized w h) x room
+over-past w h (Lut preset strength) x room = refl
+over-past w h (Curvature amount) x room = refl
+over-past w h (ColorCorrection brightness contrast saturation gamma) x room = refl
+over-past w h (Crt strength) x room = refl
+over-past w h (Vignette strength) x room = refl
+over-past w h (Scanlines strength) x room = refl
+
+module _ (A : Arith) (G : Agrees A) (w h : ℕ) where
+  -- a record, on or off
+  record Turned (x : Flow) (r : Record) : Type 0 where
+    same : turnBy A w h x r ≡ turn w h x r
+    frame : length (turn w h x r .frame) ≡ length (x .frame)
+    past : length (turn w h x r .past) ≡ length (x .past)
+
+  turned : (x : Flow) (r : Record) → normalPass (r .pass) ≡ true → Typed (r .pass) → Frame w h (x .frame)
+      → depthOf (r .pass) * length (x .frame) ≤ length (x .past) → Turned x r
+  unfolding turnBy
+  turned x r n t f room = go (r .on) refl
+    where
+      go : (b : Bool) → r .on ≡ b → Turned x r
+      go true e =
+          record {
+            same = rw e (pass-inside A G w h (r .pass) x n t f room);
+            frame = rw e (over-frame w h (r .pass) x);
+            past = rw e (over-past w h (r .pass) x room);
+          }
+      go false e = record { same = rw e; frame = rw e; past = rw e }
+
+  chained : (rs : List Record) (seen : List ℕ) (x : Flow) → normalChain seen rs ≡ true → TypedChain rs
+      → Frame w h (x .frame) → depth rs * (h * w) ≤ length (x .past)
+      → fold (turnBy A w h) x rs ≡ chain w h rs x
+  unfolding fold depth
+  chained [] seen x n t f room = refl
+  chained (r ∷ rs) seen x n t f room =
+      let q = headed seen r rs n in
+      let parts : depthOf (r .pass) * (h * w) + depth rs * (h * w) ≤ length (x .past) =
+      subst (λ (k : ℕ). k ≤ length (x .past)) (add-mul (depthOf (r .pass)) (depth rs) (h * w)) room in
+      let own : depthOf (r .pass) * length (x .frame) ≤ length (x .past) = rw (f .area) (omega arith) in
+      let y = turned x r (q .normal) (t .0) f own in
+      ap (λ (z : Flow). fold (turnBy A w h) z rs) (y .same)
+      ∙ chained rs (seen ++ kindOf (r .pass) ∷ []) (turn w h x r) (q .others) (t .1)
+      (record { area = y .frame ∙ f .area; wide = f .wide; high = f .high })
+      (rw (y .past) (omega arith))
+
+  frame-inside-at : (s : Station) (words past : List ℕ) (floats ints : ℕ) → TypedChain (chainOf s)
+      → frameReplyBy A w h s words past floats ints ≡ frameReply w h s words past floats ints
+  unfolding frameReplyBy unlessFramed shownBy
+  frame-inside-at s words past floats ints t = go (stops s w h (length words) (length past) floats ints) refl
+    where
+      go : (k : ℕ) → stops s w h (length words) (length past) floats ints ≡ k
+          → unlessFramed k s words past (shownBy A w h s words past)
+          ≡ unlessFramed k s words past (shown w h s words past)
+      go zero e =
+          let g = goes s w h (length words) (length past) floats ints e in
+          ap (λ (x : Flow). framed (acceptance []) (hold (x .held) s) (x .frame ++ drop (h * w) words) (x .past))
+          (chained (chainOf s) [] (incoming w h s words past) (good s (g .good) .normal) t
+          (record { area = length-take-le (h * w) words (g .frame-room); wide = g .wide .1; high = g .high .1 })
+          (g .past-room))
+      go (suc k) e = refl
+
+pub numbers-inside : Numbers-inside
+numbers-inside A G = (pass-inside A G, λ w h. frame-inside-at A G w h)
+
+pub casts-inside : Casts-inside
+casts-inside = numbers-inside casts casts-agree .1
+
+pub checked-inside : Checked-inside
+checked-inside = numbers-inside checked checked-agree .1

@@ -1,0 +1,30 @@
+-- Gradient at binary32: the text of ../AutoGradient.antt over `plain`. Definitions only.
+use Prim.Native.Nat.{ℕ}
+use mathlib.Core.List.{List}
+use lib.Ieee.{Float}
+use Rattle.passes.specs as Text
+use Rattle.passes.specs.Arith.{plain}
+
+abbrev pub addLuma : Float → ℕ → Float
+addLuma = Text.AutoGradient.addLuma plain
+
+abbrev pub adaptive : Float → ℕ → Float → Float
+adaptive = Text.AutoGradient.adaptive plain
+
+abbrev pub warm : ℕ → ℕ → Float → Float → Float
+warm = Text.AutoGradient.warm plain
+
+abbrev pub brightness : ℕ → ℕ → Float → Float → Float → Float
+brightness = Text.AutoGradient.brightness plain
+
+abbrev pub shade : Float → Float → ℕ → ℕ
+shade = Text.AutoGradient.shade plain
+
+abbrev pub at : ℕ → ℕ → Float → Float → Float → ℕ → ℕ → ℕ → ℕ
+at = Text.AutoGradient.at plain
+
+abbrev pub shaded : ℕ → ℕ → Float → Float → Float → List ℕ → List ℕ
+shaded = Text.AutoGradient.shaded plain
+
+abbrev pub autoGradient : ℕ → ℕ → Float → Float → Float → List ℕ → List ℕ
+autoGradient = Text.AutoGradient.autoGradient plain

@@ -1,0 +1,22 @@
+-- NTSC at binary32: the text of ../Ntsc.antt over `plain`. Definitions only.
+use Prim.Native.Nat.{ℕ}
+use mathlib.Core.List.{List}
+use lib.Ieee.{Float}
+use Rattle.passes.specs as Text
+use Rattle.passes.specs.Arith.{plain}
+use Rattle.passes.specs.declared.pixel.Rgb.{Rgb}
+
+abbrev pub chroma : ℕ → Rgb → Float
+chroma = Text.Ntsc.chroma plain
+
+abbrev pub sample : ℕ → List ℕ → ℕ → ℕ → ℕ → Float
+sample = Text.Ntsc.sample plain
+
+abbrev pub pixel : Float → Float → Float → ℕ → ℕ
+pixel = Text.Ntsc.pixel plain
+
+abbrev pub at : (ℕ → Float) → ℕ → Float → ℕ → List ℕ → ℕ → ℕ → ℕ → ℕ
+at = Text.Ntsc.at plain
+
+abbrev pub ntsc : ℕ → Float → ℕ → List ℕ → List ℕ
+ntsc = Text.Ntsc.ntsc plain
