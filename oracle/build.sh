@@ -1,4 +1,4 @@
-# Sourced by compare, bench, counts, record and fuzz, from the repository's root: how the comparison program is built.
+# Sourced by compare, bench, counts, record, fuzz and variants, from the repository's root: how the comparison program is built.
 
 # Ends the script where a tool is missing that it cannot do without.
 need() {
@@ -71,9 +71,8 @@ compile() {
     rustc -O --edition 2021 --check-cfg 'cfg(with_original, fuzz, test)' -L native=target/staticlib "$@" oracle/src/main.rs
 }
 
-# Proves the libraries `probe` and `bridge`, writes them for Rust to link, and compiles the program with them and with the original, if
-# there is one.
-build() {
+# Proves the libraries `probe` and `bridge` and writes them for Rust to link.
+build_libraries() {
     need rt
     mkdir -p target/oracle || return 1
     for library in probe bridge; do
@@ -83,6 +82,11 @@ build() {
             return 1
         fi
     done
+}
+
+# The same, and compiles the program with them and with the original, if there is one.
+build() {
+    build_libraries || return 1
     if [ -n "$original" ]; then
         modules >target/oracle/original.rs || return 1
     fi

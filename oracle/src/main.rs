@@ -55,28 +55,22 @@ fn main() -> ExitCode {
         ["seeds", "station", folder] => told(seeds::station(Path::new(folder))),
         #[cfg(with_original)]
         ["seeds", "bridge", folder] => told(seeds::bridge(Path::new(folder))),
-        #[cfg(with_original)]
-        ["passes", "quick"] => only(passes::compare::run, Mode::Quick),
-        #[cfg(with_original)]
-        ["passes", "full"] => only(passes::compare::run, Mode::Full),
-        #[cfg(with_original)]
-        ["runs", "quick"] => only(runs::compare::run, Mode::Quick),
-        #[cfg(with_original)]
-        ["runs", "full"] => only(runs::compare::run, Mode::Full),
-        ["programs", "quick"] => programs(Mode::Quick),
-        ["programs", "full"] => programs(Mode::Full),
         ["quick"] => compare(Mode::Quick, None),
         ["full"] => compare(Mode::Full, None),
         ["quick", original] => compare(Mode::Quick, Some(Path::new(original))),
         ["full", original] => compare(Mode::Full, Some(Path::new(original))),
-        _ => {
-            eprintln!(
-                "expected: bench; measure and what; record and a file; seeds, station or bridge, and a folder; \
-                 passes, runs or programs, and quick or full; quick or full and then the original's folder, if any"
-            );
-            ExitCode::from(2)
-        }
+        [part, "quick"] => only(part, Mode::Quick),
+        [part, "full"] => only(part, Mode::Full),
+        _ => misused(),
     }
+}
+
+fn misused() -> ExitCode {
+    eprintln!(
+        "expected: bench; measure and what; record and a file; seeds, station or bridge, and a folder; \
+         steps, cards, station, programs, passes or runs, and quick or full; quick or full and then the original's folder, if any"
+    );
+    ExitCode::from(2)
 }
 
 fn compare(mode: Mode, original: Option<&Path>) -> ExitCode {
@@ -104,22 +98,26 @@ fn compare(mode: Mode, original: Option<&Path>) -> ExitCode {
     verdict(&total)
 }
 
-/// The passes, or the runs of calls, by themselves.
-#[cfg(with_original)]
-fn only(part: fn(Mode, &mut Total), mode: Mode) -> ExitCode {
-    let mut total = Total::default();
-    part(mode, &mut total);
-    verdict(&total)
-}
-
-/// The programs `card` and `filter` by themselves.
-fn programs(mode: Mode) -> ExitCode {
-    let mut total = Total::default();
-    if let Err(what) = programs::compare::run(mode, &mut total) {
+/// One part by itself.
+fn only(part: &str, mode: Mode) -> ExitCode {
+    let total = &mut Total::default();
+    let mut compared = Ok(());
+    match part {
+        "steps" => steps::run(mode, total),
+        "cards" => cards::compare::run(mode, total),
+        "station" => compared = station::compare::run(mode, total),
+        "programs" => compared = programs::compare::run(mode, total),
+        #[cfg(with_original)]
+        "passes" => passes::compare::run(mode, total),
+        #[cfg(with_original)]
+        "runs" => runs::compare::run(mode, total),
+        _ => return misused(),
+    }
+    if let Err(what) = compared {
         eprintln!("the programs were not compared: {what}");
         return ExitCode::FAILURE;
     }
-    verdict(&total)
+    verdict(total)
 }
 
 fn verdict(total: &Total) -> ExitCode {
