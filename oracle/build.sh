@@ -1,4 +1,4 @@
-# Sourced by compare, hosts, bench, counts, record and fuzz, from the repository's root: how the comparison and what it links is built.
+# Sourced by compare, hosts, bench, counts, record, fuzz and variants, from the repository's root: how the comparison and what it links is built.
 
 . oracle/room.sh
 

@@ -1,4 +1,4 @@
-# Sourced by edits, from the repository's root: how an edit is applied.
+# Sourced by edits and variants, from the repository's root: how an edit is applied.
 #
 # An edit is a file of lines. A line `file: PATH` holds for the pairs after it; a pair is a line `old: TEXT` and a line `new: TEXT`,
 # and means that TEXT, which stands in the file once, is replaced. All other lines are words for the reader: the first says what is

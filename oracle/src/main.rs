@@ -56,29 +56,35 @@ fn main() -> ExitCode {
         ["seeds", "station", folder] => told(seeds::station(Path::new(folder))),
         #[cfg(with_original)]
         ["seeds", "bridge", folder] => told(seeds::bridge(Path::new(folder))),
-        #[cfg(with_original)]
-        ["passes", "quick"] => only(passes::compare::run, Mode::Quick),
-        #[cfg(with_original)]
-        ["passes", "full"] => only(passes::compare::run, Mode::Full),
-        #[cfg(with_original)]
-        ["runs", "quick"] => only(runs::compare::run, Mode::Quick),
-        #[cfg(with_original)]
-        ["runs", "full"] => only(runs::compare::run, Mode::Full),
-        ["programs", "quick"] => programs(Mode::Quick),
-        ["programs", "full"] => programs(Mode::Full),
         ["quick"] => compare(Mode::Quick, None),
         ["full"] => compare(Mode::Full, None),
         ["quick", original] => compare(Mode::Quick, Some(Path::new(original))),
         ["full", original] => compare(Mode::Full, Some(Path::new(original))),
-        _ => {
-            eprintln!(
-                "expected: bench; measure and what; record and a file; seeds, station or bridge, and a folder; \
-                 passes, runs or programs, and quick or full; quick or full and then the original's folder, if any"
-            );
-            ExitCode::from(2)
-        }
+        [part, "quick"] => only(part, Mode::Quick),
+        [part, "full"] => only(part, Mode::Full),
+        _ => misused(),
     }
 }
+
+fn misused() -> ExitCode {
+    eprintln!(
+        "expected: bench; measure and what; record and a file; seeds, station or bridge, and a folder; \
+         steps, cards, station, programs, passes or runs, and quick or full; quick or full and then the original's folder, if any"
+    );
+    ExitCode::from(2)
+}
+
+/// The parts of the comparison, in their order.
+const PARTS: &[&str] = &[
+    "steps",
+    "cards",
+    "station",
+    "programs",
+    #[cfg(with_original)]
+    "passes",
+    #[cfg(with_original)]
+    "runs",
+];
 
 fn compare(mode: Mode, original: Option<&Path>) -> ExitCode {
     let mut total = Total::default();
@@ -89,52 +95,45 @@ fn compare(mode: Mode, original: Option<&Path>) -> ExitCode {
             return ExitCode::FAILURE;
         }
     }
-    timed("number steps", || steps::run(mode, &mut total));
-    timed("cards", || cards::compare::run(mode, &mut total));
-    let programs = timed("program station", || {
-        station::compare::run(mode, &mut total)
-    })
-    .and_then(|()| {
-        timed("programs card and filter", || {
-            programs::compare::run(mode, &mut total)
-        })
-    });
-    if let Err(what) = programs {
-        eprintln!("the programs were not compared: {what}");
-        return ExitCode::FAILURE;
+    these(PARTS, mode, total)
+}
+
+/// One part by itself.
+fn only(part: &str, mode: Mode) -> ExitCode {
+    if PARTS.contains(&part) {
+        these(&[part], mode, Total::default())
+    } else {
+        misused()
     }
-    #[cfg(with_original)]
-    {
-        timed("passes", || passes::compare::run(mode, &mut total));
-        timed("runs and trials", || runs::compare::run(mode, &mut total));
+}
+
+/// Compares these parts, and prints how long each took.
+fn these(parts: &[&str], mode: Mode, mut total: Total) -> ExitCode {
+    for part in parts {
+        let start = Instant::now();
+        if let Err(what) = run(part, mode, &mut total) {
+            eprintln!("the programs were not compared: {what}");
+            return ExitCode::FAILURE;
+        }
+        println!("({part}: {:.1} s)", start.elapsed().as_secs_f64());
     }
     verdict(&total)
 }
 
-/// Does a part of the comparison and prints how long it took.
-fn timed<T>(part: &str, work: impl FnOnce() -> T) -> T {
-    let start = Instant::now();
-    let done = work();
-    println!("({part}: {:.1} s)", start.elapsed().as_secs_f64());
-    done
-}
-
-/// The passes, or the runs of calls, by themselves.
-#[cfg(with_original)]
-fn only(part: fn(Mode, &mut Total), mode: Mode) -> ExitCode {
-    let mut total = Total::default();
-    part(mode, &mut total);
-    verdict(&total)
-}
-
-/// The programs `card` and `filter` by themselves.
-fn programs(mode: Mode) -> ExitCode {
-    let mut total = Total::default();
-    if let Err(what) = programs::compare::run(mode, &mut total) {
-        eprintln!("the programs were not compared: {what}");
-        return ExitCode::FAILURE;
+/// An error where a program could not be run.
+fn run(part: &str, mode: Mode, total: &mut Total) -> Result<(), String> {
+    match part {
+        "steps" => steps::run(mode, total),
+        "cards" => cards::compare::run(mode, total),
+        "station" => station::compare::run(mode, total)?,
+        "programs" => programs::compare::run(mode, total)?,
+        #[cfg(with_original)]
+        "passes" => passes::compare::run(mode, total),
+        #[cfg(with_original)]
+        "runs" => runs::compare::run(mode, total),
+        _ => unreachable!("{part} is not listed"),
     }
-    verdict(&total)
+    Ok(())
 }
 
 fn verdict(total: &Total) -> ExitCode {

@@ -6,6 +6,15 @@ use std::fmt;
 /// How many differing inputs of a step or pass are printed.
 const SHOWN: usize = 5;
 
+/// The end of a count's line: the place of the first difference, if there is one. Each thread keeps the first ones that it
+/// meets, and takes place after place.
+fn first(shown: &[(usize, String)]) -> String {
+    match shown.first() {
+        Some((at, _)) => format!(", first at {at}"),
+        None => String::new(),
+    }
+}
+
 /// A result of a step.
 pub trait Outcome: Copy + fmt::Debug {
     /// What an output slice is filled with before a call. No step has it as a result, so a slot
@@ -247,7 +256,8 @@ impl fmt::Display for FrameTally {
         } = self;
         writeln!(
             f,
-            "{name}: {frames} frames, {words} words compared, {different} different"
+            "{name}: {frames} frames, {words} words compared, {different} different{}",
+            first(shown)
         )?;
         for (_, text) in shown {
             writeln!(f, "    different at {text}")?;
@@ -265,7 +275,8 @@ pub struct CardTally {
     /// By the refusal's number.
     refused: [u64; 15],
     different: u64,
-    shown: Vec<String>,
+    /// The first few differences, each with the place of its card.
+    shown: Vec<(usize, String)>,
 }
 
 impl CardTally {
@@ -289,10 +300,12 @@ impl CardTally {
         }
         self.different += 1;
         if self.shown.len() < SHOWN {
-            self.shown.push(format!(
+            let at = self.cards() as usize - 1;
+            let text = format!(
                 "card {card:02x?}, held {held}: here {:?} and {:02x?}, by the paper {:?} and {:02x?}",
                 here.0, here.1, paper.0, paper.1
-            ));
+            );
+            self.shown.push((at, text));
         }
     }
 
@@ -304,7 +317,8 @@ impl CardTally {
 impl fmt::Display for CardTally {
     fn fmt(&self, f: &mut fmt::Formatter) -> fmt::Result {
         let cards = self.cards();
-        writeln!(f, "cards: {cards} compared, {} different", self.different)?;
+        let (different, first) = (self.different, first(&self.shown));
+        writeln!(f, "cards: {cards} compared, {different} different{first}")?;
         write!(f, "    {} taken; refused", self.taken)?;
         for (number, count) in self.refused.iter().enumerate() {
             if *count > 0 {
@@ -312,7 +326,7 @@ impl fmt::Display for CardTally {
             }
         }
         writeln!(f)?;
-        for text in &self.shown {
+        for (_, text) in &self.shown {
             writeln!(f, "    different at {text}")?;
         }
         Ok(())
@@ -425,7 +439,8 @@ impl fmt::Display for ProgramTally {
         } = self;
         writeln!(
             f,
-            "{name}: {inputs} {unit}, {lines} lines compared, {different} different"
+            "{name}: {inputs} {unit}, {lines} lines compared, {different} different{}",
+            first(shown)
         )?;
         for (_, text) in shown {
             writeln!(f, "    different at {text}")?;
@@ -527,7 +542,8 @@ impl fmt::Display for FileTally {
         } = self;
         writeln!(
             f,
-            "{name}: {runs} runs of {files} files, {frames} frames of {pixels} pixels compared, {different} different"
+            "{name}: {runs} runs of {files} files, {frames} frames of {pixels} pixels compared, {different} different{}",
+            first(shown)
         )?;
         for (_, text) in shown {
             writeln!(f, "    different at {text}")?;
@@ -633,7 +649,7 @@ impl fmt::Display for RunTally {
         if *history > 0 {
             write!(f, " and {history} history words")?;
         }
-        writeln!(f, " compared, {different} different")?;
+        writeln!(f, " compared, {different} different{}", first(shown))?;
         write!(f, "    refused")?;
         for (number, count) in refused.iter().enumerate().filter(|(_, &count)| count > 0) {
             write!(f, " {number}: {count}")?;
