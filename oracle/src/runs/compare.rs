@@ -32,7 +32,7 @@ fn trials(mode: Mode, total: &mut Total) {
     println!("Agreement of two stations, from the point that document 01 gives");
     let random = &mut Random::named("agreement");
     let trials = match mode {
-        Mode::Quick => 8_000,
+        Mode::Quick => 20_000,
         Mode::Full => 1_000_000,
     };
     let seeds: Vec<u64> = (0..trials).map(|_| random.next()).collect();

@@ -52,8 +52,8 @@ impl Effort {
         match mode {
             Mode::Quick => Effort {
                 large: 3_000_000_000,
-                all_large: 15_000_000_000,
-                others: 25_000_000_000,
+                all_large: 40_000_000_000,
+                others: 60_000_000_000,
             },
             Mode::Full => Effort {
                 large: 20_000_000_000,

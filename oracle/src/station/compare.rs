@@ -45,7 +45,7 @@ mod generated {
     pub fn run(mode: Mode, total: &mut Total) -> Result<(), String> {
         println!("Program `station`, with a model of document 01 over the original's pipeline");
         let count = match mode {
-            Mode::Quick => 8_000,
+            Mode::Quick => 20_000,
             Mode::Full => 1_000_000,
         };
         let random = &mut Random::named("station");
