@@ -1,4 +1,5 @@
--- P8: the frames after a reset find a history that holds nothing, or the frame alone, and so persistence gives pictures that stand still. Assumes nothing.
+-- The frames after a reset find a history that holds nothing, or the frame alone, and so persistence gives
+-- pictures that stand still. Assumes nothing.
 use Prim.Native.Nat.{ℕ, zero, suc, _+_, _*_, _≤_, _<_}
 use native.Mathlib.Nat.{add-zero, mul-pos, zero-lt-suc}
 use native.Mathlib.Omega.{arith}
@@ -25,7 +26,8 @@ use Rattle.passes.specs.StillLaws.Pictures.{still-itself, persistence-still}
 use Rattle.passes.specs.StillLaws.Places.{Full}
 use Rattle.chain.specs.Agree.{SameCall, frames, ok}
 use Rattle.chain.specs.Alike.{chainOf}
-use Rattle.chain.specs.Calls.{hold, stops, lacks, reply, Framed, framed, acceptance, unless, incoming, shown, frameReply}
+use Rattle.chain.specs.Calls.{hold, stops, lacks, reply, Framed, framed, acceptance, unless, incoming, shown}
+use Rattle.chain.specs.Calls.{frameReply}
 use Rattle.chain.specs.Chain.{over, turn, chain, depth}
 use Rattle.chain.specs.Machine.{Call, frame, reset, State, Seen, picture, call, after, saw}
 use Rattle.chain.specs.Normal.{negZero, settled, counted, normalPass, normalChain, goodStation}
@@ -59,7 +61,8 @@ amount-fine x e =
     let c = both (finite x) (not (lt x c0·0)) (b .0) in
     go x (c .0) (not-true _ (c .1)) (not-true _ (b .1)) (not-true _ (a .1))
   where
-    go : (x : Float) → finite x ≡ true → lt x c0·0 ≡ false → lt c0·95 x ≡ false → negZero x ≡ false → HasValue x false (num x) (den x) × (num x ≤ den x)
+    go : (x : Float) → finite x ≡ true → lt x c0·0 ≡ false → lt c0·95 x ≡ false → negZero x ≡ false
+        → HasValue x false (num x) (den x) × (num x ≤ den x)
     go nan f l u z = false-true f
     go (inf s) f l u z = false-true f
     go (fin true zero d) f l u z = false-true (sym z)
@@ -71,10 +74,12 @@ record Settings (amount : Float) (k : ℕ) : Type 0 where
   most : num amount ≤ den amount
   few : k ≤ 8
 
-settings : (s : Station) (on : Bool) (amount : Float) (k : ℕ) → chainOf s ≡ alone on amount k → goodStation s ≡ true → Settings amount k
+settings : (s : Station) (on : Bool) (amount : Float) (k : ℕ) → chainOf s ≡ alone on amount k
+    → goodStation s ≡ true → Settings amount k
 unfolding normalPass
 settings s on amount k e g =
-    let n = headed [] (record { on = on; pass = Persistence amount k }) [] (subst (λ (rs : List Record). normalChain [] rs ≡ true) e (good s g .normal)) .normal in
+    let all = subst (λ (rs : List Record). normalChain [] rs ≡ true) e (good s g .normal) in
+    let n = headed [] (record { on = on; pass = Persistence amount k }) [] all .normal in
     let p = both (settled c0·0 c0·95 amount) (counted 8 k) n in
     let a = amount-fine amount (p .0) in
     record { own = a .0; most = a .1; few = leb-true k 8 (both (leb 1 k) (leb k 8) (p .1) .1) }
@@ -88,7 +93,8 @@ module _ (on : Bool) (amount : Float) (k w h : ℕ) (words : List ℕ) where
   -- all places hold the frame, if any frame of that size is held
   record Steady (s : State) : Type 0 where
     is-alone : chainOf (s .station) ≡ alone on amount k
-    full : goodStation (s .station) ≡ true → 0 < h * w → s .station .held ≡ h * w → take (k * (h * w)) (s .history) ≡ copies k F
+    full : goodStation (s .station) ≡ true → 0 < h * w → s .station .held ≡ h * w
+        → take (k * (h * w)) (s .history) ≡ copies k F
 
   -- a good station accepts the reset, and holds nothing then
   after-reset : (s : State) → chainOf (s .station) ≡ alone on amount k → Steady (after reset s)
@@ -113,7 +119,8 @@ module _ (on : Bool) (amount : Float) (k w h : ℕ) (words : List ℕ) where
       × Steady (record { station = r .station; history = r .past ++ drop lent (s .history) })
 
   -- through the chain
-  turned : (b : Bool) (x : Flow) → Settings amount k → length (x .frame) ≡ h * w → k * (h * w) ≤ length (x .past) → (x .held ≡ h * w → Full k (x .frame) (x .past)) →
+  turned : (b : Bool) (x : Flow) → Settings amount k → length (x .frame) ≡ h * w → k * (h * w) ≤ length (x .past)
+      → (x .held ≡ h * w → Full k (x .frame) (x .past)) →
       let y : Flow = cond b (persistence amount k (sized w h) x) x in
       Still (x .frame) (y .frame) × (length (y .past) ≡ length (x .past)) × (y .held ≡ h * w → Full k (x .frame) (y .past))
   turned true x set long room full =
@@ -123,7 +130,8 @@ module _ (on : Bool) (amount : Float) (k w h : ℕ) (words : List ℕ) where
   turned false x set long room full = (still-itself (x .frame), refl, full)
 
   -- an accepted frame of which the chain made y
-  leaves : (s : State) (other : List ℕ) (lent : ℕ) (y : Flow) → Steady s → Still F (y .frame) → length (y .frame) ≡ h * w → k * (h * w) ≤ length (y .past)
+  leaves : (s : State) (other : List ℕ) (lent : ℕ) (y : Flow) → Steady s → Still F (y .frame)
+      → length (y .frame) ≡ h * w → k * (h * w) ≤ length (y .past)
       → (y .held ≡ h * w → take (k * (h * w)) (y .past) ≡ copies k F)
       → Gives lent s (framed (acceptance []) (hold (y .held) (s .station)) (y .frame ++ drop (h * w) other) (y .past))
   leaves s other lent y t still long room full = (
@@ -132,7 +140,8 @@ module _ (on : Bool) (amount : Float) (k w h : ℕ) (words : List ℕ) where
   )
 
   accepted : (s : State) (other : List ℕ) (lent floats ints : ℕ) → Steady s → length words ≡ length other
-      → (h * w ≤ length words → F ≡ take (h * w) other) → stops (s .station) w h (length other) (length (take lent (s .history))) floats ints ≡ 0
+      → (h * w ≤ length words → F ≡ take (h * w) other)
+      → stops (s .station) w h (length other) (length (take lent (s .history))) floats ints ≡ 0
       → Gives lent s (shown w h (s .station) other (take lent (s .history)))
   unfolding shown fold turn over depth
   accepted s other lent floats ints t long same z =
@@ -160,7 +169,8 @@ module _ (on : Bool) (amount : Float) (k w h : ℕ) (words : List ℕ) where
       (λ z. false-true z, rw (take-append-drop lent (s .history)) t)
       (accepted s other lent floats ints t long same)
 
-  all : (s : State) (cs : List Call) (lent floats ints : ℕ) → Steady s → Repeats (frame w h words lent floats ints) cs → AllStill F (saw s cs)
+  all : (s : State) (cs : List Call) (lent floats ints : ℕ) → Steady s
+      → Repeats (frame w h words lent floats ints) cs → AllStill F (saw s cs)
   unfolding saw
   all s [] lent floats ints t r = tt
   all s (c ∷ cs) lent floats ints t r =

@@ -1,8 +1,12 @@
--- How far a rounding moves a value that is not negative: by at most 2 ^ (p - 24) where the exact result is below 2 ^ p (`Moved`). So that errors add up
--- in whole numbers, values are counted in units so small that all of them are whole counts. Assumes nothing.
+-- How far a rounding moves a value that is not negative: by at most 2 ^ (p - 24) where the exact result is below 2 ^
+-- p (`Moved`). So that errors add up in whole numbers, values are counted in units so small that all of them are
+-- whole counts. Assumes nothing.
 use mathlib.Core.Path.{_≡_, refl, sym, ap, _∙_, subst}
 use Prim.Native.Nat.{ℕ, _+_, _-_, _*_, _/_, _%_, _^_, _≤_, _<_, compare}
-use native.Mathlib.Nat.{mul-one, mul-comm, mul-assoc, mul-right-comm, mul-pos, mul-le-mul-right, mul-lt-mul-of-pos-right, le-of-mul-le-mul-right, lt-of-mul-lt-mul-right, lt-of-lt-of-le, le-trans, le-of-eq, mod-lt, eq-or-lt-of-le, lt-div-mul-add, div-add-mod', div-lt-iff-lt-mul, mul-div-cancel}
+use native.Mathlib.Nat.{mul-one, mul-comm, mul-assoc, mul-right-comm, mul-pos, mul-le-mul-right}
+use native.Mathlib.Nat.{mul-lt-mul-of-pos-right, le-of-mul-le-mul-right, lt-of-mul-lt-mul-right, lt-of-lt-of-le}
+use native.Mathlib.Nat.{le-trans, le-of-eq, mod-lt, eq-or-lt-of-le, lt-div-mul-add, div-add-mod', div-lt-iff-lt-mul}
+use native.Mathlib.Nat.{mul-div-cancel}
 use native.Mathlib.Omega.{arith}
 use mathlib.Core.Bool.{Bool, true, false, cond, true≢false}
 use mathlib.Core.Logic.{_⊎_, inl, inr}
@@ -98,7 +102,8 @@ round-near p a c small C h =
 
 -- ---- counts
 
--- the units are 1 / `one`, where `one` is 2 ^ 149 times any q: each binary32 value is a whole count of them, and so is each value with the denominator q
+-- the units are 1 / `one`, where `one` is 2 ^ 149 times any q: each binary32 value is a whole count of them, and so
+-- is each value with the denominator q
 module _ (q : ℕ) where
   unfoldable pub one : ℕ
   one = 2 ^ 149 * q
@@ -149,7 +154,8 @@ module _ (q : ℕ) (Q : 0 < q) where
   unfolding one
   one-pos = mul-pos (pow-pos 149) Q
 
-  pub round-moved : (p m c : ℕ) (x : Float) → p ≤ 24 → 0 < c → m < 2 ^ p * u * c → x ≡ round binary32 false m (u * c) → Moved q (step q p) m c x
+  pub round-moved : (p m c : ℕ) (x : Float) → p ≤ 24 → 0 < c → m < 2 ^ p * u * c
+      → x ≡ round binary32 false m (u * c) → Moved q (step q p) m c x
   unfolding one step
   round-moved p m c x small C h e =
       let r = round-near p m (u * c) small (mul-pos one-pos C) (subst (λ (k : ℕ). m < k) (mul-assoc (2 ^ p) u c) h) in
@@ -162,7 +168,8 @@ module _ (q : ℕ) (Q : 0 < q) where
             (unscale (2 ^ 149) (pow-pos 149) (turned (2 ^ (125 + p)) (r .units) (2 ^ 149) c m (r .near)));
       }
     where
-      turned : (e k t c m : ℕ) → Off (e * (t * q * c)) (k * (t * q * c)) (m * t) → Off (e * q * c * t) (k * q * c * t) (m * t)
+      turned : (e k t c m : ℕ) → Off (e * (t * q * c)) (k * (t * q * c)) (m * t)
+          → Off (e * q * c * t) (k * q * c * t) (m * t)
       turned e k t c m h = omega arith
 
   -- ---- the operations
@@ -172,7 +179,8 @@ module _ (q : ℕ) (Q : 0 < q) where
     whole-moved : (m : ℕ) (x : Float) → m < 2 ^ p * u → x ≡ round binary32 false m (u * 1) → Moved q (step q p) m 1 x
     whole-moved m x h e = round-moved p m 1 x small (lit< tt) (subst (λ (k : ℕ). m < k) (sym (mul-one (2 ^ p * u))) h) e
 
-    pub sum-moved : (x y : Float) → Counted q x → Counted q y → n x + n y < 2 ^ p * u → Moved q (step q p) (n x + n y) 1 (x ⊕ y)
+    pub sum-moved : (x y : Float) → Counted q x → Counted q y → n x + n y < 2 ^ p * u
+        → Moved q (step q p) (n x + n y) 1 (x ⊕ y)
     sum-moved x y v w h =
         whole-moved (n x + n y) (x ⊕ y) h
         (add-at binary32 x y (n x) u (n y) u one-pos one-pos v w
@@ -182,16 +190,19 @@ module _ (q : ℕ) (Q : 0 < q) where
         over a b u = omega arith
 
     -- k times y
-    pub times-moved : (k : ℕ) (y : Float) → k ≤ 16777216 → Counted q y → k * n y < 2 ^ p * u → Moved q (step q p) (k * n y) 1 (whole k ⊗ y)
+    pub times-moved : (k : ℕ) (y : Float) → k ≤ 16777216 → Counted q y → k * n y < 2 ^ p * u
+        → Moved q (step q p) (k * n y) 1 (whole k ⊗ y)
     times-moved k y l v h =
         whole-moved (k * n y) (whole k ⊗ y) h
         (mul-at binary32 (whole k) y k 1 (n y) u (lit< tt) one-pos (whole-value k l) v ∙ ap (round binary32 false (k * n y)) (mul-comm 1 u))
 
     -- x times a / c
-    pub product-moved : (x y : Float) (a c : ℕ) → Counted q x → HasValue y false a c → 0 < c → n x * a < 2 ^ p * u * c → Moved q (step q p) (n x * a) c (x ⊗ y)
+    pub product-moved : (x y : Float) (a c : ℕ) → Counted q x → HasValue y false a c → 0 < c
+        → n x * a < 2 ^ p * u * c → Moved q (step q p) (n x * a) c (x ⊗ y)
     product-moved x y a c v w C h = round-moved p (n x * a) c (x ⊗ y) small C h (mul-at binary32 x y (n x) u a c one-pos C v w)
 
-    pub quotient-moved : (x y : Float) → Counted q x → Counted q y → 0 < n y → n x < 2 ^ p * n y → Moved q (step q p) (n x * u) (n y) (x ⊘ y)
+    pub quotient-moved : (x y : Float) → Counted q x → Counted q y → 0 < n y → n x < 2 ^ p * n y
+        → Moved q (step q p) (n x * u) (n y) (x ⊘ y)
     quotient-moved x y v w Y h =
         round-moved p (n x * u) (n y) (x ⊘ y) small Y (lt-of-lt-of-le (mul-lt-mul-of-pos-right h one-pos) (le-of-eq (mul-right-comm (2 ^ p) (n y) u)))
         (div-at binary32 x y (n x) u (n y) u one-pos one-pos Y v w ∙ ap (round binary32 false (n x * u)) (mul-comm (n y) u))

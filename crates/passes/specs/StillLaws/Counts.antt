@@ -1,9 +1,11 @@
--- How far the mix of equal channels moves. Values are counted in units so small that each is a whole count (num's Units): with u units to 1, and u =
--- 1048576 f, a rounding of what is below 16 moves it by at most f units, and one of what is below 8192 by at most 512 f. Where T is the sum of all weights
--- before division and S of those mixed so far, the mix of equal channels c, times T, is c * S * u, but for 1789 f * T with each word (`more`). At the end S is
--- T, so the mix is c * u but for 16101 f, and that is less than u (`channel-still`). Assumes nothing.
+-- How far the mix of equal channels moves. Values are counted in units so small that each is a whole count (num's
+-- Units): with u units to 1, and u = 1048576 f, a rounding of what is below 16 moves it by at most f units, and one
+-- of what is below 8192 by at most 512 f. Where T is the sum of all weights before division and S of those mixed so
+-- far, the mix of equal channels c, times T, is c * S * u, but for 1789 f * T with each word (`more`). At the end S
+-- is T, so the mix is c * u but for 16101 f, and that is less than u (`channel-still`). Assumes nothing.
 use Prim.Native.Nat.{ℕ, zero, suc, _+_, _*_, _^_, _≤_, _<_, suc-le-suc}
-use native.Mathlib.Nat.{mul-assoc, mul-comm, mul-le-mul, mul-le-mul-right, le-of-mul-le-mul-right, le-trans, le-of-eq, le-of-lt, le-of-suc-le-suc}
+use native.Mathlib.Nat.{mul-assoc, mul-comm, mul-le-mul, mul-le-mul-right, le-of-mul-le-mul-right, le-trans, le-of-eq}
+use native.Mathlib.Nat.{le-of-lt, le-of-suc-le-suc}
 use native.Mathlib.Omega.{arith}
 use mathlib.Core.Path.{_≡_, refl, sym, subst}
 use mathlib.Core.Bool.{false}
@@ -14,7 +16,8 @@ use lib.Ieee.Positive.{num, den, den-pos}
 use Rattle.num.specs.Const.{c0·0, c0·55, c1·0, c255·0}
 use Rattle.num.specs.F32.{_⊕_, _⊗_, _⊘_, whole}
 use Rattle.num.specs.Steps.{clampOf, cutOf}
-use Rattle.num.specs.Units.{one, one-pos, count, Counted, count-is, counted, Moved, step, one-is, sum-moved, product-moved, times-moved, quotient-moved, Off, scale, unscale, cut-near}
+use Rattle.num.specs.Units.{one, one-pos, count, Counted, count-is, counted, Moved, step, one-is, sum-moved}
+use Rattle.num.specs.Units.{product-moved, times-moved, quotient-moved, Off, scale, unscale, cut-near}
 use Rattle.passes.specs as Text
 use Rattle.passes.specs.Plain.Persistence.{decay, total, weight}
 use Rattle.passes.specs.Still.{OrBelow}
@@ -22,9 +25,11 @@ use Rattle.passes.specs.StillLaws.Words.{equal}
 
 -- ---- whole numbers: a word more is mixed
 
--- in units: M is the mix so far and M' the mix then, P the word's share, W its weight; D is the weight before division, S and S' the sums of those so far
+-- in units: M is the mix so far and M' the mix then, P the word's share, W its weight; D is the weight before
+-- division, S and S' the sums of those so far
 module _ (c u f T : ℕ) (small : c ≤ 255) (half : u ≤ 2 * T) where
-  more : (M M' P W D S S' e : ℕ) → Off (e * T) (M * T) (c * S * u) → Off (512 * f) P (c * W) → Off (f * T) (W * T) (D * u) → Off f S' (S + D)
+  more : (M M' P W D S S' e : ℕ) → Off (e * T) (M * T) (c * S * u) → Off (512 * f) P (c * W)
+      → Off (f * T) (W * T) (D * u) → Off f S' (S + D)
       → Off (512 * f) M' (M + P) → Off ((e + 1789 * f) * T) (M' * T) (c * S' * u)
   more M M' P W D S S' e so-far share divided sum now =
       let a = scale T now in
@@ -207,7 +212,11 @@ module _ (amount : Float) (own : HasValue amount false (num amount) (den amount)
           let P = n (whole c ⊗ (c1·0 ⊘ t)) in
           record {
             known = s .known;
-            near = omega (arith, more c u f T small half 0 P P (n (c1·0 ⊘ t)) (n c1·0) 0 (n c1·0) 0 (omega arith) (omega (arith, s .near)) (d .near) (omega arith) (omega arith));
+            near =
+                let first =
+                more c u f T small half 0 P P (n (c1·0 ⊘ t)) (n c1·0) 0 (n c1·0) 0 (omega arith) (omega (arith, s .near))
+                (d .near) (omega arith) (omega arith) in
+                omega (arith, first);
           }
       mixed-known (suc j) l =
           let D = n (decay amount j) in
@@ -229,7 +238,8 @@ module _ (amount : Float) (own : HasValue amount false (num amount) (den amount)
             known = z .known;
             near =
                 subst (λ (e : ℕ). Off (e * T) (n (mixed (suc j)) * T) (c * S' * u)) (err-suc j)
-                (more c u f T small half M (n (mixed (suc j))) P W D S S' (err j) (m .near) (omega (arith, s .near)) (d .near) (omega (arith, a .near)) (omega (arith, z .near)));
+                (more c u f T small half M (n (mixed (suc j))) P W D S S' (err j) (m .near) (omega (arith, s .near))
+                (d .near) (omega (arith, a .near)) (omega (arith, z .near)));
           }
 
       pub channel-still : OrBelow c (cutOf (clampOf (mixed k) c0·0 c255·0))

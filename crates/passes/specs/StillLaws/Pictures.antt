@@ -1,4 +1,5 @@
--- Persistence over a history of equal frames gives a picture that stands still, and leaves such a history. Assumes nothing.
+-- Persistence over a history of equal frames gives a picture that stands still, and leaves such a history. Assumes
+-- nothing.
 use Prim.Native.Nat.{ℕ, _+_, _*_, _/_, _%_, _≤_, _<_}
 use native.Mathlib.Omega.{arith}
 use mathlib.Core.Path.{_≡_, refl, sym, ap, _∙_, subst}
@@ -40,7 +41,8 @@ module _ (amount : Float) (own : HasValue amount false (num amount) (den amount)
       (packed-still p _ _ _ (channel-still amount own most k few (p / 65536 % 256) (omega arith))
       (channel-still amount own most k few (p / 256 % 256) (omega arith)) (channel-still amount own most k few (p % 256) (omega arith)))
 
-  blend-still : (past frame : List ℕ) → ((i j : ℕ) → i < length frame → j < k → getD past (j * length frame + i) 0 ≡ getD frame i 0)
+  blend-still : (past frame : List ℕ)
+      → ((i j : ℕ) → i < length frame → j < k → getD past (j * length frame + i) 0 ≡ getD frame i 0)
       → Still frame (blend amount k past frame)
   unfolding Text.Persistence.blend Text.Persistence.blended
   blend-still past frame same = (
@@ -54,14 +56,19 @@ module _ (amount : Float) (own : HasValue amount false (num amount) (den amount)
       subst (Still frame) (ap (λ (l : List ℕ). blend amount k l frame) (sym full) ∙ blend-take amount k past frame)
       (blend-still (copies k frame) frame (λ i j l h. copies-word k frame i j l h))
 
-  -- over a history that holds the frame alone, if anything of that size, it gives a picture that stands still, and leaves such a history
-  pub persistence-still : (size : Held) (x : Flow) → k * length (x .frame) ≤ length (x .past) → (x .held ≡ size → Full k (x .frame) (x .past))
+  -- over a history that holds the frame alone, if anything of that size, it gives a picture that stands still, and
+  -- leaves such a history
+  pub persistence-still : (size : Held) (x : Flow) → k * length (x .frame) ≤ length (x .past)
+      → (x .held ≡ size → Full k (x .frame) (x .past))
       → Still (x .frame) (persistence amount k size x .frame) × Full k (x .frame) (persistence amount k size x .past)
   unfolding Text.Persistence.persistence sameHeld
   persistence-still size x room full = go (eqb (x .held) size) refl
     where
       go : (b : Bool) → eqb (x .held) size ≡ b →
-          let y = cond b (flow (blend amount k (x .past) (x .frame)) size (shifted k (x .frame) (x .past))) (flow (x .frame) size (refilled k (x .frame) (x .past))) in
+          let met = flow (blend amount k (x .past) (x .frame)) size (shifted k (x .frame) (x .past)) in
+          let y = cond b met (flow (x .frame) size (refilled k (x .frame) (x .past))) in
           Still (x .frame) (y .frame) × Full k (x .frame) (y .past)
-      go true e = let all = full (eqb-true (x .held) size e) in (full-still (x .past) (x .frame) all, full-shifted k (x .frame) (x .past) room all)
+      go true e =
+          let all = full (eqb-true (x .held) size e) in
+          (full-still (x .past) (x .frame) all, full-shifted k (x .frame) (x .past) room all)
       go false e = (still-itself (x .frame), full-refilled k (x .frame) (x .past))

@@ -1,4 +1,5 @@
--- A mix of equal words is a mix of each channel by itself; and three channels that stand still make a word that does. Assumes nothing.
+-- A mix of equal words is a mix of each channel by itself; and three channels that stand still make a word that does.
+-- Assumes nothing.
 use Prim.Native.Nat.{ℕ, zero, suc, _+_, _*_, _/_, _%_, _<_}
 use native.Mathlib.Nat.{le-refl}
 use native.Mathlib.Omega.{arith}
@@ -19,7 +20,8 @@ unfoldable pub equal : Float → (ℕ → Float) → ℕ → ℕ → Float
 equal w ws c zero = whole c ⊗ w
 equal w ws c (suc j) = equal w ws c j ⊕ whole c ⊗ ws j
 
-pub mix-equal : (w : Float) (ws : ℕ → Float) (past : List ℕ) (n i p k : ℕ) → ((j : ℕ) → j < k → getD past (j * n + i) 0 ≡ p)
+pub mix-equal : (w : Float) (ws : ℕ → Float) (past : List ℕ) (n i p k : ℕ)
+    → ((j : ℕ) → j < k → getD past (j * n + i) 0 ≡ p)
     → mix w ws past n i p k ≡ rgb (equal w ws (p / 65536 % 256) k) (equal w ws (p / 256 % 256) k) (equal w ws (p % 256) k)
 unfolding Text.Persistence.mix Text.Persistence.add Text.Pixel.unpack Text.Pixel.scaled equal
 mix-equal w ws past n i p zero same = refl
@@ -30,7 +32,8 @@ channel-le : (c x : ℕ) → c < 256 → OrBelow c x → x < 256
 channel-le c x l (inl e) = omega arith
 channel-le c x l (inr e) = omega arith
 
-pub packed-still : (p x y z : ℕ) → OrBelow (p / 65536 % 256) x → OrBelow (p / 256 % 256) y → OrBelow (p % 256) z → StillWord p (x * 65536 + y * 256 + z)
+pub packed-still : (p x y z : ℕ) → OrBelow (p / 65536 % 256) x → OrBelow (p / 256 % 256) y → OrBelow (p % 256) z
+    → StillWord p (x * 65536 + y * 256 + z)
 packed-still p x y z r g b =
     let X = channel-le (p / 65536 % 256) x (omega arith) r in
     let Y = channel-le (p / 256 % 256) y (omega arith) g in
