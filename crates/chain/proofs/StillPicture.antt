@@ -27,8 +27,8 @@ use Rattle.passes.specs.StillLaws.Places.{Full}
 use Rattle.chain.specs.Agree.{SameCall, frames, ok}
 use Rattle.chain.specs.Alike.{chainOf}
 use Rattle.chain.specs.Calls.{hold, stops, lacks, reply, Framed, framed, acceptance, unless, incoming, shown}
-use Rattle.chain.specs.Calls.{frameReply}
-use Rattle.chain.specs.Chain.{over, turn, chain, depth}
+use Rattle.chain.specs.Calls.{shownBy, frameReplyBy}
+use Rattle.chain.specs.Chain.{overBy, turnBy, chain, depth}
 use Rattle.chain.specs.Machine.{Call, frame, reset, State, Seen, picture, call, after, saw}
 use Rattle.chain.specs.Normal.{negZero, settled, counted, normalPass, normalChain, goodStation}
 use Rattle.chain.specs.Records.{kinds, among}
@@ -143,7 +143,7 @@ module _ (on : Bool) (amount : Float) (k w h : ℕ) (words : List ℕ) where
       → (h * w ≤ length words → F ≡ take (h * w) other)
       → stops (s .station) w h (length other) (length (take lent (s .history))) floats ints ≡ 0
       → Gives lent s (shown w h (s .station) other (take lent (s .history)))
-  unfolding shown fold turn over depth
+  unfolding shownBy fold turnBy overBy depth
   accepted s other lent floats ints t long same z =
       let n = h * w in
       let past = take lent (s .history) in
@@ -162,7 +162,7 @@ module _ (on : Bool) (amount : Float) (k w h : ℕ) (words : List ℕ) where
 
   each : (s : State) (d : Call) (lent floats ints : ℕ) → Steady s → SameCall (frame w h words lent floats ints) d
       → (ok (call d s .gives .answer) ≡ true → Still F (call d s .gives .picture)) × Steady (after d s)
-  unfolding call after frameReply
+  unfolding call after frameReplyBy
   each s d lent floats ints t (frames {other = other} long same) =
       let past = take lent (s .history) in
       by-stop (Gives lent s) _ (s .station) other past _
