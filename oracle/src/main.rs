@@ -69,7 +69,7 @@ fn main() -> ExitCode {
 fn misused() -> ExitCode {
     eprintln!(
         "expected: bench; measure and what; record and a file; seeds, station or bridge, and a folder; \
-         steps, cards, station, programs, passes or runs, and quick or full; quick or full and then the original's folder, if any"
+         steps, cards, station, programs, passes, runs or still, and quick or full; quick or full and then the original's folder, if any"
     );
     ExitCode::from(2)
 }
@@ -84,6 +84,8 @@ const PARTS: &[&str] = &[
     "passes",
     #[cfg(with_original)]
     "runs",
+    #[cfg(with_original)]
+    "still",
 ];
 
 fn compare(mode: Mode, original: Option<&Path>) -> ExitCode {
@@ -131,6 +133,8 @@ fn run(part: &str, mode: Mode, total: &mut Total) -> Result<(), String> {
         "passes" => passes::compare::run(mode, total),
         #[cfg(with_original)]
         "runs" => runs::compare::run(mode, total),
+        #[cfg(with_original)]
+        "still" => runs::compare::still(mode, total),
         _ => unreachable!("{part} is not listed"),
     }
     Ok(())

@@ -1,5 +1,6 @@
 -- Laws that the proofs of several functions cite, and the theorems of specs/Claims.antt: Theorems, Survives, Inside,
--- Longest; of specs/Agree.antt: Agreement, Made; of specs/Numbers.antt: Numbers. Runs that are computed: Examples.
+-- Longest; of specs/Agree.antt: Agreement, Made; of specs/Numbers.antt: Numbers; of specs/StillPicture.antt:
+-- StillPicture. Runs that are computed: Examples.
 pub mod Bits
 pub mod Bools
 pub mod Good
@@ -37,6 +38,7 @@ pub mod Sound
 pub mod Meets
 pub mod Agreement
 pub mod Made
+pub mod StillPicture
 pub mod Examples
 pub mod Untouched
 pub mod Numbers

@@ -179,7 +179,7 @@ unfolding unless
 by-lack P zero s r p q = q
 by-lack P (suc k) s r p q = p
 
-by-stop : (P : Framed → Type 0) (k : ℕ) (s : Station) (words past : List ℕ) (r : Framed) → P (framed (refusal k) s words past) → (k ≡ 0 → P r)
+pub by-stop : (P : Framed → Type 0) (k : ℕ) (s : Station) (words past : List ℕ) (r : Framed) → P (framed (refusal k) s words past) → (k ≡ 0 → P r)
     → P (unlessFramed k s words past r)
 unfolding unlessFramed
 by-stop P zero s words past r p q = q refl

@@ -1,6 +1,7 @@
 -- Readers: Step, Bits, Settings, Passes, Records, Card. Writers: Written, Sheet, Write. The station test: Normal. What
 -- is proved of them: Alike, Typed, Claims. The calls: Chain, Lent, Calls, Answers. The plain machine and demand 3:
--- Machine, Agree. What the number steps leave undefined is not met: Numbers. Worked cases: Cases, Marked.
+-- Machine, Agree. What the number steps leave undefined is not met: Numbers. A still picture stays still: StillPicture.
+-- Worked cases: Cases, Marked.
 pub mod Step
 pub mod Bits
 pub mod Settings
@@ -20,6 +21,7 @@ pub mod Calls
 pub mod Answers
 pub mod Machine
 pub mod Agree
+pub mod StillPicture
 pub mod Cases
 pub mod Marked
 pub mod Numbers

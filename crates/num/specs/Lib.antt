@@ -1,6 +1,6 @@
 -- Definitions: F32, Const, Steps, Root, NearestRoot, and Private for the contracts of private functions. Laws that
 -- callers cite: Order, Within, Bounds, Index, Signs, Values; of rounding and ranges: Sized, Least, Quotients, Squares,
--- Upto. Laws of loops that rewrite a slice: Rewrite. Worked cases: Cases.
+-- Upto; how far a rounding moves: Units. Laws of loops that rewrite a slice: Rewrite. Worked cases: Cases.
 pub mod F32
 pub mod Const
 pub mod Steps
@@ -18,5 +18,6 @@ pub mod Least
 pub mod Quotients
 pub mod Squares
 pub mod Upto
+pub mod Units
 pub mod Rewrite
 pub mod Cases

@@ -1,19 +1,20 @@
 -- Values that are known as a fraction, `HasValue x false a c`: their sum, a half and a half more of a whole number, which are exact, and how a
 -- value that is not negative compares with one. Assumes nothing.
-use mathlib.Core.Path.{_≡_, refl, sym, ap, _∙_, subst}
+use mathlib.Core.Path.{_≡_, refl, sym, ap, ap₂, _∙_, subst}
 use Prim.Native.Nat.{ℕ, _+_, _*_, _^_, _≤_, _<_}
-use native.Mathlib.Nat.{mul-assoc, mul-comm, mul-left-comm, mul-pos, add-mul, lt-of-lt-of-le, lt-of-not-le, not-le-of-lt}
+use native.Mathlib.Nat.{zero-mul, lt-irrefl, mul-mul-mul-comm, mul-assoc, mul-comm, mul-left-comm, mul-pos, add-mul, lt-of-lt-of-le, lt-of-not-le, not-le-of-lt}
 use native.Mathlib.Omega.{arith}
-use mathlib.Core.Bool.{true, false, true≢false}
-use borrow.Author.Tests.{ltb-true, ltb-false}
+use mathlib.Core.Bool.{Bool, true, false, cond, true≢false}
+use borrow.Author.Tests.{ltb-true, ltb-false, ne-eqb}
 use lib.IntN.{ℤ}
-use lib.Dec.{T, lit<, lit≤}
+use lib.Dec.{T, eqb, lit<, lit≤}
 use lib.Pow.{pow-mono, shl-lt}
-use lib.Ieee.{Float, fin, Format, binary32, up, down, round, add, ofInt, ofBits, lt, le}
+use lib.Ieee.{Float, nan, inf, fin, Format, binary32, up, down, round, add, mul, div, ofInt, ofBits, lt, le}
 use lib.Ieee.Fits.{down-pos}
 use lib.Ieee.Exact.{HasValue, round-exact}
 use lib.Ieee.Back.{round-whole}
 use lib.Ieee.Order.{transfer}
+use lib.Ieee.Positive.{first-pos}
 use lib.Ieee.Scale.{round-same}
 use Rattle.num.specs.Const.{c0·5}
 use Rattle.num.specs.F32.{_⊕_, whole}
@@ -39,6 +40,34 @@ add-at f (fin false m e) (fin false n g) a c b d C D v w =
         let l : x * g * (c * d) ≡ x * c * (g * d) = simp (mul-assoc, mul-comm, mul-left-comm) refl in
         let r : a * h * (g * d) ≡ a * d * (h * g) = simp (mul-assoc, mul-comm, mul-left-comm) refl in
         l ∙ ap (λ (k : ℕ). k * (g * d)) v ∙ r
+
+-- ---- a product, and a quotient
+
+module _ (f : Format) where
+  pub mul-at : (x y : Float) (a c b d : ℕ) → 0 < c → 0 < d → HasValue x false a c → HasValue y false b d → mul f x y ≡ round f false (a * b) (c * d)
+  unfolding mul
+  mul-at (fin true m e) y a c b d C D v w = absurd (true≢false (v .0))
+  mul-at (fin false m e) (fin true n g) a c b d C D v w = absurd (true≢false (w .0))
+  mul-at (fin false m e) (fin false n g) a c b d C D v w =
+      round-same f false (m * up e * (n * up g)) (down e * down g) (a * b) (c * d) (mul-pos (down-pos e) (down-pos g)) (mul-pos C D)
+      (mul-mul-mul-comm (m * up e) (n * up g) c d ∙ ap₂ (λ (j k : ℕ). j * k) (v .1) (w .1) ∙ mul-mul-mul-comm a (down e) b (down g))
+
+  pub div-at : (x y : Float) (a c b d : ℕ) → 0 < c → 0 < d → 0 < b → HasValue x false a c → HasValue y false b d → div f x y ≡ round f false (a * d) (b * c)
+  unfolding div
+  div-at (fin true m e) y a c b d C D B v w = absurd (true≢false (v .0))
+  div-at (fin false m e) (fin true n g) a c b d C D B v w = absurd (true≢false (w .0))
+  div-at (fin false m e) (fin false n g) a c b d C D B v w =
+      let N : 0 < n * up g = first-pos (n * up g) d (subst (λ (k : ℕ). 0 < k) (sym (w .1)) (mul-pos B (down-pos g))) in
+      let not-zero : eqb n 0 ≡ false = ne-eqb n 0 (λ z. lt-irrefl 0 (subst (λ (k : ℕ). 0 < k) (ap (λ (k : ℕ). k * up g) z ∙ zero-mul (up g)) N)) in
+      ap (λ (t : Bool). cond t (cond (eqb m 0) nan (inf false)) (round f false (m * up e * down g) (n * up g * down e))) not-zero
+      ∙ round-same f false (m * up e * down g) (n * up g * down e) (a * d) (b * c) (mul-pos N (down-pos e)) (mul-pos B C)
+      (across (m * up e) (down e) (n * up g) (down g) a c b d (v .1) (w .1))
+    where
+      across : (x e y g a c b d : ℕ) → x * c ≡ a * e → y * d ≡ b * g → x * g * (b * c) ≡ a * d * (y * e)
+      across x e y g a c b d v w =
+          let l : x * g * (b * c) ≡ x * c * (b * g) = omega arith in
+          let r : a * e * (y * d) ≡ a * d * (y * e) = omega arith in
+          l ∙ ap₂ (λ (j k : ℕ). j * k) v (sym w) ∙ r
 
 -- ---- a whole number, its half, and a half more
 

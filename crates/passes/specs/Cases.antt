@@ -3,7 +3,7 @@
 -- Assumes nothing.
 use mathlib.Core.List.{List, [], _∷_}
 use mathlib.Core.Path.{refl}
-use Prim.Native.Nat.{ℕ}
+use Prim.Native.Nat.{ℕ, zero, suc, _+_, _*_}
 use lib.Ieee.{ofBits, ofInt, add, sub, mul, div, neg, lt, le}
 use Rattle.num.specs.Cases.{Hold}
 use Rattle.num.specs.Const.{c0·0, c0·5, c1·0}
@@ -73,6 +73,24 @@ unfolding ofBits ofInt add sub mul div neg lt le clampOf minOf maxOf absOf cutOf
     Text.Persistence.pixel Text.Persistence.blended Text.Persistence.blend Persistence.copies Persistence.refilled
     Persistence.shifted Text.ColorCorrection.colorCorrection Text.ColorCorrection.pixel
 marked-hold = refl
+
+-- a word for each three channels: together, and with the last word, all 256 of them
+unfoldable pub threes : ℕ → List ℕ
+threes zero = 0xffffff ∷ []
+threes (suc k) = (k * 3 * 65536 + (k * 3 + 1) * 256 + (k * 3 + 2)) ∷ threes k
+
+-- equal frames at 0.5 (Still): at depth 1 every channel stays; at depth 2 red, green and blue of a word show one below
+abbrev pub equals : List (List ℕ × List ℕ)
+equals =
+    (Persistence.blend c0·5 1 (threes 85) (threes 85), threes 85)
+    ∷ (Persistence.blend c0·5 2 (0x1f3e7c ∷ 0x1f3e7c ∷ []) (0x1f3e7c ∷ []), 0x1e3d7b ∷ [])
+    ∷ []
+
+pub equals-hold : Hold equals
+unfolding threes ofBits ofInt add mul div lt clampOf cutOf rewrite Text.Pixel.unpack Text.Pixel.scaled Text.Pixel.channels Text.Pixel.pack
+    Text.Pixel.packLimited Text.Persistence.decay Text.Persistence.total Text.Persistence.add Text.Persistence.mix Text.Persistence.pixel
+    Text.Persistence.blended Text.Persistence.blend
+equals-hold = refl
 
 -- three colours under each preset at strength 1.0, the first with its top byte set: Identity's steps run too
 abbrev colours : List ℕ

@@ -21,6 +21,8 @@ pub mod Flow
 pub mod Persistence
 pub mod Plain
 pub mod PersistenceLaws
+pub mod Still
+pub mod StillLaws
 pub mod Private
 pub mod Lengths
 pub mod Cases

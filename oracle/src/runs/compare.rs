@@ -1,4 +1,4 @@
-//! The runs and the trials of agreement, in threads that take one after another.
+//! The runs, the trials of agreement and the frames that stand still, in threads that take one after another.
 
 use std::sync::atomic::{AtomicUsize, Ordering};
 use std::thread;
@@ -6,7 +6,7 @@ use std::time::Instant;
 
 use super::cases::{Case, Point};
 use super::run::Run;
-use super::{agreement, run};
+use super::{agreement, run, still};
 use crate::met::{Listed, Met};
 use crate::random::Random;
 use crate::steps::{Mode, THREADS};
@@ -51,6 +51,14 @@ fn trials(mode: Mode, total: &mut Total) {
         println!("    too few: less than one in {LEAST}");
         total.unmet += 1;
     }
+}
+
+/// The frames that stand still.
+pub fn still(mode: Mode, total: &mut Total) {
+    println!("Equal frames after a reset, with persistence alone");
+    let (tally, met) = share("still", mode, &still::amounts(mode), still::compare);
+    total.add_runs(&tally);
+    total.unmet += met.report();
 }
 
 /// In one of so many trials at least the pictures have to differ before the point: else the trials show

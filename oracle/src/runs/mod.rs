@@ -1,5 +1,5 @@
 //! Long runs of calls on stations, through the library `bridge`: beside the original's pipeline and a model
-//! of document 01, and in pairs of stations that have to agree.
+//! of document 01, in pairs of stations that have to agree, and with equal frames that have to stand still.
 
 mod agreement;
 mod calls;
@@ -13,3 +13,4 @@ mod noise;
 mod run;
 mod sides;
 pub mod station;
+mod still;
