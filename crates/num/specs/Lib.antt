@@ -1,5 +1,5 @@
 -- Definitions: F32, Const, Steps, Root, NearestRoot, and Private for the contracts of private functions. Laws that callers cite: Order, Within, Bounds,
--- Index, Signs, Values. Laws of loops that rewrite a slice: Rewrite. Worked cases: Cases.
+-- Index, Signs, Values. Laws of loops that rewrite a slice: Rewrite. What calls refuse by, and its laws: Refusals. Worked cases: Cases.
 pub mod F32
 pub mod Const
 pub mod Steps
@@ -13,4 +13,5 @@ pub mod Index
 pub mod Signs
 pub mod Values
 pub mod Rewrite
+pub mod Refusals
 pub mod Cases
