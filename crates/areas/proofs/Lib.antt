@@ -6,3 +6,5 @@ pub mod Blocks
 pub mod Sharing
 pub mod Ranges
 pub mod Runs
+pub mod Bands
+pub mod Fine

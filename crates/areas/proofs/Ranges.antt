@@ -21,7 +21,6 @@ module _ (F : ℕ → ℕ) where
       ∙ sum-split (q - p) (r - q) (λ t. F (p + t))
       ∙ ap (λ (n : ℕ). over p q F + n) (sum-ext (r - q) (λ t. F (p + (q - p + t))) (λ t. F (q + t)) (λ t h. ap F (omega arith)))
 
-
   -- of the range from l to r: what is before e is what is before s, and what is between them
   pub over-step : (l r s e : ℕ) → s ≤ e → over l (min r e) F ≡ over l (min r s) F + over (max l s) (min r e) F
   over-step l r s e h = go (decLt (max l s) (min r e)) (decLt s l) (decLt l (min r e))

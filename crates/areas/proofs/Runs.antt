@@ -112,7 +112,7 @@ module _ (picture : List ℕ) (b : Band) (a : Area) (c : ℕ) where
 
 -- ## The band
 
-one-most : (o : Bool) → cond o 1 0 ≤ 1
+pub one-most : (o : Bool) → cond o 1 0 ≤ 1
 one-most true = omega arith
 one-most false = omega arith
 

@@ -57,7 +57,14 @@ fn between(sums: &[u64], p: Part) -> Colour
 }
 
 // To all rectangles, channel by channel.
-pub(crate) fn share(areas: &[u16], y: usize, from: usize, to: usize, sums: &[u64], result: &mut [u64])
+pub(crate) fn share(
+    areas: &[u16],
+    y: usize,
+    from: usize,
+    to: usize,
+    sums: &[u64],
+    result: &mut [u64],
+)
     requires { ⌜ Shareable (now areas) from to (now sums) (now result) ⌝ }
     ensures { λ _. ⌜ now (result .exit) ≡ rewrite (3 * count (now (areas .entry))) (λ i v. v + sharedAt (now (areas .entry)) y from to (now (sums .entry)) i) (now (result .entry)) ⌝ }
 {
