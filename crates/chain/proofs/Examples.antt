@@ -9,6 +9,7 @@ use lib.Ieee.{ofBits, ofInt, add, mul, div, lt, eq}
 use lib.ListN.{drop}
 use Rattle.num.specs.Cases.{Hold}
 use Rattle.num.specs.Const.{c0·5, c1·0}
+use Rattle.num.specs.Refusals.{badSide, unless}
 use Rattle.num.specs.Rewrite.{rewrite}
 use Rattle.num.specs.Steps.{clampOf, cutOf, plusZeroOf, limitOf}
 use Rattle.passes.specs.Flow.{sameHeld, fineHeld}
@@ -17,7 +18,7 @@ use Rattle.passes.specs.Persistence as Persistence
 use Rattle.passes.specs.Pixel.{unpack, pack, packLimited}
 use Rattle.chain.specs.Agree.{opened, SameCall, frames, none, more, before, point}
 use Rattle.chain.specs.Bits.{valueAt, fieldAt}
-use Rattle.chain.specs.Calls.{badSide, stops, lacks, Report, refusal, acceptance, unless, onFirst, presets, unlessFramed, shown, frameReply}
+use Rattle.chain.specs.Calls.{stops, lacks, Report, refusal, acceptance, onFirst, presets, shown, frameReply}
 use Rattle.chain.specs.Card.{stationOf, headerAt, recordsAt, endsAt, endAt, stationAt, accepted, openOf}
 use Rattle.chain.specs.Chain.{wash, over, turn, depth}
 use Rattle.chain.specs.Machine.{Call, frame, reset, switch, step, State, Seen, call, after, run, saw}
@@ -113,7 +114,7 @@ points =
     ∷ []
 
 pub runs-hold : Hold shows × Hold reports × Hold points
-unfolding point before saw run after call frameReply unlessFramed shown unless stops lacks goodStation fineHeld sameHeld badSide settled normalPass normalChain
+unfolding point before saw run after call frameReply shown unless stops lacks goodStation fineHeld sameHeld badSide settled normalPass normalChain
     persists depth fold turn over wash onFirst presets ofBits ofInt add mul div lt clampOf cutOf rewrite unpack pack packLimited
     Persistence.persistence Persistence.decay Persistence.total Persistence.add Persistence.mix Persistence.pixel Persistence.blended Persistence.blend
     Persistence.copies Persistence.refilled Persistence.shifted
@@ -125,7 +126,7 @@ same : (p : ℕ) → SameCall (one 7 p) (one 8 p)
 same p = frames refl (λ fits. refl)
 
 pub agree : drop 2 (saw old (shared 7)) ≡ drop 2 (saw new (shared 8))
-unfolding point before saw run after call frameReply unlessFramed shown unless stops lacks goodStation fineHeld sameHeld badSide settled normalPass normalChain
+unfolding point before saw run after call frameReply shown unless stops lacks goodStation fineHeld sameHeld badSide settled normalPass normalChain
     persists depth fold turn over wash onFirst presets ofBits ofInt add mul div lt clampOf cutOf rewrite unpack pack packLimited
     Persistence.persistence Persistence.decay Persistence.total Persistence.add Persistence.mix Persistence.pixel Persistence.blended Persistence.blend
     Persistence.copies Persistence.refilled Persistence.shifted

@@ -3,6 +3,7 @@ use Prim.Native.Nat.{ℕ}
 use mathlib.Core.List.{List, [], _∷_}
 use mathlib.Core.Path.{_≡_, refl}
 use lib.Ieee.{ofBits, ofInt, sub, mul, div, lt}
+use Rattle.num.specs.Refusals.{badSide, unless}
 use Rattle.num.specs.F32.{dec}
 use Rattle.passes.specs.Fold.{fold}
 use Rattle.num.specs.Rewrite.{rewrite}
@@ -11,7 +12,7 @@ use Rattle.passes.specs.Flow.{sameHeld, fineHeld}
 use Rattle.passes.specs.Pixel.{unpack, pack, dim}
 use Rattle.passes.specs.Scanlines as Scanlines
 use Rattle.chain.specs.Bits.{valueAt, fieldAt}
-use Rattle.chain.specs.Calls.{badSide, stops, lacks, unless, unlessFramed, shown, frameReply}
+use Rattle.chain.specs.Calls.{stops, lacks, shown, frameReply}
 use Rattle.chain.specs.Card.{headerAt, recordsAt, endsAt, endAt, stationAt, openOf}
 use Rattle.chain.specs.Chain.{wash, over, turn, depth}
 use Rattle.chain.specs.Normal.{settled, normalPass, normalChain, persists, goodStation}
@@ -21,7 +22,7 @@ use Rattle.chain.specs.Settings.{finiteAt, limitedAt}
 use Rattle.chain.specs.Step.{refuseIf}
 use Rattle.raster.specs.Pixels.{unpacked}
 use Rattle.events.specs.Events.{headWanted, cardIn, outside, frameWanted, eventWanted, frameFault, eventFault}
-use Rattle.events.specs.Play.{called, unlessFault, playedOf}
+use Rattle.events.specs.Play.{called, playedOf}
 use Rattle.events.specs.Program.{eventLines, printed}
 use Rattle.events.specs.Text.{F, R, E, space, newline, decimal, pixelsOf}
 
@@ -37,7 +38,7 @@ lines =
 
 pub worked : printed input ≡ lines
 unfolding dec ofBits ofInt sub mul div lt cutOf plusZeroOf limitOf rewrite fold sameHeld fineHeld unpack pack dim Scanlines.scanlines Scanlines.inRow
-    openOf stationAt headerAt fieldAt valueAt refuseIf recordsAt endAt endsAt recordAt passAt scanlinesAt finiteAt limitedAt frameReply unlessFramed
+    openOf stationAt headerAt fieldAt valueAt refuseIf recordsAt endAt endsAt recordAt passAt scanlinesAt finiteAt limitedAt frameReply
     shown stops lacks unless badSide goodStation normalChain normalPass settled persists depth turn over wash headWanted cardIn outside frameWanted
-    eventWanted frameFault eventFault unpacked called unlessFault playedOf eventLines printed decimal pixelsOf
+    eventWanted frameFault eventFault unpacked called playedOf eventLines printed decimal pixelsOf
 worked = refl
