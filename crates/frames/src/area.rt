@@ -136,7 +136,7 @@ fn is_large(r: Reading) -> bool
 }
 
 // The rectangle that the words name.
-pub fn named(text: &[u8]) -> Named
+pub fn parse(text: &[u8]) -> Named
     ensures { λ r. ⌜ r ≡ namedOf (now (text .entry)) ⌝ }
 {
     let r = read(text);
@@ -149,7 +149,12 @@ pub fn named(text: &[u8]) -> Named
     if is_large(r) {
         return Named::Fault(TOO_LARGE);
     }
-    Named::Area(r.first as u16, r.second as u16, r.third as u16, r.value as u16)
+    Named::Area(
+        r.first as u16,
+        r.second as u16,
+        r.third as u16,
+        r.value as u16,
+    )
 }
 
 // Whether the words are meant for a rectangle and not for a file: they begin with a digit.

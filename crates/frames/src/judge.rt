@@ -56,5 +56,12 @@ pub fn totals(file: &[u8], words: &mut [u32], areas: &[u16], result: &mut [u64])
         return Judged::NoFrame(number(r));
     };
     let count = height * width;
-    measure(&file[start..], width, height, &mut words[..count], areas, result)
+    measure(
+        &file[start..],
+        width,
+        height,
+        &mut words[..count],
+        areas,
+        result,
+    )
 }

@@ -7,6 +7,7 @@ ghost use Rattle.raster.specs.Ppm.{parseOf};
 ghost use Rattle.chain.specs.Answers.{reported};
 ghost use Rattle.chain.specs.Calls.{frameReply};
 ghost use Rattle.frames.specs.Frames.{Room, Shows, Filters, filteredOf, outcomeOf, numberOf, faultOf};
+
 pub mod area; // a rectangle in words
 pub mod judge; // the totals of rectangles of the frame that a file holds
 

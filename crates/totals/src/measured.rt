@@ -1,0 +1,95 @@
+// The totals of a picture.
+ghost use mathlib.Core.Path.{_≡_};
+ghost use Rattle.io.specs.Counts.{Counts};
+ghost use lib.ListN.{length};
+use cli::input;
+use cli::input::Loaded;
+use cli::says;
+use cli::words;
+use frames::judge;
+use frames::judge::Judged;
+use libc::STDERR_FILENO;
+
+// Three totals for each of 64 areas.
+pub fn room() -> [u64; 192]
+    ensures { λ r. ⌜ 192 ≡ length r ⌝ }
+{
+    [0; 192]
+}
+
+// Whether the picture has the areas, and how many words were read.
+pub struct Measured {
+    pub ok: bool,
+    pub words: u32,
+}
+
+fn refused() -> Measured {
+    Measured {
+        ok: false,
+        words: 0,
+    }
+}
+
+// The file that argument i names.
+fn load(i: usize, file: &mut [u8]) -> Loaded
+    ensures { λ r. ⌜ Counts (r .length) (now (file .exit)) ⌝ }
+{
+    let mut name = io::buffer();
+    let given = input::argument(i, &mut name);
+    let n = given.length;
+    input::file(&name[..n], file)
+}
+
+// Which of the areas leaves the picture: the first that is refused by itself. It is said behind its argument.
+fn outside(first: usize, file: &[u8], words: &mut [u32; 61440], areas: &[u16]) {
+    let mut totals = room();
+    let n = areas.len() / 4;
+    let mut k: usize = 0;
+    while k < n {
+        let at = 4 * k;
+        let end = at + 4;
+        let judged = judge::totals(file, words, &areas[at..end], &mut totals);
+        if let Judged::Refused(_) = judged {
+            says::name(first + k);
+            says::text(b"bad area: it leaves the picture\n");
+            return;
+        }
+        k += 1;
+    }
+}
+
+// The totals of the picture that argument i names; or a line that says why there are none.
+pub fn totals(
+    i: usize,
+    first: usize,
+    file: &mut [u8; 188416],
+    words: &mut [u32; 61440],
+    areas: &[u16],
+    result: &mut [u64; 192],
+) -> Measured {
+    let loaded = load(i, file);
+    if !loaded.ok {
+        return refused();
+    }
+    let n = loaded.length;
+    let more = loaded.more;
+    let fault = frames::fault(&file[..n], more, 61440);
+    if fault != 0 {
+        says::name(i);
+        words::no_frame(STDERR_FILENO, fault);
+        return refused();
+    }
+    let judged = judge::totals(&file[..n], words, areas, result);
+    match judged {
+        Judged::Read(words) => Measured { ok: true, words },
+        Judged::NoFrame(k) => {
+            says::name(i);
+            words::no_frame(STDERR_FILENO, k);
+            refused()
+        }
+        Judged::Refused(_) => {
+            outside(first, &file[..n], words, areas);
+            refused()
+        }
+    }
+}

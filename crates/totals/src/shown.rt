@@ -1,0 +1,91 @@
+// What is written: a line for each area, behind the argument that gave it, and a last line of all.
+use cli::input;
+use libc::STDOUT_FILENO;
+
+fn text(words: &[u8]) {
+    io::write_all(STDOUT_FILENO, words);
+}
+
+fn number(n: u64) {
+    io::print_decimal(STDOUT_FILENO, n);
+}
+
+// The argument at place i, and a colon.
+fn name(i: usize) {
+    let mut name = io::buffer();
+    let given = input::argument(i, &mut name);
+    let n = given.length;
+    text(&name[..n]);
+    text(b": ");
+}
+
+// By how much the second is above the first, with its sign.
+fn difference(a: u64, b: u64) {
+    if a < b {
+        text(b"+");
+        number(b - a);
+        return;
+    }
+    if b < a {
+        text(b"-");
+        number(a - b);
+        return;
+    }
+    text(b"0");
+}
+
+// The totals of one picture.
+pub fn all(first: usize, areas: &[u16], totals: &[u64; 192], words: u32) {
+    let n = areas.len() / 4;
+    let mut k: usize = 0;
+    while k < n && k < 64 {
+        name(first + k);
+        text(b"red ");
+        number(totals[3 * k]);
+        text(b", green ");
+        number(totals[3 * k + 1]);
+        text(b", blue ");
+        number(totals[3 * k + 2]);
+        text(b"\n");
+        k += 1;
+    }
+    number(words as u64);
+    text(b" words read\n");
+}
+
+fn same(k: usize, a: &[u64; 192], b: &[u64; 192]) -> bool {
+    if a[3 * k] != b[3 * k] {
+        return false;
+    }
+    if a[3 * k + 1] != b[3 * k + 1] {
+        return false;
+    }
+    a[3 * k + 2] == b[3 * k + 2]
+}
+
+// Of two pictures: which area differs, and by how much the second is above the first.
+pub fn differences(first: usize, areas: &[u16], totals: &[u64; 192], others: &[u64; 192]) {
+    let n = areas.len() / 4;
+    let mut different: u64 = 0;
+    let mut k: usize = 0;
+    while k < n && k < 64 {
+        name(first + k);
+        if same(k, totals, others) {
+            text(b"the same\n");
+        } else {
+            text(b"differs: red ");
+            difference(totals[3 * k], others[3 * k]);
+            text(b", green ");
+            difference(totals[3 * k + 1], others[3 * k + 1]);
+            text(b", blue ");
+            difference(totals[3 * k + 2], others[3 * k + 2]);
+            text(b"\n");
+            different += 1;
+        }
+        k += 1;
+    }
+    number(different);
+    text(b" of ");
+    number(n as u64);
+    text(b" areas differ\n");
+}
