@@ -1,25 +1,28 @@
+-- `frames::area::begins` meets its contract. Assumes nothing.
+use Prim.Native.Nat.{ℕ, _≤_}
+use mathlib.Core.Bool.{false}
+use mathlib.Core.List.{List, [], _∷_}
+use mathlib.Core.Path.{_≡_, refl, _∙_}
 use borrow.Author.Needs.{needs}
+use native.Mathlib.Omega.{arith}
+use lib.ListN.{length, getD}
+use Rattle.raster.specs.Ppm.{isDigit}
+use Rattle.frames.specs.Area.{beginsOf}
 use Rattle.frames.proofs.area.begins.Statement.{statement}
 use Rattle.frames.proofs.area.begins.Tie as tie
-use Rattle.frames.proofs.area.begins.Reads as reads
-use Rattle.frames.proofs.area.begins.Lts as lts
-use Rattle.raster.proofs.ppm.is_digit.Reads as is-digit-reads
 
--- src/area.rt:165:9
-returns : tie.Need-returns
-returns c = ?
+none : (text : List ℕ) → length text ≡ 0 → false ≡ beginsOf text
+unfolding beginsOf
+none [] e = refl
+none (b ∷ text) e = absurd (omega arith)
 
--- src/area.rt:167:14
-shared-slice-read-is-digit : tie.Need-shared-slice-read-is-digit
-shared-slice-read-is-digit c = search needs
+first : (text : List ℕ) → (length text ≡ 0 → ⊥) → isDigit (getD text 0 0) ≡ beginsOf text
+unfolding beginsOf
+first [] some = absurd (some refl)
+first (b ∷ text) some = refl
 
--- src/area.rt:167:5
-is-digit-requires : tie.Need-is-digit-requires
-is-digit-requires c κs = search needs
-
--- src/area.rt:161:1
 returns-2 : tie.Need-returns-2
-returns-2 c = ?
+returns-2 c = c .is-digit .ensures ∙ first _ (c .before .before .if1 .left)
 
 pub begins-spec : {M : Type 1} → statement M
-begins-spec = tie.close (tie.spec returns shared-slice-read-is-digit is-digit-requires returns-2)
+begins-spec = tie.close (tie.spec (λ c. none _ (c .if1 .taken)) (λ c. search needs) (λ c κs. tt) returns-2)

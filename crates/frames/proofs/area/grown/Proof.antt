@@ -1,24 +1,15 @@
-use borrow.Author.Needs.{needs}
+-- `frames::area::grown` meets its contract. Assumes nothing.
+use mathlib.Core.Path.{refl}
+use native.Mathlib.Omega.{arith}
+use borrow.Author.Tests.{lt-ltb, le-ltb}
 use Rattle.frames.proofs.area.grown.Statement.{statement}
 use Rattle.frames.proofs.area.grown.Tie as tie
-use Rattle.frames.proofs.area.grown.Reads as reads
-use Rattle.frames.proofs.area.grown.Lts as lts
 
--- src/area.rt:35:9
 returns : tie.Need-returns
-returns c = ?
+returns c = (simp (lt-ltb _ _ (c .if1 .taken)), omega arith)
 
--- src/area.rt:37:5
-mul-result : tie.Need-mul-result
-mul-result c = search needs
-
--- src/area.rt:37:5
-add-result : tie.Need-add-result
-add-result c = search needs
-
--- src/area.rt:30:1
 returns-2 : tie.Need-returns-2
-returns-2 c = ?
+returns-2 c = (simp (le-ltb _ _ (c .if1 .left)), omega arith)
 
 pub grown-spec : {M : Type 1} → statement M
-grown-spec = tie.close (tie.spec returns mul-result add-result returns-2)
+grown-spec = tie.close (tie.spec returns (λ c. omega arith) (λ c. omega arith) returns-2)

@@ -1,53 +1,34 @@
+-- `frames::area::read` meets its contract: byte after byte. Assumes nothing.
+use Prim.Native.Nat.{ℕ, _+_, _-_, _≤_}
+use mathlib.Core.Path.{_≡_, refl, sym, ap, _∙_}
+use native.Mathlib.Omega.{arith}
+use lib.ListN.{length, drop}
+use Rattle.frames.specs.Area.{unread, readOf}
+use Rattle.frames.specs.declared.area.Reading.{Reading}
+use Rattle.frames.proofs.Words.{read-next, read-all}
 use Rattle.frames.proofs.area.read.Statement.{statement}
 use Rattle.frames.proofs.area.read.Tie as tie
-use Rattle.frames.proofs.area.read.Reads as reads
-use Rattle.frames.proofs.area.read.Lts as lts
-use Rattle.frames.proofs.area.step.Reads as step-reads
 
 abbrev Inv-loop : tie.InvT-loop
-Inv-loop text r₀ i₀ r i = ?
+Inv-loop text r₀ i₀ r i = (readOf r (drop i text) ≡ readOf unread text) × (r .value ≤ 655359)
 
 abbrev μ-loop : tie.MeasureT-loop
-μ-loop text r₀ i₀ r i = ?
+μ-loop text r₀ i₀ r i = length text - i
 
--- src/area.rt:116:5
-loop-holds : tie.Need-loop-holds Inv-loop μ-loop
-loop-holds c = ?
-
--- src/area.rt:117:21
-shared-slice-read-step : tie.Need-shared-slice-read-step Inv-loop μ-loop
-shared-slice-read-step c = ?
-
--- src/area.rt:117:9
-step-requires : tie.Need-step-requires Inv-loop μ-loop
-step-requires c κs = ?
-
--- src/area.rt:118:9
-add-i : tie.Need-add-i Inv-loop μ-loop
-add-i c = ?
-
--- src/area.rt:116:5
-loop-less : tie.Need-loop-less Inv-loop μ-loop
-loop-less c = ?
-
--- src/area.rt:116:5
 loop-again : tie.Need-loop-again Inv-loop μ-loop
-loop-again c = ?
+loop-again c =
+    let in-loop = c .before .before in
+    let text = in-loop .before .before .before .args .text .now in
+    let i = in-loop .before .loop .i in (
+      ap (λ (s : Reading). readOf s (drop (i + 1) text)) (c .step .ensures .0)
+          ∙ sym (read-next (in-loop .before .loop .r) text i (in-loop .loop-test .taken)) ∙ in-loop .before .loop .inv .0,
+      c .step .ensures .1,
+    )
 
--- src/area.rt:104:1
 returns : tie.Need-returns Inv-loop μ-loop
-returns c = ?
+returns c = sym (read-all _ _ _ (c .loop-test .left)) ∙ c .before .loop .inv .0
 
 pub read-spec : {M : Type 1} → statement M
 read-spec =
     tie.close
-    (tie.spec
-    Inv-loop
-    μ-loop
-    loop-holds
-    shared-slice-read-step
-    step-requires
-    add-i
-    loop-less
-    loop-again
-    returns)
+    (tie.spec Inv-loop μ-loop (λ c. (refl, omega arith)) (λ c. omega arith) (λ c κs. c .before .before .loop .inv .1) (λ c. omega arith) (λ c. omega arith) loop-again returns)

@@ -1,74 +1,48 @@
+-- `frames::area::step` meets its contract: each test went as the definition's. Assumes nothing.
+use Prim.Native.Nat.{ℕ, _≤_}
+use mathlib.Core.Bool.{false}
+use mathlib.Core.Path.{_≡_, sym, _∙_}
 use borrow.Author.Needs.{needs}
+use borrow.Author.Tests.{not-true, not-false}
+use native.Mathlib.Omega.{arith}
+use Rattle.raster.specs.Ppm.{isDigit}
+use Rattle.frames.proofs.Words.{digit-in, step-digit, step-other, step-empty, step-fifth, step-comma}
 use Rattle.frames.proofs.area.step.Statement.{statement}
 use Rattle.frames.proofs.area.step.Tie as tie
-use Rattle.frames.proofs.area.step.Reads as reads
-use Rattle.frames.proofs.area.step.Lts as lts
-use Rattle.frames.proofs.area.next_number.Reads as next-number-reads
-use Rattle.frames.proofs.area.spoilt.Reads as spoilt-reads
-use Rattle.frames.proofs.area.with_digit.Reads as with-digit-reads
-use Rattle.raster.proofs.ppm.is_digit.Reads as is-digit-reads
 
--- src/area.rt:89:8
-is-digit-requires : tie.Need-is-digit-requires
-is-digit-requires c κs = search needs
+in-digits : (c : tie.Then1) → (48 ≤ c .before .before .args .b) × (c .before .before .args .b ≤ 57)
+in-digits c = digit-in _ (sym (c .before .is-digit .ensures) ∙ c .if1 .taken)
 
--- src/area.rt:90:30
-sub-with-digit : tie.Need-sub-with-digit
-sub-with-digit c = ?
+no-digit : (c : tie.Else1) → isDigit (c .before .before .args .b) ≡ false
+no-digit c = sym (c .before .is-digit .ensures) ∙ c .if1 .left
 
--- src/area.rt:90:9
-with-digit-requires : tie.Need-with-digit-requires
-with-digit-requires c κs = ?
-
--- src/area.rt:90:9
 returns : tie.Need-returns
-returns c = ?
+returns c =
+    let t = c .before in
+    (c .with-digit .ensures .0 ∙ step-digit _ _ (sym (t .before .is-digit .ensures) ∙ t .if1 .taken), c .with-digit .ensures .1)
 
--- src/area.rt:93:9
-spoilt-requires : tie.Need-spoilt-requires
-spoilt-requires c κs = search needs
-
--- src/area.rt:93:9
 returns-2 : tie.Need-returns-2
-returns-2 c = ?
+returns-2 c = (c .spoilt .ensures .0 ∙ step-other _ _ (no-digit (c .before .before)) (c .before .if2 .taken), c .spoilt .ensures .1)
 
--- src/area.rt:96:9
-spoilt-requires-2 : tie.Need-spoilt-requires-2
-spoilt-requires-2 c κs = search needs
-
--- src/area.rt:96:9
 returns-3 : tie.Need-returns-3
-returns-3 c = ?
+returns-3 c =
+    let comma = c .before .before .before in
+    (c .spoilt2 .ensures .0 ∙ step-empty _ _ (no-digit (comma .before)) (comma .if2 .left) (not-true _ (c .before .if3 .taken)), c .spoilt2 .ensures .1)
 
--- src/area.rt:99:9
-spoilt-requires-3 : tie.Need-spoilt-requires-3
-spoilt-requires-3 c κs = search needs
-
--- src/area.rt:99:9
 returns-4 : tie.Need-returns-4
-returns-4 c = ?
+returns-4 c =
+    let digit = c .before .before .before in
+    let comma = digit .before .before in
+    (c .spoilt3 .ensures .0 ∙ step-fifth _ _ (no-digit (comma .before)) (comma .if2 .left) (not-false _ (digit .if3 .left)) (c .before .if4 .taken), c .spoilt3 .ensures .1)
 
--- src/area.rt:101:5
-next-number-requires : tie.Need-next-number-requires
-next-number-requires c κs = search needs
-
--- src/area.rt:85:1
 returns-5 : tie.Need-returns-5
-returns-5 c = ?
+returns-5 c =
+    let digit = c .before .before .before in
+    let comma = digit .before .before in
+    (c .next-number .ensures .0 ∙ step-comma _ _ (no-digit (comma .before)) (comma .if2 .left) (not-false _ (digit .if3 .left)) (c .before .if4 .left), c .next-number .ensures .1)
 
 pub step-spec : {M : Type 1} → statement M
 step-spec =
     tie.close
-    (tie.spec
-    is-digit-requires
-    sub-with-digit
-    with-digit-requires
-    returns
-    spoilt-requires
-    returns-2
-    spoilt-requires-2
-    returns-3
-    spoilt-requires-3
-    returns-4
-    next-number-requires
-    returns-5)
+    (tie.spec (λ c κs. tt) (λ c. omega (arith, in-digits c)) (λ c κs. omega (arith, in-digits c)) returns (λ c κs. search needs) returns-2 (λ c κs. search needs) returns-3
+    (λ c κs. search needs) returns-4 (λ c κs. omega arith) returns-5)

@@ -1,24 +1,11 @@
+-- `frames::judge::told` meets its contract. Assumes nothing.
+use mathlib.Core.Path.{ap, sym}
 use borrow.Author.Needs.{needs}
+use Rattle.frames.specs.Judge.{judgedOf}
 use Rattle.frames.proofs.judge.told.Statement.{statement}
 use Rattle.frames.proofs.judge.told.Tie as tie
-use Rattle.frames.proofs.judge.told.Reads as reads
-use Rattle.frames.proofs.judge.told.Lts as lts
-
--- src/judge.rt:29:22
-enum-known-answer : tie.Need-enum-known-answer
-enum-known-answer c = search needs
-
--- src/judge.rt:30:25
-enum-known-answer-2 : tie.Need-enum-known-answer-2
-enum-known-answer-2 c = search needs
-
--- src/judge.rt:25:1
-returns : tie.Need-returns
-returns c = ?
-
--- src/judge.rt:25:1
-returns-2 : tie.Need-returns-2
-returns-2 c = ?
 
 pub told-spec : {M : Type 1} → statement M
-told-spec = tie.close (tie.spec enum-known-answer enum-known-answer-2 returns returns-2)
+told-spec =
+    tie.close
+    (tie.spec (λ c. search needs) (λ c. search needs) (λ c. ap judgedOf (sym (c .before .answer .given .1))) (λ c. ap judgedOf (sym (c .before .answer2 .given .1))))

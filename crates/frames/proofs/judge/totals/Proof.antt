@@ -1,88 +1,84 @@
+-- `frames::judge::totals` meets its contract: a frame that is taken lies whole in the file, and its words in the scratch. Assumes nothing.
 use borrow.Author.Needs.{needs}
+use Prim.Native.Nat.{ℕ, _-_, _*_, _≤_}
+use mathlib.Core.List.{List}
+use mathlib.Core.Path.{_≡_, sym, ap, subst, _∙_}
+use native.Mathlib.Omega.{arith}
+use lib.ListN.{length, take, drop, length-drop}
+use lib.Seq.{length-take-le, take-all}
+use Rattle.areas.specs.Areas.{judged}
+use Rattle.raster.specs.Claims.{Whole}
+use Rattle.raster.specs.Pixels.{unpacked}
+use Rattle.raster.specs.Ppm.{parseOf}
+use Rattle.raster.specs.declared.ppm.Parsed.{Parsed}
+use Rattle.raster.specs.declared.ppm.Parsed.the-variants as Parsed
+use Rattle.raster.proofs.Taken.{taken-whole}
+use Rattle.frames.specs.Frames.{numberOf}
+use Rattle.frames.specs.Judge.{given, byFrame, fileJudged}
+use Rattle.frames.specs.declared.judge.Judged.{Judged}
+use Rattle.frames.specs.declared.judge.Judged.the-variants.{NoFrame}
+use Rattle.frames.proofs.Parts.{few}
 use Rattle.frames.proofs.judge.totals.Statement.{statement}
 use Rattle.frames.proofs.judge.totals.Tie as tie
-use Rattle.frames.proofs.judge.totals.Reads as reads
-use Rattle.frames.proofs.judge.totals.Lts as lts
-use Rattle.frames.proofs.judge.measure.Reads as measure-reads
-use Rattle.frames.proofs.number.Reads as number-reads
-use Rattle.raster.proofs.ppm.parse.Reads as parse-reads
 
--- src/judge.rt:54:9
-parse-requires : tie.Need-parse-requires
-parse-requires c κs = search needs
+module _ (most : ℕ) (file areas result : List ℕ) {p : Parsed} (e : p ≡ parseOf most file) where
+  by-parsed : byFrame p file areas result ≡ fileJudged most file areas result
+  unfolding fileJudged
+  by-parsed = ap (λ (q : Parsed). byFrame q file areas result) e
 
--- src/judge.rt:55:23
-enum-known-r : tie.Need-enum-known-r
-enum-known-r c = search needs
+  no-frame : {k number : ℕ} → p ≡ Parsed.Refused k → number ≡ numberOf p → (NoFrame number, result) ≡ fileJudged most file areas result
+  no-frame {k} {number} is n =
+      ap (λ (m : ℕ). (NoFrame m, result)) (n ∙ ap numberOf is) ∙ ap (λ (q : Parsed). byFrame q file areas result) (sym is) ∙ by-parsed
 
--- src/judge.rt:56:32
-enum-told : tie.Need-enum-told
-enum-told c = search needs
+  measured : {w h start : ℕ} {pixels : List ℕ} {x : Judged × List ℕ} → p ≡ Parsed.Frame w h start → pixels ≡ drop start file
+      → x ≡ given (judged (unpacked (h * w) pixels) w h areas result) → x ≡ fileJudged most file areas result
+  measured {w} {h} {start} is part g =
+      g ∙ ap (λ (xs : List ℕ). given (judged (unpacked (h * w) xs) w h areas result)) part ∙ ap (λ (q : Parsed). byFrame q file areas result) (sym is) ∙ by-parsed
 
--- src/judge.rt:56:32
-number-requires : tie.Need-number-requires
-number-requires c κs = search needs
+-- a frame was taken
+module _ (c : tie.After-known-told) where
+  abbrev start : tie.Start
+  start = c .before .before .before .before .before .before .before .before
 
--- src/judge.rt:56:9
+  abbrev width : ℕ
+  width = c .before .r .given .0 .0
+
+  abbrev height : ℕ
+  height = c .before .r .given .0 .1 .0
+
+  abbrev from : ℕ
+  from = c .before .r .given .0 .1 .1 .0
+
+  whole : Whole (length (start .args .words .now)) (start .args .file .now) width height from
+  whole = taken-whole _ _ _ _ _ (sym (c .before .before .before .parse .ensures) ∙ c .before .r .given .1)
+
+  lent : length (take (height * width) (start .args .words .now)) ≡ height * width
+  lent = length-take-le _ (start .args .words .now) (whole .few)
+
+  -- what is lent of the file is all that follows the header
+  pixels : take (length (start .args .file .now) - from) (drop from (start .args .file .now)) ≡ drop from (start .args .file .now)
+  pixels = take-all (length (start .args .file .now) - from) (drop from (start .args .file .now)) (simp length-drop (omega arith))
+
+  pixels-room : length (drop from (start .args .file .now)) ≡ 3 * (height * width)
+  pixels-room = simp length-drop (omega (arith, whole .ends))
+
 returns : tie.Need-returns
-returns c = ?
+returns c = no-frame _ _ _ _ (c .before .before .before .parse .ensures) (c .before .enum-told .given .1) (c .number .ensures)
 
--- src/judge.rt:58:17
-mul-count : tie.Need-mul-count
-mul-count c = ?
-
--- src/judge.rt:60:9
-sub-measure : tie.Need-sub-measure
-sub-measure c = ?
-
--- src/judge.rt:60:9
-part-measure-start : tie.Need-part-measure-start
-part-measure-start c = ?
-
--- src/judge.rt:60:9
-part-measure-end : tie.Need-part-measure-end
-part-measure-end c = search needs
-
--- src/judge.rt:63:9
-slice-relend-prefix-measure : tie.Need-slice-relend-prefix-measure
-slice-relend-prefix-measure c = ?
-
--- src/judge.rt:63:9
-slice-aggregate-measure : tie.Need-slice-aggregate-measure
-slice-aggregate-measure c = ?
-
--- src/judge.rt:59:5
 measure-requires : tie.Need-measure-requires
-measure-requires c κs = ?
+measure-requires c κs =
+    let t = c .before .before .before in
+    record { words-room = lent t; pixels-room = subst (λ (xs : List ℕ). length xs ≡ 3 * (height t * width t)) (sym (pixels t)) (pixels-room t) }
 
--- src/judge.rt:51:1
-same-length : tie.Need-same-length
-same-length c = search needs
-
--- src/judge.rt:51:1
-same-length-2 : tie.Need-same-length-2
-same-length-2 c = search needs
-
--- src/judge.rt:51:1
 returns-2 : tie.Need-returns-2
-returns-2 c = ?
+returns-2 c =
+    let m = c .before .before .before .before in
+    let t = m .before .before .before .before in
+    measured _ _ _ _ (t .before .before .before .parse .ensures) (t .before .r .given .1) (pixels t) (m .measure .ensures)
 
 pub totals-spec : {M : Type 1} → statement M
 totals-spec =
     tie.close
-    (tie.spec
-    parse-requires
-    enum-known-r
-    enum-told
-    number-requires
-    returns
-    mul-count
-    sub-measure
-    part-measure-start
-    part-measure-end
-    slice-relend-prefix-measure
-    slice-aggregate-measure
-    measure-requires
-    same-length
-    same-length-2
-    returns-2)
+    (tie.spec (λ c κs. tt) (λ c. search needs) (λ c. search needs) (λ c κs. tt) returns (λ c. omega (arith, few _ _ _ _ _ (whole c))) (λ c. omega (arith, whole c .ends))
+    (λ c. omega (arith, whole c .ends)) (λ c. search needs) (λ c. omega (arith, whole (c .before) .few)) (λ c. sym (lent (c .before .before))) measure-requires
+    (λ c. search needs) (λ c. search needs) returns-2)
