@@ -1,15 +1,18 @@
 //! The comparison of the number steps with Rust's own, of cards with a reading of document 01, of the
 //! passes with the original's, of program `station` with recorded answers and with a model of document
 //! 01 over the original's pipeline, of program `card` with a text from that reading, of program `filter`
-//! with the original's pipeline, and of runs of calls with such a model. Beside it the measurement of both.
+//! with the original's pipeline, of runs of calls with such a model, and of the totals of rectangles with a model of document
+//! 02. Beside it the measurement of both.
 //! Five scripts build and start it from the repository's root: `oracle/compare`, `oracle/bench`, `oracle/counts`,
 //! `oracle/record` and `oracle/fuzz`. They set `with_original` where they find the original: without it there are
 //! no passes to compare, and no model. `oracle/fuzz` compiles it once more, with `fuzz` set, as a library that
 //! libFuzzer calls.
 #![cfg_attr(any(fuzz, not(with_original)), allow(dead_code))]
 
+// Not in the fuzzer: it calls the exports on a state.
+#[cfg(not(fuzz))]
+mod areas;
 mod bench;
-#[cfg(with_original)]
 #[cfg_attr(fuzz, path = "guarded.rs")]
 mod bridge;
 mod cards;
@@ -63,6 +66,8 @@ fn main() -> ExitCode {
         ["runs", "quick"] => only(runs::compare::run, Mode::Quick),
         #[cfg(with_original)]
         ["runs", "full"] => only(runs::compare::run, Mode::Full),
+        ["areas", "quick"] => only(areas::compare::run, Mode::Quick),
+        ["areas", "full"] => only(areas::compare::run, Mode::Full),
         ["programs", "quick"] => programs(Mode::Quick),
         ["programs", "full"] => programs(Mode::Full),
         ["quick"] => compare(Mode::Quick, None),
@@ -72,7 +77,7 @@ fn main() -> ExitCode {
         _ => {
             eprintln!(
                 "expected: bench; measure and what; record and a file; seeds, station or bridge, and a folder; \
-                 passes, runs or programs, and quick or full; quick or full and then the original's folder, if any"
+                 passes, runs, areas or programs, and quick or full; quick or full and then the original's folder, if any"
             );
             ExitCode::from(2)
         }
@@ -90,6 +95,8 @@ fn compare(mode: Mode, original: Option<&Path>) -> ExitCode {
     }
     steps::run(mode, &mut total);
     cards::compare::run(mode, &mut total);
+    #[cfg(not(fuzz))]
+    areas::compare::run(mode, &mut total);
     let programs = station::compare::run(mode, &mut total)
         .and_then(|()| programs::compare::run(mode, &mut total));
     if let Err(what) = programs {
@@ -104,8 +111,7 @@ fn compare(mode: Mode, original: Option<&Path>) -> ExitCode {
     verdict(&total)
 }
 
-/// The passes, or the runs of calls, by themselves.
-#[cfg(with_original)]
+/// The passes, the runs of calls, or the totals of rectangles, by themselves.
 fn only(part: fn(Mode, &mut Total), mode: Mode) -> ExitCode {
     let mut total = Total::default();
     part(mode, &mut total);
@@ -143,17 +149,15 @@ fn told(written: std::io::Result<()>) -> ExitCode {
     }
 }
 
-/// The time of the steps and of the passes.
+/// The time of the steps, of the totals of rectangles and of the passes.
 #[cfg(not(fuzz))]
 fn time() -> ExitCode {
     let steps = bench::run();
+    let areas = areas::bench::run();
     #[cfg(with_original)]
     let passes = measure::time();
     #[cfg(not(with_original))]
     let passes = ExitCode::SUCCESS;
-    if steps == ExitCode::SUCCESS {
-        passes
-    } else {
-        steps
-    }
+    let failed = |status: &ExitCode| *status != ExitCode::SUCCESS;
+    [steps, areas, passes].into_iter().find(failed).unwrap_or(ExitCode::SUCCESS)
 }

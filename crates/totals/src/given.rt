@@ -1,6 +1,6 @@
 // The areas that the arguments give.
 ghost use mathlib.Core.Path.{_≡_};
-ghost use Prim.Native.Nat.{_≤_};
+ghost use Prim.Native.Nat.{_+_, _<_, _≤_};
 ghost use lib.ListN.{length};
 use cli::input;
 use cli::says;
@@ -53,9 +53,30 @@ fn refused() -> Taken
     }
 }
 
+// The area that argument i gives, as four numbers from place n on. Whether it gives one; else it is said why not.
+fn take(i: usize, n: usize, out: &mut [u16]) -> bool
+    requires { ⌜ n + 3 < length (now out) ⌝ }
+{
+    let area = named(i);
+    match area {
+        Named::Area(left, top, width, height) => {
+            out[n] = left;
+            out[n + 1] = top;
+            out[n + 2] = width;
+            out[n + 3] = height;
+            true
+        }
+        Named::Fault(k) => {
+            not_named(i, k);
+            false
+        }
+    }
+}
+
 // The arguments from `first` on, as areas.
-pub fn areas(first: usize, count: usize, out: &mut [u16; 256]) -> Taken
-    ensures { λ r. ⌜ r .numbers ≤ 256 ⌝ }
+pub fn areas(first: usize, count: usize, out: &mut [u16]) -> Taken
+    requires { ⌜ 256 ≡ length (now out) ⌝ }
+    ensures { λ r. ⌜ r .numbers ≤ length (now (out .exit)) ⌝ }
 {
     let mut n: usize = 0;
     let mut i = first;
@@ -64,18 +85,8 @@ pub fn areas(first: usize, count: usize, out: &mut [u16; 256]) -> Taken
             says::text(b"too many areas: at most 64\n");
             return refused();
         }
-        let area = named(i);
-        match area {
-            Named::Area(left, top, width, height) => {
-                out[n] = left;
-                out[n + 1] = top;
-                out[n + 2] = width;
-                out[n + 3] = height;
-            }
-            Named::Fault(k) => {
-                not_named(i, k);
-                return refused();
-            }
+        if !take(i, n, out) {
+            return refused();
         }
         n += 4;
         i += 1;

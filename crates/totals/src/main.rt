@@ -1,6 +1,8 @@
 // Program `totals`: the exact red, green and blue totals of areas of a picture, and of two pictures which area differs and by how much. The areas are given
 // behind the pictures, which are files of binary PPM. All is looked at before anything is written. Which area an argument names, and what a file has in the
 // areas, is decided by crate `frames`.
+ghost use Prim.Native.Nat.{_≤_};
+
 mod given; // the areas that the arguments give
 mod measured; // the totals of a picture
 mod shown; // what is written
@@ -16,7 +18,9 @@ fn usage() {
 }
 
 // One picture: `first` is the place of the first area among the arguments.
-fn one(first: usize, areas: &[u16]) {
+fn one(first: usize, areas: &[u16])
+    requires { ⌜ first ≤ 3 ⌝ }
+{
     let mut file = memory::file();
     let mut words = memory::words();
     let mut totals = measured::room();
@@ -26,7 +30,9 @@ fn one(first: usize, areas: &[u16]) {
     }
 }
 
-fn two(first: usize, areas: &[u16]) {
+fn two(first: usize, areas: &[u16])
+    requires { ⌜ first ≤ 3 ⌝ }
+{
     let mut file = memory::file();
     let mut words = memory::words();
     let mut totals = measured::room();
@@ -41,13 +47,10 @@ fn two(first: usize, areas: &[u16]) {
     }
 }
 
-fn main() {
-    let count = os::arg_count();
-    if count < 3 || input::is_option(1) {
-        usage();
-        return;
-    }
-    let first = if given::is_area(2) { 2 } else { 3 };
+// `first` is 2 behind one picture, 3 behind two.
+fn run(first: usize, count: usize)
+    requires { ⌜ first ≤ 3 ⌝ }
+{
     if count <= first {
         usage();
         return;
@@ -62,5 +65,18 @@ fn main() {
         one(first, &areas[..n]);
     } else {
         two(first, &areas[..n]);
+    }
+}
+
+fn main() {
+    let count = os::arg_count();
+    if count < 3 || input::is_option(1) {
+        usage();
+        return;
+    }
+    if given::is_area(2) {
+        run(2, count);
+    } else {
+        run(3, count);
     }
 }

@@ -1,5 +1,6 @@
 // The totals of a picture.
 ghost use mathlib.Core.Path.{_≡_};
+ghost use Prim.Native.Nat.{_≤_};
 ghost use Rattle.io.specs.Counts.{Counts};
 ghost use lib.ListN.{length};
 use cli::input;
@@ -40,16 +41,26 @@ fn load(i: usize, file: &mut [u8]) -> Loaded
     input::file(&name[..n], file)
 }
 
-// Which of the areas leaves the picture: the first that is refused by itself. It is said behind its argument.
-fn outside(first: usize, file: &[u8], words: &mut [u32; 61440], areas: &[u16]) {
+// Whether the one area is refused.
+fn leaves(file: &[u8], words: &mut [u32], area: &[u16]) -> bool {
     let mut totals = room();
+    let judged = judge::totals(file, words, area, &mut totals);
+    match judged {
+        Judged::Refused(_) => true,
+        _ => false,
+    }
+}
+
+// Which of the areas leaves the picture: the first that is refused by itself. It is said behind its argument.
+fn outside(first: usize, file: &[u8], words: &mut [u32], areas: &[u16])
+    requires { ⌜ first ≤ 3 ⌝ }
+{
     let n = areas.len() / 4;
     let mut k: usize = 0;
     while k < n {
         let at = 4 * k;
         let end = at + 4;
-        let judged = judge::totals(file, words, &areas[at..end], &mut totals);
-        if let Judged::Refused(_) = judged {
+        if leaves(file, words, &areas[at..end]) {
             says::name(first + k);
             says::text(b"bad area: it leaves the picture\n");
             return;
@@ -62,11 +73,13 @@ fn outside(first: usize, file: &[u8], words: &mut [u32; 61440], areas: &[u16]) {
 pub fn totals(
     i: usize,
     first: usize,
-    file: &mut [u8; 188416],
-    words: &mut [u32; 61440],
+    file: &mut [u8],
+    words: &mut [u32],
     areas: &[u16],
-    result: &mut [u64; 192],
-) -> Measured {
+    result: &mut [u64],
+) -> Measured
+    requires { ⌜ first ≤ 3 ⌝ }
+{
     let loaded = load(i, file);
     if !loaded.ok {
         return refused();

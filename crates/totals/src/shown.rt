@@ -1,4 +1,5 @@
 // What is written: a line for each area, behind the argument that gave it, and a last line of all.
+ghost use Prim.Native.Nat.{_<_, _≤_};
 use cli::input;
 use libc::STDOUT_FILENO;
 
@@ -34,26 +35,37 @@ fn difference(a: u64, b: u64) {
     text(b"0");
 }
 
+// The totals of area k, behind argument i.
+fn line(i: usize, k: usize, totals: &[u64; 192])
+    requires { ⌜ k < 64 ⌝ }
+{
+    name(i);
+    text(b"red ");
+    number(totals[3 * k]);
+    text(b", green ");
+    number(totals[3 * k + 1]);
+    text(b", blue ");
+    number(totals[3 * k + 2]);
+    text(b"\n");
+}
+
 // The totals of one picture.
-pub fn all(first: usize, areas: &[u16], totals: &[u64; 192], words: u32) {
+pub fn all(first: usize, areas: &[u16], totals: &[u64; 192], words: u32)
+    requires { ⌜ first ≤ 3 ⌝ }
+{
     let n = areas.len() / 4;
     let mut k: usize = 0;
     while k < n && k < 64 {
-        name(first + k);
-        text(b"red ");
-        number(totals[3 * k]);
-        text(b", green ");
-        number(totals[3 * k + 1]);
-        text(b", blue ");
-        number(totals[3 * k + 2]);
-        text(b"\n");
+        line(first + k, k, totals);
         k += 1;
     }
     number(words as u64);
     text(b" words read\n");
 }
 
-fn same(k: usize, a: &[u64; 192], b: &[u64; 192]) -> bool {
+fn same(k: usize, a: &[u64; 192], b: &[u64; 192]) -> bool
+    requires { ⌜ k < 64 ⌝ }
+{
     if a[3 * k] != b[3 * k] {
         return false;
     }
@@ -63,25 +75,35 @@ fn same(k: usize, a: &[u64; 192], b: &[u64; 192]) -> bool {
     a[3 * k + 2] == b[3 * k + 2]
 }
 
+// How area k differs, behind argument i; 1 where it does.
+fn compared(i: usize, k: usize, totals: &[u64; 192], others: &[u64; 192]) -> u64
+    requires { ⌜ k < 64 ⌝ }
+    ensures { λ r. ⌜ r ≤ 1 ⌝ }
+{
+    name(i);
+    if same(k, totals, others) {
+        text(b"the same\n");
+        return 0;
+    }
+    text(b"differs: red ");
+    difference(totals[3 * k], others[3 * k]);
+    text(b", green ");
+    difference(totals[3 * k + 1], others[3 * k + 1]);
+    text(b", blue ");
+    difference(totals[3 * k + 2], others[3 * k + 2]);
+    text(b"\n");
+    1
+}
+
 // Of two pictures: which area differs, and by how much the second is above the first.
-pub fn differences(first: usize, areas: &[u16], totals: &[u64; 192], others: &[u64; 192]) {
+pub fn differences(first: usize, areas: &[u16], totals: &[u64; 192], others: &[u64; 192])
+    requires { ⌜ first ≤ 3 ⌝ }
+{
     let n = areas.len() / 4;
     let mut different: u64 = 0;
     let mut k: usize = 0;
     while k < n && k < 64 {
-        name(first + k);
-        if same(k, totals, others) {
-            text(b"the same\n");
-        } else {
-            text(b"differs: red ");
-            difference(totals[3 * k], others[3 * k]);
-            text(b", green ");
-            difference(totals[3 * k + 1], others[3 * k + 1]);
-            text(b", blue ");
-            difference(totals[3 * k + 2], others[3 * k + 2]);
-            text(b"\n");
-            different += 1;
-        }
+        different += compared(first + k, k, totals, others);
         k += 1;
     }
     number(different);
