@@ -87,7 +87,14 @@ pub fn depth(state: &State) -> Answer {
 
 /// The totals of rectangles, and in `read` how many words were read. The picture is a place in memory and its words: not all of it
 /// may be readable.
-pub fn areas(picture: (*const u32, usize), width: usize, height: usize, list: &[u16], result: &mut [u64], read: &mut [u32; 1]) -> Answer {
+pub fn areas(
+    picture: (*const u32, usize),
+    width: usize,
+    height: usize,
+    list: &[u16],
+    result: &mut [u64],
+    read: &mut [u32; 1],
+) -> Answer {
     // SAFETY: as above; the picture's words are there, and those that a rectangle holds can be read.
     answer(unsafe {
         exports::hedgemallow_areas(

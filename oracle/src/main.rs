@@ -118,7 +118,7 @@ fn only(part: fn(Mode, &mut Total), mode: Mode) -> ExitCode {
     verdict(&total)
 }
 
-/// The programs `card` and `filter` by themselves.
+/// The programs `card`, `filter` and `totals` by themselves.
 fn programs(mode: Mode) -> ExitCode {
     let mut total = Total::default();
     if let Err(what) = programs::compare::run(mode, &mut total) {
@@ -159,5 +159,8 @@ fn time() -> ExitCode {
     #[cfg(not(with_original))]
     let passes = ExitCode::SUCCESS;
     let failed = |status: &ExitCode| *status != ExitCode::SUCCESS;
-    [steps, areas, passes].into_iter().find(failed).unwrap_or(ExitCode::SUCCESS)
+    [steps, areas, passes]
+        .into_iter()
+        .find(failed)
+        .unwrap_or(ExitCode::SUCCESS)
 }

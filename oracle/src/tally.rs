@@ -674,7 +674,14 @@ impl AreaTally {
     }
 
     /// Counts a call of so many rectangles with what it had to answer, which it did or not.
-    pub fn check(&mut self, at: usize, asked: Result<u32, u32>, areas: usize, right: bool, text: impl FnOnce() -> String) {
+    pub fn check(
+        &mut self,
+        at: usize,
+        asked: Result<u32, u32>,
+        areas: usize,
+        right: bool,
+        text: impl FnOnce() -> String,
+    ) {
         self.calls += 1;
         self.areas += areas as u64;
         match asked {
@@ -812,7 +819,10 @@ impl fmt::Display for Total {
             different,
             unmet,
         } = self;
-        write!(f, "{compared} values, {cards} cards, {lists} lists of rectangles")?;
+        write!(
+            f,
+            "{compared} values, {cards} cards, {lists} lists of rectangles"
+        )?;
         if *frames > 0 {
             write!(f, ", {frames} frames of {words} words, {calls} calls")?;
         }

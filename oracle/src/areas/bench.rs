@@ -63,7 +63,11 @@ fn lists() -> Vec<(&'static str, Option<f64>, Vec<u16>)> {
         ("one of 64 by 64", Some(4.0), vec![317, 501, 64, 64]),
         ("64 stripes of 8 columns", None, stripes),
         ("64 of 16 by 16, anywhere", None, small),
-        ("64 stripes that begin and end in different rows", None, stairs),
+        (
+            "64 stripes that begin and end in different rows",
+            None,
+            stairs,
+        ),
     ]
 }
 
@@ -84,7 +88,14 @@ fn best(picture: &[u32], list: &[u16]) -> [f64; 2] {
 }
 
 fn here(picture: &[u32], list: &[u16], result: &mut [u64]) {
-    let answer = bridge::areas((picture.as_ptr(), picture.len()), SIDE, SIDE, list, result, &mut [0]);
+    let answer = bridge::areas(
+        (picture.as_ptr(), picture.len()),
+        SIDE,
+        SIDE,
+        list,
+        result,
+        &mut [0],
+    );
     assert_eq!(answer, Ok(0), "the list was refused");
 }
 

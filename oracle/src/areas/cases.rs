@@ -78,7 +78,14 @@ impl Listed for Case {
 }
 
 /// Notes what happens at a call.
-pub fn note(words: usize, width: usize, height: usize, list: &[u16], room: usize, met: &mut Met<Case>) {
+pub fn note(
+    words: usize,
+    width: usize,
+    height: usize,
+    list: &[u16],
+    room: usize,
+    met: &mut Met<Case>,
+) {
     match model::refusal(words, width, height, list, room) {
         None => accepted(words, width, height, list, room, met),
         Some(model::BAD_AREA) => bad_area(width, height, list, room, met),
@@ -88,7 +95,14 @@ pub fn note(words: usize, width: usize, height: usize, list: &[u16], room: usize
     }
 }
 
-fn accepted(words: usize, width: usize, height: usize, list: &[u16], room: usize, met: &mut Met<Case>) {
+fn accepted(
+    words: usize,
+    width: usize,
+    height: usize,
+    list: &[u16],
+    room: usize,
+    met: &mut Met<Case>,
+) {
     met.note(Case::Accepted);
     let areas = areas(list);
     let mut seen = |case, is: bool| {
@@ -102,20 +116,46 @@ fn accepted(words: usize, width: usize, height: usize, list: &[u16], room: usize
     let right = |area: &Area| area.left + area.width == width;
     let low = |area: &Area| area.top + area.height == height;
     let apart = |a: &Area, b: &Area| {
-        a.left >= b.left + b.width || b.left >= a.left + a.width || a.top >= b.top + b.height || b.top >= a.top + a.height
+        a.left >= b.left + b.width
+            || b.left >= a.left + a.width
+            || a.top >= b.top + b.height
+            || b.top >= a.top + a.height
     };
-    let same = |a: &Area, b: &Area| (a.left, a.top, a.width, a.height) == (b.left, b.top, b.width, b.height);
+    let same = |a: &Area, b: &Area| {
+        (a.left, a.top, a.width, a.height) == (b.left, b.top, b.width, b.height)
+    };
     let pairs = || (0..full.len()).flat_map(|k| (0..k).map(move |j| (j, k)));
     seen(Case::Empty, full.len() < areas.len());
     seen(Case::Twice, pairs().any(|(j, k)| same(full[j], full[k])));
-    seen(Case::Overlapping, pairs().any(|(j, k)| !apart(full[j], full[k]) && !same(full[j], full[k])));
-    seen(Case::Whole, full.iter().any(|area| area.width == width && area.height == height));
-    seen(Case::OneWord, full.iter().any(|area| area.width * area.height == 1));
-    seen(Case::AtTheEdge, full.iter().any(|area| right(area) && low(area)));
-    seen(Case::EmptyAtTheEdge, areas.iter().any(|area| area.is_empty() && right(area) && low(area)));
+    seen(
+        Case::Overlapping,
+        pairs().any(|(j, k)| !apart(full[j], full[k]) && !same(full[j], full[k])),
+    );
+    seen(
+        Case::Whole,
+        full.iter()
+            .any(|area| area.width == width && area.height == height),
+    );
+    seen(
+        Case::OneWord,
+        full.iter().any(|area| area.width * area.height == 1),
+    );
+    seen(
+        Case::AtTheEdge,
+        full.iter().any(|area| right(area) && low(area)),
+    );
+    seen(
+        Case::EmptyAtTheEdge,
+        areas
+            .iter()
+            .any(|area| area.is_empty() && right(area) && low(area)),
+    );
     seen(Case::LongPicture, words > width * height);
     seen(Case::LongResult, room > 3 * areas.len());
-    let held = held(width, height, &areas).iter().filter(|&&held| held).count();
+    let held = held(width, height, &areas)
+        .iter()
+        .filter(|&&held| held)
+        .count();
     seen(Case::NoneHeld, held == 0);
     seen(Case::SomeHeld, 0 < held && held < width * height);
     seen(Case::AllHeld, held == width * height);
@@ -132,14 +172,29 @@ fn bad_area(width: usize, height: usize, list: &[u16], room: usize, met: &mut Me
         (Case::Down, down),
         (Case::ShortResult, room < 3 * areas.len()),
     ];
-    let mut found = faults.into_iter().filter(|&(_, is)| is).map(|(case, _)| case);
+    let mut found = faults
+        .into_iter()
+        .filter(|&(_, is)| is)
+        .map(|(case, _)| case);
     let first = found.next().expect("a list is refused for some reason");
-    met.note(if found.next().is_none() { first } else { Case::SeveralFaults });
+    met.note(if found.next().is_none() {
+        first
+    } else {
+        Case::SeveralFaults
+    });
     let outside = |area: &Area| area.left + area.width > width || area.top + area.height > height;
-    if areas.iter().filter(|area| outside(area)).all(Area::is_empty) && (across || down) {
+    if areas
+        .iter()
+        .filter(|area| outside(area))
+        .all(Area::is_empty)
+        && (across || down)
+    {
         met.note(Case::EmptyOutside);
     }
-    if areas.iter().any(|area| area.left + area.width > 65535 || area.top + area.height > 65535) {
+    if areas
+        .iter()
+        .any(|area| area.left + area.width > 65535 || area.top + area.height > 65535)
+    {
         met.note(Case::Largest);
     }
 }

@@ -51,18 +51,35 @@ pub fn run(mode: Mode, total: &mut Total) {
 
 fn compare(seed: u64, at: usize, tally: &mut AreaTally, met: &mut Met<Case>) {
     let guarded = at % GUARDED == 0;
-    let Call { picture, width, height, list, result } = call(seed, guarded);
+    let Call {
+        picture,
+        width,
+        height,
+        list,
+        result,
+    } = call(seed, guarded);
     cases::note(picture.len(), width, height, &list, result.len(), met);
     let mut asked = result.clone();
     let answer = model::answer(&picture, width, height, &list, &mut asked);
     let (mut here, mut read) = (result.clone(), [u32::MAX]);
     let given = if guarded {
-        let held = if answer.is_ok() { model::held(width, height, &model::areas(&list)) } else { Vec::new() };
+        let held = if answer.is_ok() {
+            model::held(width, height, &model::areas(&list))
+        } else {
+            Vec::new()
+        };
         let pages = Pages::new(&picture, &held, seed % 2 == 0);
         met.note(Case::Guarded);
         bridge::areas(pages.picture(), width, height, &list, &mut here, &mut read)
     } else {
-        bridge::areas((picture.as_ptr(), picture.len()), width, height, &list, &mut here, &mut read)
+        bridge::areas(
+            (picture.as_ptr(), picture.len()),
+            width,
+            height,
+            &list,
+            &mut here,
+            &mut read,
+        )
     };
     // What was read is reported in a place of its own, which a refusal leaves alone.
     let told = given.map(|reported| (reported, read[0]));

@@ -13,8 +13,16 @@ pub struct Call {
 /// The call of this seed. `large` asks for a picture of several pages.
 pub fn call(seed: u64, large: bool) -> Call {
     let random = &mut Random::new(seed);
-    let (width, height) = if large { large_size(random) } else { size(random) };
-    let count = if random.one_in(16) { random.choose(&[0, 64, 64, 65, 66]) } else { random.choose(&[1, 1, 2, 3, 5, 9, 20]) };
+    let (width, height) = if large {
+        large_size(random)
+    } else {
+        size(random)
+    };
+    let count = if random.one_in(16) {
+        random.choose(&[0, 64, 64, 65, 66])
+    } else {
+        random.choose(&[1, 1, 2, 3, 5, 9, 20])
+    };
     let mut list: Vec<u16> = Vec::new();
     for _ in 0..count {
         let area = if list.is_empty() || !random.one_in(6) {
@@ -22,7 +30,12 @@ pub fn call(seed: u64, large: bool) -> Call {
         } else {
             // One that stands there already.
             let place = 4 * random.below(list.len() / 4);
-            [list[place], list[place + 1], list[place + 2], list[place + 3]]
+            [
+                list[place],
+                list[place + 1],
+                list[place + 2],
+                list[place + 3],
+            ]
         };
         list.extend(area);
     }
@@ -54,8 +67,22 @@ pub fn call(seed: u64, large: bool) -> Call {
     let colours: Vec<u32> = (0..palette).map(|_| colour(random)).collect();
     let draw = random.next();
     let drawn = &mut Random::new(draw);
-    let picture = (0..words).map(|_| if palette == 64 { drawn.word() } else { drawn.choose(&colours) }).collect();
-    Call { picture, width, height, list, result: (0..room).map(|_| random.next()).collect() }
+    let picture = (0..words)
+        .map(|_| {
+            if palette == 64 {
+                drawn.word()
+            } else {
+                drawn.choose(&colours)
+            }
+        })
+        .collect();
+    Call {
+        picture,
+        width,
+        height,
+        list,
+        result: (0..room).map(|_| random.next()).collect(),
+    }
 }
 
 fn size(random: &mut Random) -> (usize, usize) {

@@ -22,13 +22,24 @@ impl Area {
 pub fn areas(list: &[u16]) -> Vec<Area> {
     let area = |four: &[u16]| {
         let [left, top, width, height] = [four[0], four[1], four[2], four[3]].map(usize::from);
-        Area { left, top, width, height }
+        Area {
+            left,
+            top,
+            width,
+            height,
+        }
     };
     list.chunks_exact(4).map(area).collect()
 }
 
 /// Why the call is refused, if it is.
-pub fn refusal(words: usize, width: usize, height: usize, list: &[u16], room: usize) -> Option<u32> {
+pub fn refusal(
+    words: usize,
+    width: usize,
+    height: usize,
+    list: &[u16],
+    room: usize,
+) -> Option<u32> {
     if width == 0 || height == 0 || width > 1024 || height > 1024 {
         return Some(BAD_SIZE);
     }
@@ -37,7 +48,10 @@ pub fn refusal(words: usize, width: usize, height: usize, list: &[u16], room: us
     }
     let areas = areas(list);
     let outside = |area: &Area| area.left + area.width > width || area.top + area.height > height;
-    let bad = areas.len() > 64 || list.len() % 4 != 0 || areas.iter().any(outside) || room < 3 * areas.len();
+    let bad = areas.len() > 64
+        || list.len() % 4 != 0
+        || areas.iter().any(outside)
+        || room < 3 * areas.len();
     bad.then_some(BAD_AREA)
 }
 
@@ -55,7 +69,13 @@ pub fn held(width: usize, height: usize, areas: &[Area]) -> Vec<bool> {
 }
 
 /// What the call answers. The totals go to the front of `result`.
-pub fn answer(picture: &[u32], width: usize, height: usize, list: &[u16], result: &mut [u64]) -> Result<u32, u32> {
+pub fn answer(
+    picture: &[u32],
+    width: usize,
+    height: usize,
+    list: &[u16],
+    result: &mut [u64],
+) -> Result<u32, u32> {
     if let Some(number) = refusal(picture.len(), width, height, list, result.len()) {
         return Err(number);
     }

@@ -8,7 +8,14 @@ const PAGE: usize = 4096;
 const WORDS: usize = PAGE / 4;
 
 extern "C" {
-    fn mmap(at: *mut c_void, len: usize, access: i32, flags: i32, file: i32, from: i64) -> *mut c_void;
+    fn mmap(
+        at: *mut c_void,
+        len: usize,
+        access: i32,
+        flags: i32,
+        file: i32,
+        from: i64,
+    ) -> *mut c_void;
     fn mprotect(at: *mut c_void, len: usize, access: i32) -> i32;
     fn munmap(at: *mut c_void, len: usize) -> i32;
 }
@@ -28,20 +35,42 @@ impl Pages {
     /// A copy of the picture. It ends at the end of its last page or begins at the start of its first, as `last` says.
     pub fn new(picture: &[u32], held: &[bool], last: bool) -> Self {
         let pages = picture.len().div_ceil(WORDS).max(1);
-        let before = if last { pages * WORDS - picture.len() } else { 0 };
-        let is_held = |word: usize| word.checked_sub(before).is_some_and(|at| held.get(at) == Some(&true));
+        let before = if last {
+            pages * WORDS - picture.len()
+        } else {
+            0
+        };
+        let is_held = |word: usize| {
+            word.checked_sub(before)
+                .is_some_and(|at| held.get(at) == Some(&true))
+        };
         // SAFETY: new pages, which are written, and then closed but for those with a held word.
         unsafe {
-            let start = mmap(std::ptr::null_mut(), pages * PAGE, READ_WRITE, PRIVATE_ANONYMOUS, -1, 0);
+            let start = mmap(
+                std::ptr::null_mut(),
+                pages * PAGE,
+                READ_WRITE,
+                PRIVATE_ANONYMOUS,
+                -1,
+                0,
+            );
             assert_ne!(start as isize, -1, "no pages");
             let first: *mut u32 = start.cast();
             std::ptr::copy_nonoverlapping(picture.as_ptr(), first.add(before), picture.len());
             for page in 0..pages {
                 if !(page * WORDS..(page + 1) * WORDS).any(is_held) {
-                    assert_eq!(mprotect(start.byte_add(page * PAGE), PAGE, NONE), 0, "a page stays open");
+                    assert_eq!(
+                        mprotect(start.byte_add(page * PAGE), PAGE, NONE),
+                        0,
+                        "a page stays open"
+                    );
                 }
             }
-            Pages { start: first.add(before).cast(), bytes: pages * PAGE, words: picture.len() }
+            Pages {
+                start: first.add(before).cast(),
+                bytes: pages * PAGE,
+                words: picture.len(),
+            }
         }
     }
 
