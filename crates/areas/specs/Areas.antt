@@ -1,4 +1,5 @@
--- The red, green and blue totals of rectangles of a picture, the number of words that they hold, and what is refused. Assumes nothing.
+-- The red, green and blue totals of rectangles of a picture, the number of words that they hold, and what is refused.
+-- Assumes nothing.
 use Prim.Native.Nat.{ℕ, zero, suc, _+_, _*_, _/_, _%_}
 use mathlib.Core.Bool.{Bool, false, not, _&&_, _||_, cond}
 use mathlib.Core.List.{List}

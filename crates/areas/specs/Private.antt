@@ -6,7 +6,7 @@ use mathlib.Core.List.{List}
 use lib.Dec.{leb, ltb}
 use lib.ListN.{length, getD}
 use Rattle.num.specs.Rewrite.{rewrite}
-use Rattle.areas.specs.Areas.{sum, count, areaAt, held, channel}
+use Rattle.areas.specs.Areas.{sum, count, areaAt, held, channel, words, totalsOf}
 use Rattle.areas.specs.declared.area.Area.{Area}
 use Rattle.areas.specs.declared.block.Band.{Band}
 use Rattle.areas.specs.declared.share.Colour.{Colour}
@@ -81,6 +81,10 @@ pub record Readable (picture : List ℕ) (at n : ℕ) (columns : List ℕ) : Typ
   pub fits : n ≤ length columns
   pub small : (i : ℕ) → i < n → getD columns i 0 ≤ 1152921504606846976
 
+-- n words from `at` on, added to the columns
+abbrev pub withRow : List ℕ → (at n : ℕ) → List ℕ → List ℕ
+withRow picture at n columns = rewrite n (λ i v. v + spreadOf (getD picture (at + i) 0)) columns
+
 -- the columns from `from` to `to` of the band are words of the picture
 pub record InPicture (picture : List ℕ) (b : Band) (from to : ℕ) : Type 0 where
   pub along : from ≤ to
@@ -137,6 +141,10 @@ colourBetween sums p = record { red = between sums p 0; green = between sums p 1
 abbrev pub sharedAt : List ℕ → (y from to : ℕ) → List ℕ → ℕ → ℕ
 sharedAt areas y from to sums i = between sums (partOf (areaAt areas (i / 3)) y from to) (i % 3)
 
+-- to all of them
+abbrev pub sharedOut : List ℕ → (y from to : ℕ) → (sums result : List ℕ) → List ℕ
+sharedOut areas y from to sums result = rewrite (3 * count areas) (λ i v. v + sharedAt areas y from to sums i) result
+
 -- room for three totals of each rectangle, none of them large
 pub record Roomy (areas result : List ℕ) (most : ℕ) : Type 0 where
   pub room : 3 * count areas ≤ length result
@@ -181,3 +189,7 @@ pub record Framed (picture : List ℕ) (w h : ℕ) (areas result : List ℕ) : T
   pub full : h * w ≤ length picture
   pub placed : Placed w h areas
   pub room : 3 * count areas ≤ length result
+
+-- all of it
+abbrev pub Walked : List ℕ → ℕ → ℕ → (areas result : List ℕ) → ℕ → List ℕ → Type 0
+Walked picture w h areas result read done = (read ≡ words w h areas) × (done ≡ totalsOf picture w areas result)

@@ -1,9 +1,9 @@
 // The words of a run in all rows of a band. Each is read once, at one place, and counted there.
 ghost use mathlib.Core.Path.{_≡_};
 ghost use Prim.Native.Nat.{_+_, _*_, _<_, _≤_};
-ghost use lib.ListN.{length, getD};
+ghost use lib.ListN.{length};
 ghost use Rattle.num.specs.Rewrite.{rewrite};
-ghost use Rattle.areas.specs.Private.{spreadOf, Readable, InPicture, runningAt, Line, Columns, Summed};
+ghost use Rattle.areas.specs.Private.{spreadOf, Readable, withRow, InPicture, runningAt, Line, Columns, Summed};
 
 // Rows of a picture of that width, from row y on.
 pub(crate) struct Band {
@@ -35,7 +35,7 @@ fn spread(word: u32) -> u64
 // Adds n words of a row to the columns' sums, and counts them. The picture is read here and nowhere else.
 fn read(picture: &[u32], at: usize, n: usize, columns: &mut [u64]) -> u32
     requires { ⌜ Readable (now picture) at n (now columns) ⌝ }
-    ensures { λ r. ⌜ (now (columns .exit) ≡ rewrite n (λ i v. v + spreadOf (getD (now (picture .entry)) (at + i) 0)) (now (columns .entry))) × (r ≡ n) ⌝ }
+    ensures { λ r. ⌜ (now (columns .exit) ≡ withRow (now (picture .entry)) at n (now (columns .entry))) × (r ≡ n) ⌝ }
 {
     let mut words: u32 = 0;
     let mut i = 0;

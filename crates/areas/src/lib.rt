@@ -1,5 +1,6 @@
-// The exact red, green and blue totals of many rectangles of a picture. The picture is walked over once: in bands of rows that have the same rectangles, and in a
-// band over the runs of words that a rectangle holds. No word is read twice, and none that no rectangle holds.
+// The exact red, green and blue totals of many rectangles of a picture. The picture is walked over once: in bands of rows
+// that have the same rectangles, and in a band over the runs of words that a rectangle holds. No word is read twice, and
+// none that no rectangle holds.
 ghost use mathlib.Core.Path.{_≡_};
 ghost use Rattle.areas.specs.Areas.{judged};
 
@@ -16,7 +17,8 @@ pub enum Answer {
     Refused(u8),
 }
 
-// Three totals for each rectangle of `areas` go to the front of `result`; the rest of it stays, and all of it where the call is refused.
+// Three totals for each rectangle of `areas` go to the front of `result`; the rest of it stays, and all of it where the
+// call is refused.
 pub fn totals(
     picture: &[u32],
     width: usize,

@@ -1,9 +1,7 @@
 // What a block gives to each rectangle: the difference of two running sums.
 ghost use mathlib.Core.Path.{_≡_};
-ghost use Prim.Native.Nat.{_+_, _*_, _≤_};
-ghost use Rattle.num.specs.Rewrite.{rewrite};
-ghost use Rattle.areas.specs.Areas.{count};
-ghost use Rattle.areas.specs.Private.{Inside, Cut, Growing, colourBetween, sharedAt, Shareable};
+ghost use Prim.Native.Nat.{_≤_};
+ghost use Rattle.areas.specs.Private.{Inside, Cut, Growing, colourBetween, sharedOut, Shareable};
 use super::area::Area;
 use super::area::area_at;
 use super::area::in_row;
@@ -66,7 +64,7 @@ pub(crate) fn share(
     result: &mut [u64],
 )
     requires { ⌜ Shareable (now areas) from to (now sums) (now result) ⌝ }
-    ensures { λ _. ⌜ now (result .exit) ≡ rewrite (3 * count (now (areas .entry))) (λ i v. v + sharedAt (now (areas .entry)) y from to (now (sums .entry)) i) (now (result .entry)) ⌝ }
+    ensures { λ _. ⌜ now (result .exit) ≡ sharedOut (now (areas .entry)) y from to (now (sums .entry)) (now (result .entry)) ⌝ }
 {
     let n = areas.len() / 4;
     let mut k = 0;

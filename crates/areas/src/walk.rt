@@ -2,8 +2,7 @@
 ghost use mathlib.Core.Path.{_≡_};
 ghost use Prim.Native.Nat.{_+_, _*_, _<_, _≤_};
 ghost use lib.ListN.{length};
-ghost use Rattle.areas.specs.Areas.{words as wordsOf, totalsOf};
-ghost use Rattle.areas.specs.Private.{Ready, Banded, Framed};
+ghost use Rattle.areas.specs.Private.{Ready, Banded, Framed, Walked};
 use super::block::Band;
 use super::block::block;
 use super::block::clear;
@@ -12,7 +11,8 @@ use super::edges::run_end;
 use super::edges::run_start;
 use super::share::share;
 
-// The sums of a block's columns, and the running sums of them: for the widest picture. A long array is made by a function, so that a proof sees its length alone.
+// The sums of a block's columns, and the running sums of them: for the widest picture. A long array is made by a
+// function, so that a proof sees its length alone.
 fn column_line() -> [u64; 1024]
     ensures { λ r. ⌜ length r ≡ 1024 ⌝ }
 {
@@ -58,7 +58,7 @@ pub(crate) fn walk(
     result: &mut [u64],
 ) -> u32
     requires { ⌜ Framed (now picture) width height (now areas) (now result) ⌝ }
-    ensures { λ r. ⌜ (r ≡ wordsOf width height (now (areas .entry))) × (now (result .exit) ≡ totalsOf (now (picture .entry)) width (now (areas .entry)) (now (result .entry))) ⌝ }
+    ensures { λ r. ⌜ Walked (now (picture .entry)) width height (now (areas .entry)) (now (result .entry)) r (now (result .exit)) ⌝ }
 {
     clear(result, areas.len() / 4 * 3);
     let mut columns = column_line();

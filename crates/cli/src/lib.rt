@@ -2,5 +2,5 @@
 // words.
 pub mod input; // arguments, files, cards
 pub mod memory; // the buffers that a frame's file is read into
-pub mod says; // a line on standard error
+pub mod says; // lines behind an argument, words on standard error
 pub mod words; // refusals in words

@@ -1,4 +1,4 @@
-// A line on standard error, behind the argument that gave it.
+// Lines behind the argument that gave them, and words on standard error.
 use super::input;
 use libc::STDERR_FILENO;
 
@@ -7,10 +7,10 @@ pub fn text(words: &[u8]) {
 }
 
 // The argument at place i, and a colon.
-pub fn name(i: usize) {
+pub fn name(fd: i32, i: usize) {
     let mut name = io::buffer();
     let given = input::argument(i, &mut name);
     let n = given.length;
-    text(&name[..n]);
-    text(b": ");
+    io::write_all(fd, &name[..n]);
+    io::write_all(fd, b": ");
 }

@@ -20,7 +20,7 @@ use Rattle.frames.specs.declared.Outcome.{Outcome}
 use Rattle.frames.specs.declared.Outcome.the-variants.{NoFrame}
 use Rattle.frames.specs.declared.Filtered.{Filtered}
 
-drop-all : (k : ℕ) (xs : List ℕ) → length xs ≤ k → drop k xs ≡ []
+pub drop-all : (k : ℕ) (xs : List ℕ) → length xs ≤ k → drop k xs ≡ []
 drop-all zero [] l = refl
 drop-all zero (x ∷ xs) l = absurd (omega arith)
 drop-all (suc k) [] l = refl

@@ -1,12 +1,12 @@
 -- A rectangle's words, byte after byte. Assumes nothing.
-use Prim.Native.Nat.{ℕ, zero, suc, _+_, _-_, _≤_, _<_}
-use mathlib.Core.Bool.{Bool, true, false, _&&_, _||_}
-use mathlib.Core.List.{List, [], _∷_}
+use Prim.Native.Nat.{ℕ, _+_, _-_, _≤_, _<_}
+use mathlib.Core.Bool.{true, false, _||_}
+use mathlib.Core.List.{List, _∷_}
 use mathlib.Core.Path.{_≡_, refl, sym, ap, _∙_}
 use native.Mathlib.Numerals.{add-one}
 use native.Mathlib.Omega.{arith}
 use borrow.Author.Tests.{leb-true, ltb-false, lt-ltb, le-ltb, eq-eqb, ne-eqb}
-use lib.Dec.{leb, ltb, eqb}
+use lib.Dec.{leb, ltb}
 use lib.ListN.{length, getD, drop}
 use lib.Seq.{drop-cons}
 use Rattle.num.specs.Refusals.{neither}
@@ -15,6 +15,7 @@ use Rattle.raster.specs.Ppm.{isDigit}
 use Rattle.frames.specs.Area.{withDigit, nextNumber, broken, stepOf, unread, readOf, isLarge, namedBy, namedOf}
 use Rattle.frames.specs.declared.area.Named.the-variants.{Area, Fault}
 use Rattle.frames.specs.declared.area.Reading.{Reading}
+use Rattle.frames.proofs.Parts.{drop-all}
 
 pub digit-in : (b : ℕ) → isDigit b ≡ true → (48 ≤ b) × (b ≤ 57)
 digit-in b e = let d = both (leb 48 b) (leb b 57) e in (leb-true 48 b (d .0), leb-true b 57 (d .1))
@@ -85,12 +86,6 @@ pub read-next : (r : Reading) (text : List ℕ) (i : ℕ) → i < length text �
 unfolding readOf
 read-next r text i l = ap (readOf r) (drop-cons text i 0 l ∙ ap (λ (n : ℕ). getD text i 0 ∷ drop n text) (sym (add-one i)))
 
-drop-none : (i : ℕ) (text : List ℕ) → length text ≤ i → drop i text ≡ []
-drop-none zero [] l = refl
-drop-none zero (b ∷ text) l = absurd (omega arith)
-drop-none (suc i) [] l = refl
-drop-none (suc i) (b ∷ text) l = drop-none i text (omega arith)
-
 pub read-all : (r : Reading) (text : List ℕ) (i : ℕ) → length text ≤ i → readOf r (drop i text) ≡ r
 unfolding readOf
-read-all r text i l = ap (readOf r) (drop-none i text l)
+read-all r text i l = ap (readOf r) (drop-all i text l)

@@ -18,14 +18,34 @@ abbrev pub unread : Reading
 unread = record { first = 0; second = 0; third = 0; value = 0; commas = 0; digit = false }
 
 abbrev pub withDigit : Reading → ℕ → Reading
-withDigit r d =
-    record { first = r .first; second = r .second; third = r .third; value = grow (r .value) d; commas = r .commas; digit = true }
+withDigit r d = record {
+  first = r .first;
+  second = r .second;
+  third = r .third;
+  value = grow (r .value) d;
+  commas = r .commas;
+  digit = true;
+}
 
 abbrev pub nextNumber : Reading → Reading
-nextNumber r = record { first = r .second; second = r .third; third = r .value; value = 0; commas = r .commas + 1; digit = false }
+nextNumber r = record {
+  first = r .second;
+  second = r .third;
+  third = r .value;
+  value = 0;
+  commas = r .commas + 1;
+  digit = false;
+}
 
 abbrev pub broken : Reading → Reading
-broken r = record { first = r .first; second = r .second; third = r .third; value = r .value; commas = 4; digit = r .digit }
+broken r = record {
+  first = r .first;
+  second = r .second;
+  third = r .third;
+  value = r .value;
+  commas = 4;
+  digit = r .digit;
+}
 
 -- a digit; or a comma, at most the third, behind a digit; nothing else
 unfoldable pub stepOf : Reading → ℕ → Reading
@@ -43,7 +63,9 @@ isLarge r = ltb 65535 (r .first) || (ltb 65535 (r .second) || (ltb 65535 (r .thi
 -- four numbers, the last of which has a digit; none of them above 65535
 unfoldable pub namedBy : Reading → Named
 namedBy r =
-    cond (eqb (r .commas) 3 && r .digit) (cond (isLarge r) (Fault 2) (Area (r .first) (r .second) (r .third) (r .value))) (Fault 1)
+    cond (eqb (r .commas) 3 && r .digit)
+    (cond (isLarge r) (Fault 2) (Area (r .first) (r .second) (r .third) (r .value)))
+    (Fault 1)
 
 unfoldable pub namedOf : List ℕ → Named
 namedOf text = namedBy (readOf unread text)

@@ -20,10 +20,14 @@ judgedOf (Answer.Refused k) = Refused k
 abbrev pub given : Answer × List ℕ → Judged × List ℕ
 given x = (judgedOf (x .0), x .1)
 
+-- of a frame's pixels, three bytes each
+abbrev pub measuredOf : (w h : ℕ) → (pixels areas result : List ℕ) → Judged × List ℕ
+measuredOf w h pixels areas result = given (judged (unpacked (h * w) pixels) w h areas result)
+
 abbrev pub byFrame : Parsed → (file areas result : List ℕ) → Judged × List ℕ
 byFrame (Parsed.Refused k) file areas result = (NoFrame k, result)
-byFrame (Parsed.Frame w h start) file areas result = given (judged (unpacked (h * w) (drop start file)) w h areas result)
+byFrame (Parsed.Frame w h start) file areas result = measuredOf w h (drop start file) areas result
 
 -- a frame of at most `most` pixels
-unfoldable pub fileJudged : ℕ → (file areas result : List ℕ) → Judged × List ℕ
-fileJudged most file areas result = byFrame (parseOf most file) file areas result
+unfoldable pub inFile : ℕ → (file areas result : List ℕ) → Judged × List ℕ
+inFile most file areas result = byFrame (parseOf most file) file areas result

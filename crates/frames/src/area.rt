@@ -15,8 +15,8 @@ pub enum Named {
     Fault(u8),
 }
 
-// What was read: the number that stands now, the three before it, how many commas there were, and whether that number has a digit. Four commas stand for
-// anything that no rectangle has.
+// What was read: the number that stands now, the three before it, how many commas there were, and whether that number has a
+// digit. Four commas stand for anything that no rectangle has.
 struct Reading {
     first: u32,
     second: u32,

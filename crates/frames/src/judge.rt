@@ -2,10 +2,8 @@
 ghost use mathlib.Core.Path.{_≡_};
 ghost use Prim.Native.Nat.{_*_};
 ghost use lib.ListN.{length};
-ghost use Rattle.areas.specs.Areas.{judged as judgedAs};
-ghost use Rattle.raster.specs.Pixels.{unpacked};
 ghost use Rattle.frames.specs.Frames.{Room};
-ghost use Rattle.frames.specs.Judge.{judgedOf, given, fileJudged};
+ghost use Rattle.frames.specs.Judge.{judgedOf, measuredOf, inFile};
 use super::number;
 use areas::Answer;
 use raster::pixels;
@@ -41,15 +39,16 @@ fn measure(
     result: &mut [u64],
 ) -> Judged
     requires { ⌜ Room (height * width) (now words) (now pixels) ⌝ }
-    ensures { λ r. ⌜ (r, now (result .exit)) ≡ given (judgedAs (unpacked (height * width) (now (pixels .entry))) width height (now (areas .entry)) (now (result .entry))) ⌝ }
+    ensures { λ r. ⌜ (r, now (result .exit)) ≡ measuredOf width height (now (pixels .entry)) (now (areas .entry)) (now (result .entry)) ⌝ }
 {
     pixels::unpack(words, pixels);
     told(areas::totals(words, width, height, areas, result))
 }
 
-// Three totals for each rectangle, at the front of the result. A frame may have as many pixels as there are words, which are scratch.
+// Three totals for each rectangle, at the front of the result. A frame may have as many pixels as there are words, which are
+// scratch.
 pub fn totals(file: &[u8], words: &mut [u32], areas: &[u16], result: &mut [u64]) -> Judged
-    ensures { λ r. ⌜ (r, now (result .exit)) ≡ fileJudged (length (now (words .entry))) (now (file .entry)) (now (areas .entry)) (now (result .entry)) ⌝ }
+    ensures { λ r. ⌜ (r, now (result .exit)) ≡ inFile (length (now (words .entry))) (now (file .entry)) (now (areas .entry)) (now (result .entry)) ⌝ }
 {
     let r = ppm::parse(file, words.len());
     let Parsed::Frame(width, height, start) = r else {

@@ -6,6 +6,7 @@ use cli::input;
 use cli::says;
 use frames::area;
 use frames::area::Named;
+use libc::STDERR_FILENO;
 
 // Four numbers for each of 64 areas.
 pub fn room() -> [u16; 256]
@@ -31,7 +32,7 @@ fn named(i: usize) -> Named {
 }
 
 fn not_named(i: usize, fault: u8) {
-    says::name(i);
+    says::name(STDERR_FILENO, i);
     match fault {
         1 => says::text(b"no area: it is LEFT,TOP,WIDTH,HEIGHT, four numbers\n"),
         _ => says::text(b"no area: a number is above 65535\n"),

@@ -1,10 +1,8 @@
 // The totals of a picture.
 ghost use mathlib.Core.Path.{_≡_};
 ghost use Prim.Native.Nat.{_≤_};
-ghost use Rattle.io.specs.Counts.{Counts};
 ghost use lib.ListN.{length};
 use cli::input;
-use cli::input::Loaded;
 use cli::says;
 use cli::words;
 use frames::judge;
@@ -31,16 +29,6 @@ fn refused() -> Measured {
     }
 }
 
-// The file that argument i names.
-fn load(i: usize, file: &mut [u8]) -> Loaded
-    ensures { λ r. ⌜ Counts (r .length) (now (file .exit)) ⌝ }
-{
-    let mut name = io::buffer();
-    let given = input::argument(i, &mut name);
-    let n = given.length;
-    input::file(&name[..n], file)
-}
-
 // Whether the one area is refused.
 fn leaves(file: &[u8], words: &mut [u32], area: &[u16]) -> bool {
     let mut totals = room();
@@ -61,7 +49,7 @@ fn outside(first: usize, file: &[u8], words: &mut [u32], areas: &[u16])
         let at = 4 * k;
         let end = at + 4;
         if leaves(file, words, &areas[at..end]) {
-            says::name(first + k);
+            says::name(STDERR_FILENO, first + k);
             says::text(b"bad area: it leaves the picture\n");
             return;
         }
@@ -80,7 +68,7 @@ pub fn totals(
 ) -> Measured
     requires { ⌜ first ≤ 3 ⌝ }
 {
-    let loaded = load(i, file);
+    let loaded = input::named(i, file);
     if !loaded.ok {
         return refused();
     }
@@ -88,7 +76,7 @@ pub fn totals(
     let more = loaded.more;
     let fault = frames::fault(&file[..n], more, 61440);
     if fault != 0 {
-        says::name(i);
+        says::name(STDERR_FILENO, i);
         words::no_frame(STDERR_FILENO, fault);
         return refused();
     }
@@ -96,7 +84,7 @@ pub fn totals(
     match judged {
         Judged::Read(words) => Measured { ok: true, words },
         Judged::NoFrame(k) => {
-            says::name(i);
+            says::name(STDERR_FILENO, i);
             words::no_frame(STDERR_FILENO, k);
             refused()
         }

@@ -1,6 +1,6 @@
 // What is written: a line for each area, behind the argument that gave it, and a last line of all.
 ghost use Prim.Native.Nat.{_<_, _≤_};
-use cli::input;
+use cli::says;
 use libc::STDOUT_FILENO;
 
 fn text(words: &[u8]) {
@@ -9,15 +9,6 @@ fn text(words: &[u8]) {
 
 fn number(n: u64) {
     io::print_decimal(STDOUT_FILENO, n);
-}
-
-// The argument at place i, and a colon.
-fn name(i: usize) {
-    let mut name = io::buffer();
-    let given = input::argument(i, &mut name);
-    let n = given.length;
-    text(&name[..n]);
-    text(b": ");
 }
 
 // By how much the second is above the first, with its sign.
@@ -39,7 +30,7 @@ fn difference(a: u64, b: u64) {
 fn line(i: usize, k: usize, totals: &[u64; 192])
     requires { ⌜ k < 64 ⌝ }
 {
-    name(i);
+    says::name(STDOUT_FILENO, i);
     text(b"red ");
     number(totals[3 * k]);
     text(b", green ");
@@ -80,7 +71,7 @@ fn compared(i: usize, k: usize, totals: &[u64; 192], others: &[u64; 192]) -> u64
     requires { ⌜ k < 64 ⌝ }
     ensures { λ r. ⌜ r ≤ 1 ⌝ }
 {
-    name(i);
+    says::name(STDOUT_FILENO, i);
     if same(k, totals, others) {
         text(b"the same\n");
         return 0;

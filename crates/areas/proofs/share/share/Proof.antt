@@ -43,6 +43,10 @@ more : (c : tie.After-between Inv-loop μ-loop) → let r = c .between .result i
     (r .red ≤ 1152921504606846976) × (r .green ≤ 1152921504606846976) × (r .blue ≤ 1152921504606846976)
 more c = few-between (c .before .before .before .before .before .before .before .before .pre) (c .before .part-of .ensures) (c .between .ensures)
 
+-- where the three sums are ready, and nothing is written yet
+abbrev summed : tie.After-struct-known3 Inv-loop μ-loop → tie.After-between Inv-loop μ-loop
+summed c = c .before .before .before .before .before .before
+
 add-red : tie.Need-add-red Inv-loop μ-loop
 add-red c =
     let b = c .before .before in
@@ -76,9 +80,9 @@ share-spec =
     (λ c. omega (arith, room (c .before .before))) (λ c. omega (arith, room (c .before .before))) (λ c. omega (arith, room (c .before .before .before))) add-green-2
     (λ c. omega (arith, room (c .before .before .before .before))) (λ c. omega (arith, room (c .before .before .before .before)))
     (λ c. omega (arith, room (c .before .before .before .before .before))) add-blue-2
-    (λ c. omega (arith, room (c .before .before .before .before .before .before), near (c .before .before .before .before .before .before))) (λ c. omega (arith, room (c .before .before .before .before .before .before), near (c .before .before .before .before .before .before)))
-    (λ c. omega (arith, room (c .before .before .before .before .before .before), near (c .before .before .before .before .before .before))) (λ c. omega (arith, room (c .before .before .before .before .before .before), near (c .before .before .before .before .before .before)))
-    (λ c. simp length-set (omega (arith, room (c .before .before .before .before .before .before))))
-    (λ c. omega (arith, room (c .before .before .before .before .before .before), near (c .before .before .before .before .before .before))) (λ c. omega (arith, room (c .before .before .before .before .before .before), near (c .before .before .before .before .before .before)))
-    (λ c. simp length-set (omega (arith, room (c .before .before .before .before .before .before))))
-    (λ c. omega (arith, room (c .before .before .before .before .before .before), near (c .before .before .before .before .before .before))) (λ c. omega arith) (λ c. omega arith) loop-again (λ c. c .before .loop .inv .words .kept) returns)
+    (λ c. omega (arith, room (summed c), near (summed c))) (λ c. omega (arith, room (summed c), near (summed c)))
+    (λ c. omega (arith, room (summed c), near (summed c))) (λ c. omega (arith, room (summed c), near (summed c)))
+    (λ c. simp length-set (omega (arith, room (summed c))))
+    (λ c. omega (arith, room (summed c), near (summed c))) (λ c. omega (arith, room (summed c), near (summed c)))
+    (λ c. simp length-set (omega (arith, room (summed c))))
+    (λ c. omega (arith, room (summed c), near (summed c))) (λ c. omega arith) (λ c. omega arith) loop-again (λ c. c .before .loop .inv .words .kept) returns)

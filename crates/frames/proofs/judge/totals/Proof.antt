@@ -14,7 +14,7 @@ use Rattle.raster.specs.declared.ppm.Parsed.{Parsed}
 use Rattle.raster.specs.declared.ppm.Parsed.the-variants as Parsed
 use Rattle.raster.proofs.Taken.{taken-whole}
 use Rattle.frames.specs.Frames.{numberOf}
-use Rattle.frames.specs.Judge.{given, byFrame, fileJudged}
+use Rattle.frames.specs.Judge.{given, byFrame, inFile}
 use Rattle.frames.specs.declared.judge.Judged.{Judged}
 use Rattle.frames.specs.declared.judge.Judged.the-variants.{NoFrame}
 use Rattle.frames.proofs.Parts.{few}
@@ -22,16 +22,16 @@ use Rattle.frames.proofs.judge.totals.Statement.{statement}
 use Rattle.frames.proofs.judge.totals.Tie as tie
 
 module _ (most : ℕ) (file areas result : List ℕ) {p : Parsed} (e : p ≡ parseOf most file) where
-  by-parsed : byFrame p file areas result ≡ fileJudged most file areas result
-  unfolding fileJudged
+  by-parsed : byFrame p file areas result ≡ inFile most file areas result
+  unfolding inFile
   by-parsed = ap (λ (q : Parsed). byFrame q file areas result) e
 
-  no-frame : {k number : ℕ} → p ≡ Parsed.Refused k → number ≡ numberOf p → (NoFrame number, result) ≡ fileJudged most file areas result
+  no-frame : {k number : ℕ} → p ≡ Parsed.Refused k → number ≡ numberOf p → (NoFrame number, result) ≡ inFile most file areas result
   no-frame {k} {number} is n =
       ap (λ (m : ℕ). (NoFrame m, result)) (n ∙ ap numberOf is) ∙ ap (λ (q : Parsed). byFrame q file areas result) (sym is) ∙ by-parsed
 
   measured : {w h start : ℕ} {pixels : List ℕ} {x : Judged × List ℕ} → p ≡ Parsed.Frame w h start → pixels ≡ drop start file
-      → x ≡ given (judged (unpacked (h * w) pixels) w h areas result) → x ≡ fileJudged most file areas result
+      → x ≡ given (judged (unpacked (h * w) pixels) w h areas result) → x ≡ inFile most file areas result
   measured {w} {h} {start} is part g =
       g ∙ ap (λ (xs : List ℕ). given (judged (unpacked (h * w) xs) w h areas result)) part ∙ ap (λ (q : Parsed). byFrame q file areas result) (sym is) ∙ by-parsed
 
