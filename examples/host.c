@@ -1,4 +1,4 @@
-/* A host in C: opens a card, runs frames and prints a checksum of the last picture. */
+/* A host in C: opens a card, runs frames, and prints a checksum of the last picture and the totals of its middle. */
 #include <stdio.h>
 #include "hedgemallow.h"
 
@@ -7,6 +7,8 @@ enum { WIDTH = 64, HEIGHT = 48, COUNT = WIDTH * HEIGHT, DEPTH = 8, FRAMES = 6 };
 /* Persistence 0.5 over 3 frames, LUT preset 1 at 0.75, scanlines 0.5, all on. */
 static const uint8_t card[] = {0x13, 0x49, 0xF8, 0x00, 0x00, 0x00, 0x1A, 0xC9, 0xFA,
                                0x00, 0x00, 0x05, 0x4F, 0xC0, 0x00, 0x00, 0x00};
+/* Left, top, width, height. */
+static const uint16_t middle[] = {16, 12, 32, 24};
 static uint32_t frame[COUNT], history[DEPTH * COUNT], ints[COUNT];
 static float floats[6 * COUNT];
 
@@ -46,6 +48,15 @@ int main(void) {
     }
     uint8_t again[HEDGEMALLOW_CARD];
     uint32_t length = hedgemallow_write(state, again, sizeof again);
+    uint64_t totals[3];
+    uint32_t read[1];
+    answer = hedgemallow_areas(frame, COUNT, WIDTH, HEIGHT, middle, 4, totals, 3, read);
+    if (answer >= HEDGEMALLOW_REFUSED) {
+        printf("the area is refused: %u\n", (unsigned)(answer - HEDGEMALLOW_REFUSED));
+        return 1;
+    }
     printf("frames %d, preset %u, card %u bytes, picture %08X\n", FRAMES, (unsigned)preset, (unsigned)length, (unsigned)checksum());
+    printf("middle: %u words, red %lu, green %lu, blue %lu\n", (unsigned)read[0], (unsigned long)totals[0], (unsigned long)totals[1],
+           (unsigned long)totals[2]);
     return 0;
 }

@@ -1,6 +1,6 @@
-//! A host in Rust: opens a card, runs frames and prints a checksum of the last picture.
+//! A host in Rust: opens a card, runs frames, and prints a checksum of the last picture and the totals of its middle.
 
-use hedgemallow::{history_words, scratch_words, Refusal, Station};
+use hedgemallow::{areas, history_words, scratch_words, Refusal, Station};
 
 const WIDTH: usize = 64;
 const HEIGHT: usize = 48;
@@ -10,6 +10,9 @@ const FRAMES: u32 = 6;
 const CARD: [u8; 17] = [
     0x13, 0x49, 0xF8, 0x00, 0x00, 0x00, 0x1A, 0xC9, 0xFA, 0x00, 0x00, 0x05, 0x4F, 0xC0, 0x00, 0x00, 0x00,
 ];
+
+/// Left, top, width, height.
+const MIDDLE: [u16; 4] = [16, 12, 32, 24];
 
 fn paint(frame: &mut [u32], number: u32) {
     for (y, row) in (0..).zip(frame.chunks_mut(WIDTH)) {
@@ -43,7 +46,10 @@ fn run() -> Result<(), Refusal> {
         station.apply(&mut frame, WIDTH, HEIGHT, &mut history, &mut floats, &mut ints)?;
     }
     let length = station.write(&mut [0; 72])?;
+    let mut totals = [0; 3];
+    let read = areas(&frame, WIDTH, HEIGHT, &MIDDLE, &mut totals)?;
     println!("frames {FRAMES}, preset {preset}, card {length} bytes, picture {:08X}", checksum(&frame));
+    println!("middle: {read} words, red {}, green {}, blue {}", totals[0], totals[1], totals[2]);
     Ok(())
 }
 

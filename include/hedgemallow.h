@@ -24,6 +24,9 @@
  * Longer ones are taken: the words past these are neither read nor changed, except that the length
  * decides a refusal. The history's words belong to the station between its frames.
  *
+ * Areas. A rectangle of a picture is four numbers of a list: left, top, width, height. It has three
+ * totals: the sums of its words' red, green and blue bytes.
+ *
  * The caller promises, as always in C: a pointer is aligned and not null, as many elements as
  * its length says are there (80 bytes for a state), no two arguments of a call overlap, and no
  * other thread reads or writes what is written, or writes what is read, during the call.
@@ -72,7 +75,9 @@ enum hedgemallow_refusal {
     HEDGEMALLOW_SHORT_SCRATCH = 267,     /* 11: floats below 6 * count, or ints below count */
     HEDGEMALLOW_NOT_IN_CHAIN = 268,      /* 12: the pass of the call is not in the chain */
     HEDGEMALLOW_BAD_STATION = 269,       /* 13: the bytes are no state */
-    HEDGEMALLOW_SHORT_CARD_BUFFER = 270  /* 14: fewer bytes than the card */
+    HEDGEMALLOW_SHORT_CARD_BUFFER = 270, /* 14: fewer bytes than the card */
+    HEDGEMALLOW_BAD_AREA = 275           /* 19: more than 64 areas, a list of another length than four for
+                                            each, an area that leaves the picture, or too few totals */
 };
 
 /* Opens a card: writes the state where the card is accepted. Refusals 1 to 7. */
@@ -100,6 +105,14 @@ uint32_t hedgemallow_cycle_lut(uint8_t state[HEDGEMALLOW_STATE]);
 
 /* Reports how many frames of count words the history must have room for, 0 to 8. Refusal 13. */
 uint32_t hedgemallow_depth(const uint8_t state[HEDGEMALLOW_STATE]);
+
+/* The totals of up to 64 areas of a picture, in one reading: three for each, in the order given, at
+   the front of the result; its rest stays. A word is read if an area holds it, and then once, and
+   read[0] is how many that were: it is no part of the answer, since it may be above 255. Asks for no
+   station. Refusals 8, 9, 19, in that order. */
+uint32_t hedgemallow_areas(const uint32_t *picture, size_t picture_len, size_t width, size_t height,
+                           const uint16_t *areas, size_t areas_len, uint64_t *result, size_t result_len,
+                           uint32_t read[1]);
 
 #ifdef __cplusplus
 }

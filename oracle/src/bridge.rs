@@ -84,3 +84,29 @@ pub fn depth(state: &State) -> Answer {
     // SAFETY: as above.
     answer(unsafe { exports::hedgemallow_depth(state.as_ptr()) })
 }
+
+/// The totals of rectangles, and in `read` how many words were read. The picture is a place in memory and its words: not all of it
+/// may be readable.
+pub fn areas(
+    picture: (*const u32, usize),
+    width: usize,
+    height: usize,
+    list: &[u16],
+    result: &mut [u64],
+    read: &mut [u32; 1],
+) -> Answer {
+    // SAFETY: as above; the picture's words are there, and those that a rectangle holds can be read.
+    answer(unsafe {
+        exports::hedgemallow_areas(
+            picture.0,
+            picture.1,
+            width,
+            height,
+            list.as_ptr(),
+            list.len(),
+            result.as_mut_ptr(),
+            result.len(),
+            read.as_mut_ptr(),
+        )
+    })
+}

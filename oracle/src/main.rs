@@ -1,15 +1,18 @@
 //! The comparison of the number steps with Rust's own, of cards with a reading of document 01, of the
 //! passes with the original's, of program `station` with recorded answers and with a model of document
 //! 01 over the original's pipeline, of program `card` with a text from that reading, of program `filter`
-//! with the original's pipeline, and of runs of calls with such a model. Beside it the measurement of both.
+//! with the original's pipeline, of runs of calls with such a model, and of the totals of rectangles with a model of document
+//! 02. Beside it the measurement of both.
 //! Five scripts build and start it from the repository's root: `oracle/compare`, `oracle/bench`, `oracle/counts`,
 //! `oracle/record` and `oracle/fuzz`. They set `with_original` where they find the original: without it there are
 //! no passes to compare, and no model. `oracle/fuzz` compiles it once more, with `fuzz` set, as a library that
 //! libFuzzer calls.
 #![cfg_attr(any(fuzz, not(with_original)), allow(dead_code))]
 
+// Not in the fuzzer: it calls the exports on a state.
+#[cfg(not(fuzz))]
+mod areas;
 mod bench;
-#[cfg(with_original)]
 #[cfg_attr(fuzz, path = "guarded.rs")]
 mod bridge;
 mod cards;
@@ -69,7 +72,7 @@ fn main() -> ExitCode {
 fn misused() -> ExitCode {
     eprintln!(
         "expected: bench; measure and what; record and a file; seeds, station or bridge, and a folder; \
-         steps, cards, station, programs, passes, runs or still, and quick or full; quick or full and then the original's folder, if any"
+         steps, cards, areas, station, programs, passes, runs or still, and quick or full; quick or full and then the original's folder, if any"
     );
     ExitCode::from(2)
 }
@@ -78,6 +81,8 @@ fn misused() -> ExitCode {
 const PARTS: &[&str] = &[
     "steps",
     "cards",
+    #[cfg(not(fuzz))]
+    "areas",
     "station",
     "programs",
     #[cfg(with_original)]
@@ -127,6 +132,8 @@ fn run(part: &str, mode: Mode, total: &mut Total) -> Result<(), String> {
     match part {
         "steps" => steps::run(mode, total),
         "cards" => cards::compare::run(mode, total),
+        #[cfg(not(fuzz))]
+        "areas" => areas::compare::run(mode, total),
         "station" => station::compare::run(mode, total)?,
         "programs" => programs::compare::run(mode, total)?,
         #[cfg(with_original)]
@@ -161,17 +168,18 @@ fn told(written: std::io::Result<()>) -> ExitCode {
     }
 }
 
-/// The time of the steps and of the passes.
+/// The time of the steps, of the totals of rectangles and of the passes.
 #[cfg(not(fuzz))]
 fn time() -> ExitCode {
     let steps = bench::run();
+    let areas = areas::bench::run();
     #[cfg(with_original)]
     let passes = measure::time();
     #[cfg(not(with_original))]
     let passes = ExitCode::SUCCESS;
-    if steps == ExitCode::SUCCESS {
-        passes
-    } else {
-        steps
-    }
+    let failed = |status: &ExitCode| *status != ExitCode::SUCCESS;
+    [steps, areas, passes]
+        .into_iter()
+        .find(failed)
+        .unwrap_or(ExitCode::SUCCESS)
 }

@@ -662,11 +662,101 @@ impl fmt::Display for RunTally {
     }
 }
 
+/// The count of calls on lists of rectangles.
+pub struct AreaTally {
+    name: &'static str,
+    calls: u64,
+    areas: u64,
+    /// Of the accepted ones.
+    words: u64,
+    /// By the refusal's number.
+    refused: [u64; 20],
+    different: u64,
+    /// The first few differences, each with the place of its call.
+    shown: Vec<(usize, String)>,
+}
+
+impl AreaTally {
+    pub fn new(name: &'static str) -> Self {
+        AreaTally {
+            name,
+            calls: 0,
+            areas: 0,
+            words: 0,
+            refused: [0; 20],
+            different: 0,
+            shown: Vec::new(),
+        }
+    }
+
+    /// Counts a call of so many rectangles with what it had to answer, which it did or not.
+    pub fn check(
+        &mut self,
+        at: usize,
+        asked: Result<u32, u32>,
+        areas: usize,
+        right: bool,
+        text: impl FnOnce() -> String,
+    ) {
+        self.calls += 1;
+        self.areas += areas as u64;
+        match asked {
+            Ok(words) => self.words += u64::from(words),
+            Err(number) => self.refused[number as usize] += 1,
+        }
+        if !right {
+            self.different += 1;
+            if self.shown.len() < SHOWN {
+                self.shown.push((at, text()));
+            }
+        }
+    }
+
+    /// Adds the count of another thread.
+    pub fn join(&mut self, other: AreaTally) {
+        self.calls += other.calls;
+        self.areas += other.areas;
+        self.words += other.words;
+        for (count, more) in self.refused.iter_mut().zip(other.refused) {
+            *count += more;
+        }
+        self.different += other.different;
+        self.shown.extend(other.shown);
+        self.shown.sort_by_key(|&(at, _)| at);
+        self.shown.truncate(SHOWN);
+    }
+}
+
+impl fmt::Display for AreaTally {
+    fn fmt(&self, f: &mut fmt::Formatter) -> fmt::Result {
+        let AreaTally {
+            name,
+            calls,
+            areas,
+            words,
+            refused,
+            different,
+            shown,
+        } = self;
+        writeln!(f, "{name}: {calls} lists of {areas} rectangles, {words} words read, {different} different")?;
+        write!(f, "    refused")?;
+        for (number, count) in refused.iter().enumerate().filter(|(_, &count)| count > 0) {
+            write!(f, " {number}: {count}")?;
+        }
+        writeln!(f)?;
+        for (_, text) in shown {
+            writeln!(f, "    different at {text}")?;
+        }
+        Ok(())
+    }
+}
+
 /// The count over all steps, cards, passes, calls and inputs of the programs.
 #[derive(Default)]
 pub struct Total {
     compared: u64,
     cards: u64,
+    lists: u64,
     frames: u64,
     words: u64,
     inputs: u64,
@@ -716,6 +806,13 @@ impl Total {
         self.different += tally.different;
     }
 
+    /// Prints the count of lists and adds it.
+    pub fn add_areas(&mut self, tally: &AreaTally) {
+        print!("{tally}");
+        self.lists += tally.calls;
+        self.different += tally.different;
+    }
+
     /// Prints a pass's count and adds it.
     pub fn add_frames(&mut self, tally: &FrameTally) {
         print!("{tally}");
@@ -730,6 +827,7 @@ impl fmt::Display for Total {
         let Total {
             compared,
             cards,
+            lists,
             frames,
             words,
             inputs,
@@ -737,7 +835,10 @@ impl fmt::Display for Total {
             different,
             unmet,
         } = self;
-        write!(f, "{compared} values, {cards} cards")?;
+        write!(
+            f,
+            "{compared} values, {cards} cards, {lists} lists of rectangles"
+        )?;
         if *frames > 0 {
             write!(f, ", {frames} frames of {words} words, {calls} calls")?;
         }

@@ -31,6 +31,17 @@ pub(crate) mod exports {
         pub fn hedgemallow_set_enabled(state: *mut u8, kind: u8, on: u8) -> u32;
         pub fn hedgemallow_cycle_lut(state: *mut u8) -> u32;
         pub fn hedgemallow_depth(state: *const u8) -> u32;
+        pub fn hedgemallow_areas(
+            picture: *const u32,
+            picture_len: usize,
+            width: usize,
+            height: usize,
+            areas: *const u16,
+            areas_len: usize,
+            result: *mut u64,
+            result_len: usize,
+            read: *mut u32,
+        ) -> u32;
     }
 }
 
@@ -51,49 +62,50 @@ pub enum Refusal {
     NotInChain,
     BadStation,
     ShortCardBuffer,
+    BadArea,
     /// A number that this library does not give: one of a later table.
     Other(u32),
 }
 
 use Refusal::*;
 
-/// By number, from 1 on, with the paper's words.
-const REFUSALS: [(Refusal, &str); 14] = [
-    (TornCard, "torn card"),
-    (ForeignCard, "foreign card"),
-    (OverfullCard, "overfull card"),
-    (UnknownPass, "unknown pass"),
-    (DoubledPass, "doubled pass"),
-    (BadSetting, "bad setting"),
-    (LongCard, "long card"),
-    (BadSize, "bad size"),
-    (ShortFrame, "short frame"),
-    (ShortHistory, "short history"),
-    (ShortScratch, "short scratch"),
-    (NotInChain, "not in chain"),
-    (BadStation, "bad station"),
-    (ShortCardBuffer, "short card buffer"),
+/// With the paper's numbers and words.
+const REFUSALS: [(u32, Refusal, &str); 15] = [
+    (1, TornCard, "torn card"),
+    (2, ForeignCard, "foreign card"),
+    (3, OverfullCard, "overfull card"),
+    (4, UnknownPass, "unknown pass"),
+    (5, DoubledPass, "doubled pass"),
+    (6, BadSetting, "bad setting"),
+    (7, LongCard, "long card"),
+    (8, BadSize, "bad size"),
+    (9, ShortFrame, "short frame"),
+    (10, ShortHistory, "short history"),
+    (11, ShortScratch, "short scratch"),
+    (12, NotInChain, "not in chain"),
+    (13, BadStation, "bad station"),
+    (14, ShortCardBuffer, "short card buffer"),
+    (19, BadArea, "bad area"),
 ];
 
 impl Refusal {
     fn from_number(number: u32) -> Refusal {
-        let place = (number as usize).wrapping_sub(1);
-        REFUSALS.get(place).map_or(Other(number), |r| r.0)
+        REFUSALS.iter().find(|r| r.0 == number).map_or(Other(number), |r| r.1)
     }
 
     /// The number of document 01's table.
     pub fn number(self) -> u32 {
         match self {
             Other(number) => number,
-            known => REFUSALS.iter().position(|r| r.0 == known).map_or(0, |place| place as u32 + 1),
+            known => REFUSALS.iter().find(|r| r.1 == known).map_or(0, |r| r.0),
         }
     }
 }
 
 impl fmt::Display for Refusal {
     fn fmt(&self, f: &mut fmt::Formatter) -> fmt::Result {
-        match REFUSALS.iter().find(|r| r.0 == *self) {
-            Some(known) => f.write_str(known.1),
+        match REFUSALS.iter().find(|r| r.1 == *self) {
+            Some(known) => f.write_str(known.2),
             None => write!(f, "refusal {}", self.number()),
         }
     }
@@ -196,6 +208,26 @@ impl Station {
     }
 }
 
+/// The totals of up to 64 areas of a picture, in one reading. An area is four numbers of the list: left, top, width and height.
+/// Its sums of red, green and blue go to the front of the result, in the order given; the answer is how many words were read.
+pub fn areas(picture: &[u32], width: usize, height: usize, areas: &[u16], result: &mut [u64]) -> Result<u32, Refusal> {
+    let mut read = [0];
+    let answer = unsafe {
+        exports::hedgemallow_areas(
+            picture.as_ptr(),
+            picture.len(),
+            width,
+            height,
+            areas.as_ptr(),
+            areas.len(),
+            result.as_mut_ptr(),
+            result.len(),
+            read.as_mut_ptr(),
+        )
+    };
+    report(answer).map(|_| read[0])
+}
+
 /// The words of a frame; a side of 0 or above 1024 is a bad size.
 fn count(width: usize, height: usize) -> Result<usize, Refusal> {
     let side = 1..=1024;
@@ -234,10 +266,11 @@ mod tests {
 
     #[test]
     fn refusals_have_the_numbers_and_words_of_the_table() {
-        for (place, (refusal, words)) in (1..).zip(REFUSALS) {
-            assert_eq!((refusal.number(), refusal.to_string()), (place, words.to_string()));
-            assert_eq!(report(256 + place), Err(refusal));
+        for (number, refusal, words) in REFUSALS {
+            assert_eq!((refusal.number(), refusal.to_string()), (number, words.to_string()));
+            assert_eq!(report(256 + number), Err(refusal));
         }
+        assert_eq!(report(256 + 15), Err(Other(15)));
         assert_eq!(report(256), Err(Other(0)));
         assert_eq!(report(u32::MAX), Err(Other(u32::MAX - 256)));
         assert_eq!(report(255), Ok(255));
@@ -277,6 +310,18 @@ mod tests {
         assert_eq!(Station::open(&[]), Err(TornCard));
         assert_eq!(opened().write(&mut []), Err(ShortCardBuffer));
         assert_eq!(opened().apply(&mut [], 1, 1, &mut [], &mut [], &mut []), Err(ShortFrame));
+    }
+
+    #[test]
+    fn areas_are_added_up_in_the_order_given() {
+        let (picture, mut result) = ([0xFF010203, 0x040506, 0x070809, 0x0A0B0C], [9; 7]);
+        assert_eq!(areas(&picture, 2, 2, &[0, 0, 2, 1, 1, 0, 1, 2], &mut result), Ok(3));
+        assert_eq!(result, [5, 7, 9, 14, 16, 18, 9]);
+        assert_eq!(areas(&picture, 2, 2, &[], &mut []), Ok(0));
+        assert_eq!(areas(&picture, 2, 2, &[2, 0, 1, 0], &mut result), Err(BadArea));
+        assert_eq!(areas(&picture[..3], 2, 2, &[0], &mut []), Err(ShortFrame));
+        assert_eq!(areas(&[], 0, 2, &[0], &mut []), Err(BadSize));
+        assert_eq!(result, [5, 7, 9, 14, 16, 18, 9]);
     }
 
     /// Each byte changed to each other value: refused by 13 and left alone by every call, or a state

@@ -1,10 +1,13 @@
-// The exported calls. Each answers what the call reports, 0 where it reports nothing, or 256 and the refusal's number.
+// The exported calls. Each answers what the call reports, 0 where it reports nothing, or 256 and the refusal's number. A number that may be above 255 is
+// reported in a place of its own.
 ghost use mathlib.Core.Path.{_≡_};
 ghost use Prim.Native.Nat.{_+_};
 ghost use mathlib.Core.Bool.{not};
 ghost use lib.Dec.{eqb};
+ghost use Rattle.areas.specs.Areas.{judged};
 ghost use Rattle.chain.specs.Answers.{reported};
 ghost use Rattle.chain.specs.Calls.{reply, resetReply, switchReply, stepReply};
+ghost use Rattle.bridge.specs.Judged.{judgedTold};
 ghost use Rattle.bridge.specs.Outcomes.{outcome, answered, opening, onState, depthTold, writeTold, writeLeft, Frames};
 use super::state::decode;
 use super::state::encode;
@@ -156,4 +159,26 @@ pub extern "C" fn hedgemallow_depth(state: &[u8; 80]) -> u32
         return refusal(k);
     }
     pipeline::places(station) as u32
+}
+
+// The totals of rectangles of a picture, three for each, at the front of the result; and how many words were read. It asks for no station.
+#[no_mangle]
+pub extern "C" fn hedgemallow_areas(
+    picture: &[u32],
+    width: usize,
+    height: usize,
+    areas: &[u16],
+    result: &mut [u64],
+    read: &mut [u32; 1],
+) -> u32
+    ensures { λ r. ⌜ (r, (now (read .exit), now (result .exit))) ≡ judgedTold (now (read .entry)) (judged (now (picture .entry)) width height (now (areas .entry)) (now (result .entry))) ⌝ }
+{
+    let answer = areas::totals(picture, width, height, areas, result);
+    match answer {
+        areas::Answer::Read(n) => {
+            *read = [n];
+            0
+        }
+        areas::Answer::Refused(k) => refusal(k),
+    }
 }

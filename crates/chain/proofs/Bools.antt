@@ -1,19 +1,11 @@
 -- Conjunctions and alternatives of tests, taken apart. Assumes nothing.
-use Prim.Native.Nat.{ℕ}
-use native.Mathlib.Omega.{arith}
 use mathlib.Core.Path.{_≡_, refl, sym, _∙_}
 use mathlib.Core.Bool.{Bool, true, false, _&&_, _||_}
-
-pub false-true : {A : Type 0} → false ≡ true → A
-false-true e = let z : _≡_ {A = ℕ} 0 1 = cc in absurd (omega arith)
+pub use Rattle.num.specs.Refusals.{false-true, neither}
 
 pub both : (a b : Bool) → a && b ≡ true → (a ≡ true) × (b ≡ true)
 both true b e = (refl, e)
 both false b e = false-true e
-
-pub neither : (a b : Bool) → a || b ≡ false → (a ≡ false) × (b ≡ false)
-neither true b e = false-true (sym e)
-neither false b e = (refl, e)
 
 -- the second holds, so one does
 pub or-second : (a b : Bool) → b ≡ true → a || b ≡ true

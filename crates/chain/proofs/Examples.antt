@@ -9,6 +9,7 @@ use lib.Ieee.{ofBits, ofInt, add, mul, div, lt, eq}
 use lib.ListN.{drop}
 use Rattle.num.specs.Cases.{Hold}
 use Rattle.num.specs.Const.{c0·5, c1·0}
+use Rattle.num.specs.Refusals.{badSide, unless}
 use Rattle.num.specs.Rewrite.{rewrite}
 use Rattle.num.specs.Steps.{clampOf, cutOf, plusZeroOf, limitOf}
 use Rattle.passes.specs as Text
@@ -17,8 +18,8 @@ use Rattle.passes.specs.Fold.{fold}
 use Rattle.passes.specs.Plain.Persistence as Persistence
 use Rattle.chain.specs.Agree.{opened, SameCall, frames, none, more, before, point}
 use Rattle.chain.specs.Bits.{valueAt, fieldAt}
-use Rattle.chain.specs.Calls.{badSide, stops, lacks, Report, refusal, acceptance, unless, onFirst, presets}
-use Rattle.chain.specs.Calls.{unlessFramed, shownBy, frameReplyBy}
+use Rattle.chain.specs.Calls.{stops, lacks, Report, refusal, acceptance, onFirst, presets, shownBy}
+use Rattle.chain.specs.Calls.{frameReplyBy}
 use Rattle.chain.specs.Card.{stationOf, headerAt, recordsAt, endsAt, endAt, stationAt, accepted, openOf}
 use Rattle.chain.specs.Chain.{wash, overBy, turnBy, depth}
 use Rattle.chain.specs.Machine.{Call, frame, reset, switch, step, State, Seen, call, after, run, saw}
@@ -114,7 +115,7 @@ points =
     ∷ []
 
 pub runs-hold : Hold shows × Hold reports × Hold points
-unfolding point before saw run after call frameReplyBy unlessFramed shownBy unless stops lacks goodStation fineHeld sameHeld
+unfolding point before saw run after call frameReplyBy unless shownBy stops lacks goodStation fineHeld sameHeld
     badSide settled normalPass normalChain persists depth fold turnBy overBy wash onFirst presets ofBits ofInt add mul div
     lt clampOf cutOf rewrite Text.Pixel.unpack Text.Pixel.pack Text.Pixel.packLimited Text.Persistence.persistence
     Text.Persistence.decay Text.Persistence.total Text.Persistence.add Text.Persistence.mix Text.Persistence.pixel
@@ -127,7 +128,7 @@ same : (p : ℕ) → SameCall (one 7 p) (one 8 p)
 same p = frames refl (λ fits. refl)
 
 pub agree : drop 2 (saw old (shared 7)) ≡ drop 2 (saw new (shared 8))
-unfolding point before saw run after call frameReplyBy unlessFramed shownBy unless stops lacks goodStation fineHeld sameHeld
+unfolding point before saw run after call frameReplyBy unless shownBy stops lacks goodStation fineHeld sameHeld
     badSide settled normalPass normalChain persists depth fold turnBy overBy wash onFirst presets ofBits ofInt add mul div
     lt clampOf cutOf rewrite Text.Pixel.unpack Text.Pixel.pack Text.Pixel.packLimited Text.Persistence.persistence
     Text.Persistence.decay Text.Persistence.total Text.Persistence.add Text.Persistence.mix Text.Persistence.pixel

@@ -1,35 +1,20 @@
 -- What no refusal of a frame tells, and how a refused and an accepted frame are said. Assumes nothing.
 use Prim.Native.Nat.{ℕ, zero, suc, _*_, _≤_, _<_}
-use native.Mathlib.Nat.{mul-le-mul}
 use native.Mathlib.Omega.{arith}
 use mathlib.Core.Path.{_≡_, refl, sym, ap, _∙_}
 use mathlib.Core.Bool.{Bool, true, false, not, _||_, cond}
 use mathlib.Core.List.{List, [], _++_}
-use borrow.Author.Tests.{eqb-false, ltb-false, not-false}
-use lib.Dec.{ltb, eqb}
+use borrow.Author.Tests.{ltb-false, not-false}
+use lib.Dec.{ltb}
 use lib.ListN.{length, take, drop}
+use Rattle.num.specs.Refusals.{badSide, unless, neither, by, side-fine}
 use Rattle.passes.specs.Flow.{Flow, flow}
 use Rattle.chain.specs.Alike.{chainOf}
-use Rattle.chain.specs.Calls.{hold, badSide, stops, refusal, acceptance, framed, unlessFramed, shown, shownBy, frameReply, frameReplyBy}
+use Rattle.chain.specs.Calls.{hold, stops, refusal, acceptance, framed, refusingFrame, shown, shownBy}
+use Rattle.chain.specs.Calls.{frameReply, frameReplyBy}
 use Rattle.chain.specs.Chain.{chain, depth}
 use Rattle.chain.specs.Normal.{goodStation}
 use Rattle.chain.specs.declared.station.Station.{Station}
-use Rattle.chain.proofs.Bools.{neither}
-
--- a test that gives a number other than 0 went by
-by : (t : Bool) (k rest : ℕ) → 0 < k → cond t k rest ≡ 0 → (t ≡ false) × (rest ≡ 0)
-by true k rest p h = absurd (omega arith)
-by false k rest p h = (refl, h)
-
-pub side-fine : (x : ℕ) → badSide x ≡ false → (0 < x) × (x ≤ 1024)
-unfolding badSide
-side-fine x e =
-    let d = neither (eqb x 0) (ltb 1024 x) e in
-    let some : x ≡ 0 → ⊥ = eqb-false x 0 (d .0) in
-    (omega arith, ltb-false 1024 x (d .1))
-
-pub area-fine : {w h : ℕ} → w ≤ 1024 → h ≤ 1024 → h * w ≤ 1048576
-area-fine a b = mul-le-mul b a
 
 pub record Goes (s : Station) (w h words history floats ints : ℕ) : Type 0 where
   pub good : goodStation s ≡ true
@@ -63,15 +48,15 @@ goes s w h words history floats ints e =
 -- a frame's reply by its refusal: everything as it was given
 pub refused-frame : (k w h : ℕ) (s : Station) (words past : List ℕ) (floats ints : ℕ) → (k ≡ 0 → ⊥) → k ≡ stops s w h (length words) (length past) floats ints
     → framed (refusal k) s words past ≡ frameReply w h s words past floats ints
-unfolding frameReplyBy unlessFramed
+unfolding frameReplyBy unless
 refused-frame zero w h s words past floats ints n e = absurd (n refl)
-refused-frame (suc k) w h s words past floats ints n e = ap (λ (m : ℕ). unlessFramed m s words past (shown w h s words past)) e
+refused-frame (suc k) w h s words past floats ints n e = ap (λ (m : ℕ). unless m (refusingFrame s words past) (shown w h s words past)) e
 
 -- or what the chain makes of it
 pub shown-frame : (w h : ℕ) (s : Station) (words past : List ℕ) (floats ints : ℕ) {frame′ past′ : List ℕ} {held′ : ℕ}
     → stops s w h (length words) (length past) floats ints ≡ 0 → flow frame′ held′ past′ ≡ chain w h (chainOf s) (flow (take (h * w) words) (s .held) past)
     → framed (acceptance []) (hold held′ s) (frame′ ++ drop (h * w) words) past′ ≡ frameReply w h s words past floats ints
-unfolding frameReplyBy unlessFramed shownBy
+unfolding frameReplyBy unless shownBy
 shown-frame w h s words past floats ints e x =
     ap (λ (y : Flow). framed (acceptance []) (hold (y .held) s) (y .frame ++ drop (h * w) words) (y .past)) x
-    ∙ ap (λ (m : ℕ). unlessFramed m s words past (shown w h s words past)) (sym e)
+    ∙ ap (λ (m : ℕ). unless m (refusingFrame s words past) (shown w h s words past)) (sym e)

@@ -11,12 +11,13 @@ use borrow.Author.Tests.{not-true}
 use lib.Dec.{eqb}
 use lib.ListN.{length, take, drop, take-append-drop}
 use lib.Seq.{take-nil, take-append-le, take-at, length-take-le}
+use Rattle.num.specs.Refusals.{unless}
 use Rattle.passes.specs.Flow.{Held, nothing, sized, area, Flow}
 use Rattle.chain.specs.Agree.{SameCall, frames, resets, switches-to, steps, lent, Lends}
 use Rattle.chain.specs.Agree.{on, ok, takes, ends}
 use Rattle.chain.specs.Alike.{chainOf}
-use Rattle.chain.specs.Calls.{hold, rechain, stops, lacks, Report, acceptance, reply, unless, onFirst, turned, presets, stepLut}
-use Rattle.chain.specs.Calls.{Framed, unlessFramed, incoming, shown, shownBy, frameReplyBy}
+use Rattle.chain.specs.Calls.{hold, rechain, stops, lacks, Report, acceptance, reply, refusing, onFirst, turned}
+use Rattle.chain.specs.Calls.{presets, stepLut, Framed, refusingFrame, incoming, shown, shownBy, frameReplyBy}
 use Rattle.chain.specs.Chain.{wash, chain, depth}
 use Rattle.chain.specs.Machine.{Call, frame, reset, switch, step, State, seen, Done, lend, still, call, after}
 use Rattle.chain.specs.Normal.{persists}
@@ -130,16 +131,16 @@ module _ (s : Station) (b : Held) (H G : List ℕ) (fit-s : Fit s) (fit-t : Fit 
   -- a frame, where k is its refusal
   module _ (w h l m i : ℕ) (p q : List ℕ) (lent-s : l ≤ length H) (lent-t : l ≤ length G) where
     abbrev this-frame : ℕ → Framed
-    this-frame k = unlessFramed k s p (take l H) (shown w h s p (take l H))
+    this-frame k = unless k (refusingFrame s p (take l H)) (shown w h s p (take l H))
 
     abbrev that-frame : ℕ → Framed
-    that-frame k = unlessFramed k (hold b s) q (take l G) (shown w h (hold b s) q (take l G))
+    that-frame k = unless k (refusingFrame (hold b s) q (take l G)) (shown w h (hold b s) q (take l G))
 
     frame-step : (A : Type 0) → (A → depth (chainOf s) ≤ j) → length p ≡ length q → (h * w ≤ length p → take (h * w) p ≡ take (h * w) q)
         → (k : ℕ) → stops s w h (length p) (length (take l H)) m i ≡ k
         → (n : ℕ) → n ≤ depth (chainOf s) → n ≤ cond (persists (chainOf s) && ok (this-frame k .answer)) (suc j) j
         → Step A n (lend (h * w) l H (this-frame k)) (lend (h * w) l G (that-frame k))
-    unfolding unlessFramed shownBy
+    unfolding unless shownBy
     frame-step A all e f zero z n le at =
         let g = goes s w h (length p) (length (take l H)) m i z in
         let room : depth (chainOf s) * (h * w) ≤ l = rw (length-take-le l H lent-s) at (g .past-room) in
@@ -158,8 +159,8 @@ module _ (s : Station) (b : Held) (H G : List ℕ) (fit-s : Fit s) (fit-t : Fit 
 
   -- a call that touches no word: where c holds it forgets what is held, else it keeps it
   reply-step : (A : Type 0) (n : ℕ) → n ≤ j → (k : ℕ) (reports : List ℕ) (c : Bool) (u : Station)
-      → Step A n (still H (unless k s (reply (acceptance reports) (hold (cond c nothing (s .held)) u))))
-      (still G (unless k (hold b s) (reply (acceptance reports) (hold (cond c nothing b) u))))
+      → Step A n (still H (unless k (refusing s) (reply (acceptance reports) (hold (cond c nothing (s .held)) u))))
+      (still G (unless k (refusing (hold b s)) (reply (acceptance reports) (hold (cond c nothing b) u))))
   unfolding unless
   reply-step A n le zero reports true u = record { answers = refl; alike = refl; near = near-nothing nothing nothing H G n refl refl; pictures = λ z. refl }
   reply-step A n le zero reports false u = record { answers = refl; alike = refl; near = near-less (s .held) b H G n j le near; pictures = λ z. refl }

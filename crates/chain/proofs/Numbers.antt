@@ -13,6 +13,7 @@ use lib.Seq.{length-take-le}
 use lib.Ieee.{Float, nan, inf, fin, up, down, lt, neg, ofBits}
 use lib.Ieee.Fits.{down-pos}
 use lib.Ieee.Scale.{finite}
+use Rattle.num.specs.Refusals.{unless}
 use Rattle.num.specs.Const.{c0·0, c0·5, c0·95, c1·0, c4·0}
 use Rattle.num.specs.Within.{within, size-le, within-plus, zero-value}
 use Rattle.passes.specs.Arith.{Arith, Agrees}
@@ -26,7 +27,8 @@ use Rattle.passes.specs.Lengths.{history-length}
 use Rattle.passes.specs.Range as Range
 use Rattle.passes.specs.Rows.{Frame}
 use Rattle.chain.specs.Alike.{chainOf}
-use Rattle.chain.specs.Calls.{framed, acceptance, hold, incoming, stops, unlessFramed, shown, shownBy, frameReply, frameReplyBy}
+use Rattle.chain.specs.Calls.{framed, acceptance, hold, incoming, stops, refusingFrame, shown, shownBy}
+use Rattle.chain.specs.Calls.{frameReply, frameReplyBy}
 use Rattle.chain.specs.Chain.{wash, over, overBy, turn, turnBy, chain, depthOf, depth}
 use Rattle.chain.specs.Normal.{negZero, settled, counted, normalPass, normalChain}
 use Rattle.chain.specs.Numbers.{Pass-inside, Numbers-inside, Casts-inside}
@@ -231,12 +233,12 @@ module _ (A : Arith) (G : Agrees A) (w h : ℕ) where
 
   frame-inside-at : (s : Station) (words past : List ℕ) (floats ints : ℕ) → TypedChain (chainOf s)
       → frameReplyBy A w h s words past floats ints ≡ frameReply w h s words past floats ints
-  unfolding frameReplyBy unlessFramed shownBy
+  unfolding frameReplyBy unless shownBy
   frame-inside-at s words past floats ints t = go (stops s w h (length words) (length past) floats ints) refl
     where
       go : (k : ℕ) → stops s w h (length words) (length past) floats ints ≡ k
-          → unlessFramed k s words past (shownBy A w h s words past)
-          ≡ unlessFramed k s words past (shown w h s words past)
+          → unless k (refusingFrame s words past) (shownBy A w h s words past)
+          ≡ unless k (refusingFrame s words past) (shown w h s words past)
       go zero e =
           let g = goes s w h (length words) (length past) floats ints e in
           ap (λ (x : Flow). framed (acceptance []) (hold (x .held) s) (x .frame ++ drop (h * w) words) (x .past))

@@ -5,9 +5,10 @@ use mathlib.Core.Path.{_≡_, refl, sym, ap, _∙_}
 use mathlib.Core.Bool.{Bool, true, false, not, cond}
 use mathlib.Core.List.{List, [], _∷_, map}
 use lib.ListN.{length, getD, set, length-map}
+use Rattle.num.specs.Refusals.{accepts}
 use Rattle.passes.specs.Flow.{Held}
 use Rattle.chain.specs.Alike.{chainOf}
-use Rattle.chain.specs.Calls.{hold, rechain, refusal, acceptance, Reply, reply, unless, lacks, onFirst, heldAfter, turned, switched, switchReply, stepped, steppedPass, presetOf, presets, stepLut, stepReply}
+use Rattle.chain.specs.Calls.{hold, rechain, refusal, acceptance, Reply, reply, refusing, lacks, onFirst, heldAfter, turned, switched, switchReply, stepped, steppedPass, presetOf, presets, stepLut, stepReply}
 use Rattle.chain.specs.Lent.{First}
 use Rattle.chain.specs.Normal.{goodStation}
 use Rattle.chain.specs.Records.{kinds, among}
@@ -17,15 +18,6 @@ use Rattle.chain.specs.declared.station.Station.{Station}
 use Rattle.chain.proofs.First.{first-set, one-preset}
 use Rattle.chain.proofs.Good.{Good, good}
 use Rattle.chain.proofs.Scans.{past}
-
-pub refuses : (k n : ℕ) (s : Station) (r : Reply) → (k ≡ 0 → ⊥) → k ≡ n → reply (refusal k) s ≡ unless n s r
-unfolding unless
-refuses zero n s r some e = absurd (some refl)
-refuses (suc k) n s r some e = ap (λ (m : ℕ). unless m s r) e
-
-pub accepts : (n : ℕ) (s : Station) (r : Reply) → n ≡ 0 → r ≡ unless n s r
-unfolding unless
-accepts n s r e = ap (λ (m : ℕ). unless m s r) (sym e)
 
 -- no refusal: the station is good, and the kind is there
 pub present : (s : Station) (kind : ℕ) → lacks s kind ≡ 0 → Good s × (among kind (kinds (chainOf s)) ≡ true)
@@ -57,7 +49,7 @@ module _ (kind : ℕ) (s : Station) (i : ℕ) (t : First kind (s .n) (s .records
   switches on {held} e =
       ap (λ (h : Held). reply (acceptance []) (put i (turned on (getD (s .records) i past)) h s)) e
       ∙ ap (reply (acceptance [])) (placed (turned on) (heldAfter kind on (s .held)))
-      ∙ accepts (lacks s kind) s (reply (acceptance []) (switched kind on s)) none
+      ∙ accepts (lacks s kind) (refusing s) (reply (acceptance []) (switched kind on s)) refl none
 
 -- the LUT's preset, which is the only one
 pub cycles : (s : Station) (i : ℕ) → First 5 (s .n) (s .records) i → s .n ≤ length (s .records) → lacks s 5 ≡ 0
@@ -70,4 +62,4 @@ cycles s i t room none {pass} {preset} e p =
     ap (λ (ps : List ℕ). reply (acceptance ps) (now pass)) (sym p ∙ ap presetOf e ∙ sym one)
     ∙ ap (λ (q : Pass). reply report (now q)) e
     ∙ ap (reply report) (placed 5 s i t room none stepped (s .held))
-    ∙ accepts (lacks s 5) s (reply report (rechain (stepLut (chainOf s)) s)) none
+    ∙ accepts (lacks s 5) (refusing s) (reply report (rechain (stepLut (chainOf s)) s)) refl none

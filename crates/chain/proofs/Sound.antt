@@ -11,11 +11,13 @@ use lib.Ieee.{Float, neg}
 use lib.ListN.{length, take, drop, length-map}
 use lib.Seq.{length-take-le, length-front, take-at, drop-at, take-append-seam}
 use Rattle.num.specs.Const.{c0·0, c0·5, c0·95, c1·0, c4·0}
+use Rattle.num.specs.Refusals.{badSide, unless, area-fine}
 use Rattle.passes.specs.Flow.{Held, nothing, sized, sameHeld, fineHeld, Flow}
 use Rattle.chain.specs.Agree.{opened}
 use Rattle.chain.specs.Alike.{chainOf}
-use Rattle.chain.specs.Calls.{hold, rechain, badSide, stops, lacks, Report, refusal, acceptance, Reply, reply, unless}
-use Rattle.chain.specs.Calls.{onFirst, turned, switched, stepped, stepLut, Framed, framed, unlessFramed, incoming, shown, shownBy, frameReply, frameReplyBy}
+use Rattle.chain.specs.Calls.{hold, rechain, stops, lacks, Report, refusal, acceptance, Reply, reply, refusing}
+use Rattle.chain.specs.Calls.{onFirst, turned, switched, stepped, stepLut, Framed, framed, refusingFrame}
+use Rattle.chain.specs.Calls.{incoming, shown, shownBy, frameReply, frameReplyBy}
 use Rattle.chain.specs.Card.{stationOf, accepted, openOf}
 use Rattle.chain.specs.Chain.{wash, chain, depth}
 use Rattle.chain.specs.Machine.{Call, frame, reset, switch, step, State, Seen, call, after, run, saw}
@@ -32,7 +34,7 @@ use Rattle.chain.proofs.Back.{Settled, Counted}
 use Rattle.chain.proofs.Chain.{NormalPass, NormalChain}
 use Rattle.chain.proofs.Changed.{shapes, depths, depth-is, Gentle, turned-gentle, stepped-gentle, first-shapes, first-normal, first-persists}
 use Rattle.chain.proofs.Good.{Good, good, is-good, is-headed}
-use Rattle.chain.proofs.Goes.{goes, area-fine}
+use Rattle.chain.proofs.Goes.{goes}
 use Rattle.chain.proofs.Kept.{Fits}
 use Rattle.chain.proofs.PassCases.{blank}
 use Rattle.chain.proofs.Theorems.{accepted-opens}
@@ -174,14 +176,14 @@ after-frame w h s words past f fine = go (good-apart s f)
 -- ## Each call
 
 -- refused with k, or accepted
-by-lack : (P : Reply → Type 0) (k : ℕ) (s : Station) (r : Reply) → P (reply (refusal k) s) → P r → P (unless k s r)
+by-lack : (P : Reply → Type 0) (k : ℕ) (s : Station) (r : Reply) → P (reply (refusal k) s) → P r → P (unless k (refusing s) r)
 unfolding unless
 by-lack P zero s r p q = q
 by-lack P (suc k) s r p q = p
 
 pub by-stop : (P : Framed → Type 0) (k : ℕ) (s : Station) (words past : List ℕ) (r : Framed) → P (framed (refusal k) s words past) → (k ≡ 0 → P r)
-    → P (unlessFramed k s words past r)
-unfolding unlessFramed
+    → P (unless k (refusingFrame s words past) r)
+unfolding unless
 by-stop P zero s words past r p q = q refl
 by-stop P (suc k) s words past r p q = p
 

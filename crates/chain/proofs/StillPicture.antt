@@ -17,6 +17,7 @@ use lib.Ieee.Fits.{up-pos}
 use lib.Ieee.Positive.{num, den}
 use lib.Ieee.Scale.{finite}
 use Rattle.num.specs.Const.{c0·0, c0·95}
+use Rattle.num.specs.Refusals.{unless}
 use Rattle.passes.specs.Flow.{nothing, sized, Flow}
 use Rattle.passes.specs.Fold.{fold}
 use Rattle.passes.specs.Lengths.{history-length}
@@ -26,7 +27,7 @@ use Rattle.passes.specs.StillLaws.Pictures.{still-itself, persistence-still}
 use Rattle.passes.specs.StillLaws.Places.{Full}
 use Rattle.chain.specs.Agree.{SameCall, frames, ok}
 use Rattle.chain.specs.Alike.{chainOf}
-use Rattle.chain.specs.Calls.{hold, stops, lacks, reply, Framed, framed, acceptance, unless, incoming, shown}
+use Rattle.chain.specs.Calls.{hold, stops, lacks, reply, refusing, Framed, framed, acceptance, incoming, shown}
 use Rattle.chain.specs.Calls.{shownBy, frameReplyBy}
 use Rattle.chain.specs.Chain.{overBy, turnBy, chain, depth}
 use Rattle.chain.specs.Machine.{Call, frame, reset, State, Seen, picture, call, after, saw}
@@ -102,7 +103,7 @@ module _ (on : Bool) (amount : Float) (k w h : ℕ) (words : List ℕ) where
   after-reset s e = go (lacks (s .station) 4) refl
     where
       go : (n : ℕ) → lacks (s .station) 4 ≡ n
-          → Steady (record { station = unless n (s .station) (reply (acceptance []) (hold nothing (s .station))) .station; history = s .history })
+          → Steady (record { station = unless n (refusing (s .station)) (reply (acceptance []) (hold nothing (s .station))) .station; history = s .history })
       go zero z = record { is-alone = e; full = λ g p held. absurd (omega arith) }
       go (suc n) z =
           record {

@@ -7,13 +7,14 @@ use mathlib.Core.List.{List, [], _++_}
 use lib.Ieee.{Float}
 use lib.ListN.{length, take, drop, take-append-drop}
 use lib.Seq.{length-take-le, drop-at}
+use Rattle.num.specs.Refusals.{unless}
 use Rattle.passes.specs as Text
 use Rattle.passes.specs.Flow.{Held, sized, sameHeld, Flow, flow}
 use Rattle.passes.specs.Plain.Persistence.{persistence, blend, refilled, shifted}
 use Rattle.passes.specs.PersistenceLaws.{refilled-rest, shifted-rest}
 use Rattle.chain.specs.Alike.{chainOf}
-use Rattle.chain.specs.Calls.{Report, refusal, acceptance, reply, unless, stops, lacks, Framed, framed}
-use Rattle.chain.specs.Calls.{unlessFramed, incoming, shown, shownBy, frameReplyBy}
+use Rattle.chain.specs.Calls.{Report, refusal, acceptance, reply, refusing, stops, lacks, Framed, framed}
+use Rattle.chain.specs.Calls.{refusingFrame, incoming, shown, shownBy, frameReplyBy}
 use Rattle.chain.specs.Chain.{wash, chain, depth}
 use Rattle.chain.specs.Claims.{Refused-keeps, Untouched}
 use Rattle.chain.specs.Machine.{Call, frame, reset, switch, step, State, call, after}
@@ -29,14 +30,14 @@ use Rattle.chain.proofs.Goes.{goes}
 accepted-not : {A : Type 0} (ns : List ℕ) (k : ℕ) → Path Report (acceptance ns) (refusal k) → A
 accepted-not ns k e = let z : _≡_ {A = ℕ} 0 1 = cc in absurd (omega arith)
 
-reply-keeps : (n : ℕ) (s t : Station) (ns : List ℕ) (k : ℕ) → unless n s (reply (acceptance ns) t) .answer ≡ refusal k → unless n s (reply (acceptance ns) t) .station ≡ s
+reply-keeps : (n : ℕ) (s t : Station) (ns : List ℕ) (k : ℕ) → unless n (refusing s) (reply (acceptance ns) t) .answer ≡ refusal k → unless n (refusing s) (reply (acceptance ns) t) .station ≡ s
 unfolding unless
 reply-keeps zero s t ns k e = accepted-not ns k e
 reply-keeps (suc n) s t ns k e = refl
 
-frame-keeps : (n w h : ℕ) (s : Station) (words past : List ℕ) (k : ℕ) → unlessFramed n s words past (shown w h s words past) .answer ≡ refusal k
-    → unlessFramed n s words past (shown w h s words past) ≡ framed (refusal k) s words past
-unfolding unlessFramed shownBy
+frame-keeps : (n w h : ℕ) (s : Station) (words past : List ℕ) (k : ℕ) → unless n (refusingFrame s words past) (shown w h s words past) .answer ≡ refusal k
+    → unless n (refusingFrame s words past) (shown w h s words past) ≡ framed (refusal k) s words past
+unfolding unless shownBy
 frame-keeps zero w h s words past k e = accepted-not [] k e
 frame-keeps (suc n) w h s words past k e = ap (λ (r : Report). framed r s words past) e
 
@@ -89,8 +90,8 @@ Stays w h s words past r =
     × (r .station .records ≡ s .records)
 
 stays : (w h : ℕ) (s : Station) (words past : List ℕ) (floats ints n : ℕ) → stops s w h (length words) (length past) floats ints ≡ n
-    → Stays w h s words past (unlessFramed n s words past (shown w h s words past))
-unfolding unlessFramed shownBy
+    → Stays w h s words past (unless n (refusingFrame s words past) (shown w h s words past))
+unfolding unless shownBy
 stays w h s words past floats ints zero e =
     let g = goes s w h (length words) (length past) floats ints e in
     let a = apart (chainOf s) (good s (g .good) .normal) in

@@ -1,9 +1,10 @@
 -- The calls on a station: what each refuses, what it answers, and what it leaves. Assumes nothing.
-use Prim.Native.Nat.{ℕ, zero, suc, _+_, _*_}
+use Prim.Native.Nat.{ℕ, _+_, _*_}
 use mathlib.Core.Bool.{Bool, not, _&&_, _||_, cond}
 use mathlib.Core.List.{List, [], _∷_, _++_}
 use lib.Dec.{eqb, ltb}
 use lib.ListN.{length, take, drop}
+use Rattle.num.specs.Refusals.{badSide, unless}
 use Rattle.passes.specs.Arith.{Arith, plain}
 use Rattle.passes.specs.Flow.{Held, nothing, Flow, flow}
 use Rattle.chain.specs.Alike.{chainOf}
@@ -27,9 +28,6 @@ abbrev pub rechain : List Record → Station → Station
 rechain rs s = record { records = rs ++ drop (s .n) (s .records); n = s .n; held = s .held }
 
 -- ## Refusals: a number of document 01's table, 0 for none
-
-unfoldable pub badSide : ℕ → Bool
-badSide x = eqb x 0 || ltb 1024 x
 
 -- of a frame, by the lengths of what is lent
 unfoldable pub stops : Station → (w h words history floats ints : ℕ) → ℕ
@@ -58,10 +56,9 @@ pub record Reply : Type 0 where
 abbrev pub reply : Report → Station → Reply
 reply answer s = record { answer = answer; station = s }
 
--- refusal k with the station as it was given, or r where k is 0
-unfoldable pub unless : ℕ → Station → Reply → Reply
-unless zero s r = r
-unless (suc k) s r = reply (refusal (suc k)) s
+-- a refusal leaves the station as it was given
+abbrev pub refusing : Station → ℕ → Reply
+refusing s k = reply (refusal k) s
 
 -- ## Reset, switch, preset step
 
@@ -71,7 +68,7 @@ onFirst kind f [] = []
 onFirst kind f (r ∷ rs) = cond (eqb (kindOf (r .pass)) kind) (f r ∷ rs) (r ∷ onFirst kind f rs)
 
 abbrev pub resetReply : Station → Reply
-resetReply s = unless (lacks s 4) s (reply (acceptance []) (hold nothing s))
+resetReply s = unless (lacks s 4) (refusing s) (reply (acceptance []) (hold nothing s))
 
 abbrev pub turned : Bool → Record → Record
 turned on r = record { on = on; pass = r .pass }
@@ -84,7 +81,7 @@ abbrev pub switched : ℕ → Bool → Station → Station
 switched kind on s = hold (heldAfter kind on (s .held)) (rechain (onFirst kind (turned on) (chainOf s)) s)
 
 abbrev pub switchReply : ℕ → Bool → Station → Reply
-switchReply kind on s = unless (lacks s kind) s (reply (acceptance []) (switched kind on s))
+switchReply kind on s = unless (lacks s kind) (refusing s) (reply (acceptance []) (switched kind on s))
 
 -- from 0 to 6, and back to 0
 abbrev pub next : ℕ → ℕ
@@ -127,7 +124,7 @@ stepLut = onFirst 5 stepped
 
 -- a step reports the new preset
 abbrev pub stepReply : Station → Reply
-stepReply s = unless (lacks s 5) s (reply (acceptance (presets (stepLut (chainOf s)))) (rechain (stepLut (chainOf s)) s))
+stepReply s = unless (lacks s 5) (refusing s) (reply (acceptance (presets (stepLut (chainOf s)))) (rechain (stepLut (chainOf s)) s))
 
 -- ## Frame
 
@@ -141,10 +138,9 @@ pub record Framed : Type 0 where
 abbrev pub framed : Report → Station → (words past : List ℕ) → Framed
 framed answer s words past = record { answer = answer; station = s; words = words; past = past }
 
--- refusal k with the station, the framebuffer and the history as they were given, or r where k is 0
-unfoldable pub unlessFramed : ℕ → Station → (words past : List ℕ) → Framed → Framed
-unlessFramed zero s words past r = r
-unlessFramed (suc k) s words past r = framed (refusal (suc k)) s words past
+-- a refusal leaves the station, the framebuffer and the history as they were given
+abbrev pub refusingFrame : Station → (words past : List ℕ) → ℕ → Framed
+refusingFrame s words past k = framed (refusal k) s words past
 
 abbrev pub incoming : (w h : ℕ) → Station → (words past : List ℕ) → Flow
 incoming w h s words past = flow (take (h * w) words) (s .held) past
@@ -159,7 +155,7 @@ module _ (A : Arith) (w h : ℕ) where
   -- `floats` and `ints` are the lengths of the scratches
   unfoldable pub frameReplyBy : Station → (words past : List ℕ) → (floats ints : ℕ) → Framed
   frameReplyBy s words past floats ints =
-      unlessFramed (stops s w h (length words) (length past) floats ints) s words past (shownBy s words past)
+      unless (stops s w h (length words) (length past) floats ints) (refusingFrame s words past) (shownBy s words past)
 
 -- the product's
 

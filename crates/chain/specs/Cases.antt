@@ -7,6 +7,7 @@ use mathlib.Core.Path.{refl}
 use lib.Ieee.{ofBits, toBits, lt, eq, neg}
 use Rattle.num.specs.Cases.{Hold}
 use Rattle.num.specs.Const.{c0·0}
+use Rattle.num.specs.Refusals.{badSide}
 use Rattle.num.specs.Steps.{clampOf, plusZeroOf, limitOf}
 use Rattle.passes.specs.Flow.{sameHeld, fineHeld}
 use Rattle.chain.specs.Step.{refuseIf}
@@ -15,7 +16,7 @@ use Rattle.chain.specs.Settings.{finiteAt, limitedAt, withinAt, countAt,
 use Rattle.chain.specs.Passes.{passAt, persistenceAt, lutAt, colorCorrectionAt, scanlinesAt}
 use Rattle.chain.specs.Records.{recordAt}
 use Rattle.chain.specs.Card.{stationOf, headerAt, recordsAt, endsAt, endAt, stationAt, accepted, openOf, stoppedOf}
-use Rattle.chain.specs.Calls.{hold, badSide, stops, lacks}
+use Rattle.chain.specs.Calls.{hold, stops, lacks}
 use Rattle.chain.specs.Chain.{depth}
 use Rattle.chain.specs.Normal.{settled, normalPass, normalChain, persists, goodStation}
 use Rattle.chain.specs.Written.{bits, passBits, recordBits, recordsBits, chainBits, valueOf, pack, chainCard, cardOf}

@@ -6,6 +6,7 @@ use mathlib.Core.Path.{_≡_, refl}
 use lib.Ieee.{binary32, ofBits, toBits, ofInt, add, sub, mul, div, neg, lt, le, eq}
 use Rattle.num.specs.Const.{c0·0, c0·5, c1·0, c2·0, c3·0}
 use Rattle.num.specs.F32.{dec}
+use Rattle.num.specs.Refusals.{badSide, unless}
 use Rattle.num.specs.Rewrite.{rewrite}
 use Rattle.num.specs.Root.{rootOf}
 use Rattle.num.specs.Steps.{clampOf, minOf, maxOf, absOf, cutOf, roundOf, plusZeroOf, limitOf}
@@ -16,7 +17,7 @@ use Rattle.passes.specs.Plain.Persistence as Persistence
 use Rattle.chain.specs.Agree.{opened}
 use Rattle.chain.specs.Alike.{chainOf}
 use Rattle.chain.specs.Bits.{valueAt, fieldAt}
-use Rattle.chain.specs.Calls.{badSide, stops, unlessFramed, shownBy, frameReplyBy}
+use Rattle.chain.specs.Calls.{stops, shownBy, frameReplyBy}
 use Rattle.chain.specs.Card.{stationOf, headerAt, recordsAt, endsAt, endAt, stationAt, accepted, openOf}
 use Rattle.chain.specs.Chain.{wash, overBy, turnBy, chain, depth}
 use Rattle.chain.specs.Machine.{frame, call, after, saw}
@@ -89,7 +90,7 @@ unfolding dec ofBits toBits ofInt add sub mul div neg lt le eq clampOf minOf max
     Text.ColorCorrection.colorCorrection Text.ColorCorrection.pixel openOf stationAt headerAt fieldAt valueAt refuseIf
     recordsAt endAt endsAt recordAt passAt autoGradientAt persistenceAt curvatureAt colorCorrectionAt crtAt vignetteAt
     scanlinesAt finiteAt limitedAt withinAt gainAt countAt cardOf chainCard packBytes valueOf chainBits recordsBits
-    recordBits passBits bits saw after call frameReplyBy unlessFramed shownBy stops badSide goodStation normalChain
+    recordBits passBits bits saw after call frameReplyBy unless shownBy stops badSide goodStation normalChain
     normalPass settled persists depth turnBy overBy wash
 marked =
     record {

@@ -3,12 +3,13 @@ ghost use mathlib.Core.Path.{_≡_};
 ghost use Prim.Native.Nat.{_≤_, _*_};
 ghost use lib.ListN.{take};
 ghost use Rattle.chain.specs.Chain.{depthOf, depth as depthIn};
-ghost use Rattle.chain.specs.Calls.{badSide, stops as stopsBy, lacks as lacksAt};
+ghost use Rattle.chain.specs.Calls.{stops as stopsBy, lacks as lacksAt};
 use super::check::is_good;
 use super::station::Pass;
 use super::station::Record;
 use super::station::Station;
 use super::station::holds;
+use num::size::bad_side;
 
 // How many older frames a pass keeps.
 pub(crate) fn depth_of(pass: Pass) -> usize
@@ -34,15 +35,6 @@ pub(crate) fn depth(records: [Record; 10], n: usize) -> usize
         i += 1;
     }
     sum
-}
-
-pub(crate) fn bad_side(x: usize) -> bool
-    ensures { λ r. ⌜ r ≡ badSide x ⌝ }
-{
-    if x == 0 {
-        return true;
-    }
-    1024 < x
 }
 
 // Of a frame, by the lengths of what is lent.

@@ -87,6 +87,16 @@ pub fn file(path: &[u8], out: &mut [u8]) -> Loaded
     loaded
 }
 
+// The file that argument i names.
+pub fn named(i: usize, out: &mut [u8]) -> Loaded
+    ensures { λ r. ⌜ Counts (r .length) (now (out .exit)) ⌝ }
+{
+    let mut name = io::buffer();
+    let given = argument(i, &mut name);
+    let n = given.length;
+    file(&name[..n], out)
+}
+
 // A card: the bytes of an argument that is hexadecimal, else those of the file that it names. No card has as many bytes as the buffer: one that has more is
 // refused by its first ones already.
 fn card_of(name: &[u8], out: &mut [u8; 4096]) -> Loaded

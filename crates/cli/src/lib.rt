@@ -1,3 +1,6 @@
-// What the programs `card` and `filter` share: arguments and files, a card that an argument gives, and a refusal in words.
+// What the programs `card`, `filter` and `totals` share: arguments and files, a card that an argument gives, the buffers of a frame's file, and refusals in
+// words.
 pub mod input; // arguments, files, cards
+pub mod memory; // the buffers that a frame's file is read into
+pub mod says; // lines behind an argument, words on standard error
 pub mod words; // refusals in words

@@ -1,4 +1,4 @@
-// Refusals in words.
+// Refusals in words, and why a file is no frame.
 use chain::reader;
 
 // The trade's word of document 01's table.
@@ -25,4 +25,27 @@ pub fn refused(fd: i32, card: &[u8], number: u8) {
     io::write_all(fd, b"; reading stopped at bit ");
     io::print_decimal(fd, reader::stopped(card) as u64);
     io::write_all(fd, b"\n");
+}
+
+// A file that is no frame of 61,440 pixels, by the numbers of raster::ppm, and 10 of frames::fault.
+pub fn no_frame(fd: i32, number: u8) {
+    match number {
+        1 => io::write_all(fd, b"empty file\n"),
+        2 => io::write_all(fd, b"not a binary PPM: it does not begin with P6\n"),
+        3 => io::write_all(fd, b"cut off in its header\n"),
+        4 => io::write_all(
+            fd,
+            b"bad header: it is P6, width, height, 255 and one white byte\n",
+        ),
+        5 => io::write_all(fd, b"a maximum other than 255\n"),
+        6 => io::write_all(fd, b"a width or height of 0\n"),
+        7 => io::write_all(
+            fd,
+            b"too large: more than 61440 pixels (256 by 240), or a side above 1024\n",
+        ),
+        8 => io::write_all(fd, b"cut off: fewer pixels than its header says\n"),
+        9 => io::write_all(fd, b"bytes left over after the last pixel\n"),
+        _ => io::write_all(fd, b"more bytes than a frame of 61440 pixels has\n"),
+    }
+    ;
 }

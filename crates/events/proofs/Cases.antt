@@ -7,11 +7,12 @@ use native.Mathlib.Omega.{arith}
 use borrow.Author.Tests.{eq-eqb, ne-eqb, ltb-false}
 use lib.Dec.{eqb, ltb}
 use lib.ListN.{length}
+use Rattle.num.specs.Refusals.{unless}
 use Rattle.chain.specs.Calls.{Reply, resetReply, switchReply, stepReply}
 use Rattle.chain.specs.declared.station.Station.{Station}
 use Rattle.events.specs.Buffers.{Printed}
 use Rattle.events.specs.Events.{letterIn, kindIn, positionIn, switchFault, eventFault, Whole}
-use Rattle.events.specs.Play.{outcome, refusalLine, spoken, answered, framePlayed, called, unlessFault, playedOf}
+use Rattle.events.specs.Play.{outcome, refusalLine, spoken, answered, framePlayed, called, ending, playedOf}
 use Rattle.events.specs.Promises.{Says, Gives}
 use Rattle.events.specs.Text.{F, L, R, S}
 use Rattle.events.specs.declared.play.Played.{Played}
@@ -41,8 +42,8 @@ module _ (bytes : List ℕ) (s : Station) (words past : List ℕ) where
       rw (eq-eqb (length bytes) 0 e)
       (record { words = refl; past = refl; says = record { station = refl; goes-on = refl; prints = record { size = refl; front = refl } } })
 
-  stops : (k : ℕ) → (k ≡ 0 → ⊥) → unlessFault k s words past (called bytes s words past) ≡ outcome s words past (refusalLine k) false
-  unfolding unlessFault
+  stops : (k : ℕ) → (k ≡ 0 → ⊥) → unless k (ending s words past) (called bytes s words past) ≡ outcome s words past (refusalLine k) false
+  unfolding unless
   stops zero h = absurd (h refl)
   stops (suc k) h = refl
 
@@ -56,7 +57,7 @@ module _ (bytes : List ℕ) (s : Station) (words past : List ℕ) where
 
   module _ (some : length bytes ≡ 0 → ⊥) (none : eventFault bytes ≡ 0) where
     good : playedOf bytes s words past ≡ called bytes s words past
-    unfolding playedOf unlessFault
+    unfolding playedOf unless
     good = rw (ne-eqb (length bytes) 0 some, none)
 
     -- each letter

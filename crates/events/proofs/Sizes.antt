@@ -8,6 +8,7 @@ use native.Mathlib.Omega.{arith}
 use borrow.Author.Tests.{ltb-false}
 use lib.Dec.{eqb, ltb}
 use lib.ListN.{length}
+use Rattle.num.specs.Refusals.{neither}
 use Rattle.raster.specs.Pixels.{byteAt}
 use Rattle.events.specs.Events.{headWanted, widthIn, heightIn, countIn, outside, badSize, frameFault, Whole}
 
@@ -19,11 +20,6 @@ some-wanted bytes = go (eqb (length bytes) 0)
     go : (b : Bool) → 1 ≤ cond b 1 (1 + byteAt bytes 0)
     go true = omega arith
     go false = omega arith
-
--- neither of two, from none
-neither : (a b : Bool) → (a || b) ≡ false → (a ≡ false) × (b ≡ false)
-neither true b e = absurd (let z : _≡_ {A = ℕ} 0 1 = cc in omega arith)
-neither false b e = (cc, e)
 
 inside : (side : ℕ) → outside side ≡ false → side ≤ 32
 unfolding outside

@@ -9,11 +9,12 @@ use borrow.Author.Tests.{ne-eqb, eqb-true, eqb-false, le-ltb, ltb-true, ltb-fals
 use lib.Dec.{eqb, ltb}
 use lib.ListN.{length, take, drop}
 use lib.Seq.{getD-take, take-all, take-take, take-nil, drop-nil}
+use Rattle.num.specs.Refusals.{unless}
 use Rattle.chain.specs.Calls.{switchReply}
 use Rattle.chain.specs.declared.station.Station.{Station}
 use Rattle.raster.specs.Pixels.{byteAt, pixelAt, unpacked}
 use Rattle.events.specs.Events.{headWanted, cardIn, letterIn, countIn, badSize, kindIn, positionIn, frameWanted, eventWanted, frameFault, switchFault, eventFault}
-use Rattle.events.specs.Play.{Outcome, answered, framePlayed, called, unlessFault, playedOf}
+use Rattle.events.specs.Play.{Outcome, answered, framePlayed, called, ending, playedOf}
 use Rattle.events.specs.Program.{eventBytes, headBytes}
 use Rattle.events.specs.Reading.{Unlooked}
 use Rattle.events.specs.Text.{F, S}
@@ -57,8 +58,9 @@ card-unlooked input = go (ltb (headWanted input) (length input)) refl
 
 -- ## An event
 
-unless-same : (k : ℕ) (s : Station) (words past : List ℕ) (o q : Outcome) → (k ≡ 0 → o ≡ q) → unlessFault k s words past o ≡ unlessFault k s words past q
-unfolding unlessFault
+unless-same : (k : ℕ) (s : Station) (words past : List ℕ) (o q : Outcome) → (k ≡ 0 → o ≡ q)
+    → unless k (ending s words past) o ≡ unless k (ending s words past) q
+unfolding unless
 unless-same zero s words past o q h = h refl
 unless-same (suc k) s words past o q h = refl
 

@@ -4,6 +4,7 @@ use mathlib.Core.Bool.{Bool, true, false, cond}
 use mathlib.Core.List.{List, [], _++_}
 use lib.Dec.{eqb}
 use lib.ListN.{length, drop}
+use Rattle.num.specs.Refusals.{unless}
 use Rattle.chain.specs.Calls.{Report, refusal, acceptance, Reply, Framed, resetReply, switchReply, stepReply, frameReply}
 use Rattle.chain.specs.declared.station.Answer.{Answer}
 use Rattle.chain.specs.declared.station.Answer.the-variants.{Accepted, Refused}
@@ -76,13 +77,12 @@ called bytes s words past =
     (cond (eqb (letterIn bytes) S) (answered S (switchReply (kindIn bytes) (eqb (positionIn bytes) 1) s) words past)
     (answered L (stepReply s) words past)))
 
--- fault k ends the reading; 0 is none
-unfoldable pub unlessFault : ℕ → Station → (words past : List ℕ) → Outcome → Outcome
-unlessFault zero s words past o = o
-unlessFault (suc k) s words past o = outcome s words past (refusalLine (suc k)) false
+-- fault k ends the reading
+abbrev pub ending : Station → (words past : List ℕ) → ℕ → Outcome
+ending s words past k = outcome s words past (refusalLine k) false
 
 -- the bytes are all that the input had of the event: none where it has ended
 unfoldable pub playedOf : List ℕ → Station → (words past : List ℕ) → Outcome
 playedOf bytes s words past =
     cond (eqb (length bytes) 0) (outcome s words past [] false)
-    (unlessFault (eventFault bytes) s words past (called bytes s words past))
+    (unless (eventFault bytes) (ending s words past) (called bytes s words past))

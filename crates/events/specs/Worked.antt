@@ -3,6 +3,7 @@ use Prim.Native.Nat.{ℕ}
 use mathlib.Core.List.{List, [], _∷_}
 use mathlib.Core.Path.{_≡_, refl}
 use lib.Ieee.{ofBits, ofInt, sub, mul, div, lt}
+use Rattle.num.specs.Refusals.{badSide, unless}
 use Rattle.num.specs.F32.{dec}
 use Rattle.passes.specs as Text
 use Rattle.passes.specs.Fold.{fold}
@@ -10,7 +11,7 @@ use Rattle.num.specs.Rewrite.{rewrite}
 use Rattle.num.specs.Steps.{cutOf, plusZeroOf, limitOf}
 use Rattle.passes.specs.Flow.{sameHeld, fineHeld}
 use Rattle.chain.specs.Bits.{valueAt, fieldAt}
-use Rattle.chain.specs.Calls.{badSide, stops, lacks, unless, unlessFramed, shownBy, frameReplyBy}
+use Rattle.chain.specs.Calls.{stops, lacks, shownBy, frameReplyBy}
 use Rattle.chain.specs.Card.{headerAt, recordsAt, endsAt, endAt, stationAt, openOf}
 use Rattle.chain.specs.Chain.{wash, overBy, turnBy, depth}
 use Rattle.chain.specs.Normal.{settled, normalPass, normalChain, persists, goodStation}
@@ -20,7 +21,7 @@ use Rattle.chain.specs.Settings.{finiteAt, limitedAt}
 use Rattle.chain.specs.Step.{refuseIf}
 use Rattle.raster.specs.Pixels.{unpacked}
 use Rattle.events.specs.Events.{headWanted, cardIn, outside, frameWanted, eventWanted, frameFault, eventFault}
-use Rattle.events.specs.Play.{called, unlessFault, playedOf}
+use Rattle.events.specs.Play.{called, playedOf}
 use Rattle.events.specs.Program.{eventLines, printed}
 use Rattle.events.specs.Text.{F, R, E, space, newline, decimal, pixelsOf}
 
@@ -37,8 +38,8 @@ lines =
 pub worked : printed input ≡ lines
 unfolding dec ofBits ofInt sub mul div lt cutOf plusZeroOf limitOf rewrite fold sameHeld fineHeld Text.Pixel.unpack
     Text.Pixel.pack Text.Pixel.dim Text.Scanlines.scanlines Text.Scanlines.inRow openOf stationAt headerAt fieldAt
-    valueAt refuseIf recordsAt endAt endsAt recordAt passAt scanlinesAt finiteAt limitedAt frameReplyBy unlessFramed shownBy
-    stops lacks unless badSide goodStation normalChain normalPass settled persists depth turnBy overBy wash headWanted
-    cardIn outside frameWanted eventWanted frameFault eventFault unpacked called unlessFault playedOf eventLines printed
+    valueAt refuseIf recordsAt endAt endsAt recordAt passAt scanlinesAt finiteAt limitedAt frameReplyBy unless shownBy
+    stops lacks badSide goodStation normalChain normalPass settled persists depth turnBy overBy wash headWanted
+    cardIn outside frameWanted eventWanted frameFault eventFault unpacked called playedOf eventLines printed
     decimal pixelsOf
 worked = refl

@@ -3,25 +3,14 @@ ghost use Rattle.io.specs.Counts.{Counts};
 use crate::says;
 use chain::station::Station;
 use cli::input;
-use cli::input::Loaded;
 use frames::Outcome;
 use libc::STDOUT_FILENO;
-
-// The file that argument i names.
-fn load(i: usize, file: &mut [u8]) -> Loaded
-    ensures { λ r. ⌜ Counts (r .length) (now (file .exit)) ⌝ }
-{
-    let mut name = io::buffer();
-    let given = input::argument(i, &mut name);
-    let n = given.length;
-    input::file(&name[..n], file)
-}
 
 // How many bytes the frame that argument i names has, at the start of the buffer; 0 where it cannot be taken, and then it is said why.
 pub fn taken(i: usize, file: &mut [u8]) -> usize
     ensures { λ r. ⌜ Counts r (now (file .exit)) ⌝ }
 {
-    let loaded = load(i, file);
+    let loaded = input::named(i, file);
     if !loaded.ok {
         return 0;
     }
@@ -92,7 +81,7 @@ pub fn play(
     floats: &mut [f32; 368640],
     ints: &mut [u32; 61440],
 ) -> Turn {
-    let loaded = load(i, file);
+    let loaded = input::named(i, file);
     if !loaded.ok {
         return Turn {
             station,

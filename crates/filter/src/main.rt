@@ -32,7 +32,7 @@ fn all_taken(count: usize, file: &mut [u8]) -> bool {
 
 // Shows the frames in a row, as long as they can be read and written.
 fn show_all(station: Station, count: usize, file: &mut [u8]) {
-    let mut words = memory::words();
+    let mut words = cli::memory::words();
     let mut history = memory::history();
     let mut floats = memory::floats();
     let mut ints = memory::ints();
@@ -57,7 +57,7 @@ fn show_all(station: Station, count: usize, file: &mut [u8]) {
 
 // A single frame, in these bytes.
 fn show_one(station: Station, file: &mut [u8]) {
-    let mut words = memory::words();
+    let mut words = cli::memory::words();
     let mut history = memory::history();
     let mut floats = memory::floats();
     let mut ints = memory::ints();
@@ -74,7 +74,7 @@ fn show_one(station: Station, file: &mut [u8]) {
 
 // A single frame is read once, so it may come from a pipe. Several are read twice: all are looked at before the first picture is written.
 fn run(station: Station, count: usize) {
-    let mut file = memory::file();
+    let mut file = cli::memory::file();
     if count == 3 {
         let n = files::taken(2, &mut file);
         if 0 < n {

@@ -1,20 +1,7 @@
-// The buffers that are lent: for a frame of 256 by 240 pixels and a history of eight such frames, some four megabytes of stack. A long array is made by a
-// function, so that a proof sees its length alone.
+// The buffers that are lent to a frame of 256 by 240 pixels besides its words: a history of eight such frames, and scratch. With the file and the words some
+// four megabytes of stack.
 ghost use mathlib.Core.Path.{_≡_};
 ghost use lib.ListN.{length};
-
-// 61,440 pixels of three bytes, and 4,096 for the header.
-pub fn file() -> [u8; 188416]
-    ensures { λ r. ⌜ 188416 ≡ length r ⌝ }
-{
-    [0; 188416]
-}
-
-pub fn words() -> [u32; 61440]
-    ensures { λ r. ⌜ 61440 ≡ length r ⌝ }
-{
-    [0; 61440]
-}
 
 pub fn history() -> [u32; 491520]
     ensures { λ r. ⌜ 491520 ≡ length r ⌝ }

@@ -20,7 +20,7 @@ use Rattle.frames.specs.declared.Outcome.{Outcome}
 use Rattle.frames.specs.declared.Outcome.the-variants.{NoFrame}
 use Rattle.frames.specs.declared.Filtered.{Filtered}
 
-drop-all : (k : ℕ) (xs : List ℕ) → length xs ≤ k → drop k xs ≡ []
+pub drop-all : (k : ℕ) (xs : List ℕ) → length xs ≤ k → drop k xs ≡ []
 drop-all zero [] l = refl
 drop-all zero (x ∷ xs) l = absurd (omega arith)
 drop-all (suc k) [] l = refl
@@ -80,6 +80,17 @@ module _ (s : Station) (file words past : List ℕ) (floats ints : ℕ) where
 -- the count of a frame that is taken
 pub few : (most : ℕ) (file : List ℕ) (w h start : ℕ) → Whole most file w h start → h * w ≤ 1048576
 few most file w h start t = mul-le-mul (t .small-height) (t .small-width)
+
+-- what is lent to a frame that is taken: of the framebuffer its words, of the file all that follows the header
+module _ (words file : List ℕ) {w h start : ℕ} (t : Whole (length words) file w h start) where
+  pub lent : length (take (h * w) words) ≡ h * w
+  lent = length-take-le (h * w) words (t .few)
+
+  pub pixels : take (length file - start) (drop start file) ≡ drop start file
+  pixels = take-all (length file - start) (drop start file) (simp length-drop (omega arith))
+
+  pub pixels-room : length (take (length file - start) (drop start file)) ≡ 3 * (h * w)
+  pixels-room = ap length pixels ∙ simp length-drop (omega (arith, t .ends))
 
 -- ## Fault: k was told of the first bytes, which is the definition's n
 

@@ -1,3 +1,7 @@
--- A file of binary PPM under a station: Frames; what is proved of it: Claims.
+-- A file of binary PPM under a station: Frames; what is proved of it: Claims. Rectangles in words: Area; worked cases: Cases. The totals of a file's frame in
+-- them: Judge.
 pub mod Frames
 pub mod Claims
+pub mod Area
+pub mod Cases
+pub mod Judge

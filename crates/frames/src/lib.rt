@@ -7,6 +7,10 @@ ghost use Rattle.raster.specs.Ppm.{parseOf};
 ghost use Rattle.chain.specs.Answers.{reported};
 ghost use Rattle.chain.specs.Calls.{frameReply};
 ghost use Rattle.frames.specs.Frames.{Room, Shows, Filters, filteredOf, outcomeOf, numberOf, faultOf};
+
+pub mod area; // a rectangle in words
+pub mod judge; // the totals of rectangles of the frame that a file holds
+
 use chain::pipeline;
 use chain::station::Answer;
 use chain::station::Station;
@@ -64,7 +68,7 @@ fn show(
 }
 
 // The number of a refusal.
-fn number(r: Parsed) -> u8
+pub(crate) fn number(r: Parsed) -> u8
     ensures { λ k. ⌜ k ≡ numberOf r ⌝ }
 {
     match r {

@@ -51,7 +51,7 @@ fn ends_line(b: u8) -> bool
     b == b'\r'
 }
 
-fn is_digit(b: u8) -> bool
+pub fn is_digit(b: u8) -> bool
     ensures { λ r. ⌜ r ≡ isDigit b ⌝ }
 {
     if b < b'0' {

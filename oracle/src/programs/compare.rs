@@ -1,4 +1,4 @@
-//! The programs `card` and `filter`, compared on many cards, pairs of cards and runs of files.
+//! The programs `card`, `filter` and `totals`, compared on many cards, pairs of cards and runs of files.
 
 use std::io;
 use std::sync::atomic::{AtomicUsize, Ordering};
@@ -20,6 +20,8 @@ pub fn run(mode: Mode, total: &mut Total) -> Result<(), String> {
     each_pair(mode, total)?;
     #[cfg(with_original)]
     files::run(mode, total)?;
+    #[cfg(with_original)]
+    each_total(mode, total)?;
     Ok(())
 }
 
@@ -71,6 +73,31 @@ fn each_pair(mode: Mode, total: &mut Total) -> Result<(), String> {
         ProgramTally::join,
         compare,
     )?;
+    total.add_programs(&tally);
+    total.unmet += met.report();
+    Ok(())
+}
+
+#[cfg(with_original)]
+fn each_total(mode: Mode, total: &mut Total) -> Result<(), String> {
+    use super::totals::{self, OfTotals};
+
+    println!("Program `totals`, with sums of each area by itself");
+    let new = || ProgramTally::of("totals", "runs");
+    let compare = |seed, at, folder: &Folder, tally: &mut ProgramTally, met: &mut Met<OfTotals>| {
+        let run = totals::run(seed);
+        let asked = totals::said(&run, met);
+        let stored = run.pictures.iter().filter_map(|file| {
+            let bytes = file.bytes.as_deref().ok()?;
+            Some((file.name.as_str(), bytes))
+        });
+        let files: Vec<_> = stored.collect();
+        let here = folder.run("totals", &run.arguments(), &files)?;
+        let what = || format!("seed {seed:#018x}, {:?}", run.arguments());
+        tally.check(at, &[], &text(&here), &text(&asked), what);
+        Ok(())
+    };
+    let (tally, met) = share("totals", times(mode, 600), new, ProgramTally::join, compare)?;
     total.add_programs(&tally);
     total.unmet += met.report();
     Ok(())

@@ -93,7 +93,7 @@ const LARGEST: [(usize, usize); 8] = [
     (1, 1024),
 ];
 
-fn any_size(random: &mut Random) -> (usize, usize) {
+pub(super) fn any_size(random: &mut Random) -> (usize, usize) {
     let side = |most: usize, random: &mut Random| random.within(1, most);
     match random.below(32) {
         0 => random.choose(&LARGEST),
@@ -115,7 +115,7 @@ fn next_size(last: (usize, usize), random: &mut Random) -> (usize, usize) {
 }
 
 /// A good file.
-fn frame((width, height): (usize, usize), random: &mut Random) -> Vec<u8> {
+pub(super) fn frame((width, height): (usize, usize), random: &mut Random) -> Vec<u8> {
     let mut file = header(width, height, random);
     pixels(width, height, &mut file, random);
     file
@@ -235,7 +235,7 @@ const MAXIMA: [&str; 11] = [
 ];
 
 /// A file that is refused in most cases, for this place of a run.
-fn damage(place: usize, random: &mut Random) -> File {
+pub(super) fn damage(place: usize, random: &mut Random) -> File {
     let (name, bytes) = match random.below(24) {
         0 => (format!("no-such{place}.ppm"), MISSING),
         1 => (".".to_string(), FOLDER),

@@ -1,5 +1,5 @@
-//! The programs `card` and `filter`, run as processes: `card` beside a text that is made from a reading of document
-//! 01, `filter` beside the original's pipeline.
+//! The programs `card`, `filter` and `totals`, run as processes: `card` beside a text that is made from a reading of document
+//! 01, `filter` beside the original's pipeline, `totals` beside sums of each area by itself.
 
 mod card;
 mod cards;
@@ -12,3 +12,5 @@ mod filter;
 #[cfg(with_original)]
 mod ppm;
 mod process;
+#[cfg(with_original)]
+mod totals;

@@ -2,13 +2,12 @@
 use borrow.Author.Needs.{needs}
 use Prim.Native.Nat.{ℕ, _-_, _*_, _≤_}
 use mathlib.Core.List.{List}
-use mathlib.Core.Path.{_≡_, sym, subst, _∙_}
+use mathlib.Core.Path.{_≡_, sym, _∙_}
 use native.Mathlib.Omega.{arith}
-use lib.ListN.{length, take, drop, length-drop}
-use lib.Seq.{length-take-le, take-all}
+use lib.ListN.{length, drop}
 use Rattle.raster.specs.Claims.{Whole}
 use Rattle.raster.proofs.Taken.{taken-whole}
-use Rattle.frames.proofs.Parts.{no-frame, shown-in, few}
+use Rattle.frames.proofs.Parts.{no-frame, shown-in, few, lent, pixels, pixels-room}
 use Rattle.frames.proofs.filter.Statement.{statement}
 use Rattle.frames.proofs.filter.Tie as tie
 
@@ -29,16 +28,6 @@ module _ (c : tie.After-known-told) where
   whole : Whole (length (start .args .words .now)) (start .args .file .now) width height from
   whole = taken-whole _ _ _ _ _ (sym (c .before .before .before .parse .ensures) ∙ c .before .r .given .1)
 
-  lent : length (take (height * width) (start .args .words .now)) ≡ height * width
-  lent = length-take-le _ (start .args .words .now) (whole .few)
-
-  -- what is lent of the file is all that follows the header
-  pixels : take (length (start .args .file .now) - from) (drop from (start .args .file .now)) ≡ drop from (start .args .file .now)
-  pixels = take-all (length (start .args .file .now) - from) (drop from (start .args .file .now)) (simp length-drop (omega arith))
-
-  pixels-room : length (drop from (start .args .file .now)) ≡ 3 * (height * width)
-  pixels-room = simp length-drop (omega (arith, whole .ends))
-
 returns : tie.Need-returns
 returns c =
     let p = c .before .before .before in
@@ -47,17 +36,17 @@ returns c =
 show-requires : tie.Need-show-requires
 show-requires c κs =
     let t = c .before .before .before .before .before in
-    record { words-room = lent t; pixels-room = subst (λ (xs : List ℕ). length xs ≡ 3 * (height t * width t)) (sym (pixels t)) (pixels-room t) }
+    record { words-room = lent (start t .args .words .now) _ (whole t); pixels-room = pixels-room (start t .args .words .now) _ (whole t) }
 
 returns-2 : tie.Need-returns-2
 returns-2 c =
     let g = c .before .before .before .before .before .before .before .before .before .before in
     let t = g .before .before .before .before .before .before in
-    shown-in _ _ _ _ _ _ _ _ _ _ _ _ _ _ _ (t .before .before .before .parse .ensures) (t .before .r .given .1) (pixels t) (g .show .ensures)
+    shown-in _ _ _ _ _ _ _ _ _ _ _ _ _ _ _ (t .before .before .before .parse .ensures) (t .before .r .given .1) (pixels (start t .args .words .now) _ (whole t)) (g .show .ensures)
 
 pub filter-spec : {M : Type 1} → statement M
 filter-spec =
     tie.close
     (tie.spec (λ c κs. tt) (λ c. search needs) (λ c. search needs) (λ c κs. tt) (λ c. search needs) returns (λ c. omega (arith, few _ _ _ _ _ (whole c))) (λ c. omega (arith, whole c .ends))
-    (λ c. omega (arith, whole c .ends)) (λ c. search needs) (λ c. omega (arith, whole (c .before) .few)) (λ c. sym (lent (c .before .before))) show-requires
+    (λ c. omega (arith, whole c .ends)) (λ c. search needs) (λ c. omega (arith, whole (c .before) .few)) (λ c. sym (lent (start (c .before .before) .args .words .now) _ (whole (c .before .before)))) show-requires
     (λ c. search needs) (λ c. search needs) (λ c. search needs) (λ c. search needs) (λ c. search needs) returns-2)

@@ -4,8 +4,9 @@ use mathlib.Core.Path.{_≡_, refl, sym, _∙_}
 use lib.ListN.{length}
 use lib.Seq.{length-take-le, drop-at}
 use borrow.Author.Needs.{needs}
+use Rattle.num.specs.Refusals.{area-fine}
 use Rattle.chain.proofs.Depths.{readies}
-use Rattle.chain.proofs.Goes.{Goes, goes, area-fine, refused-frame, shown-frame}
+use Rattle.chain.proofs.Goes.{Goes, goes, refused-frame, shown-frame}
 use Rattle.chain.proofs.Replies.{unmapped}
 use Rattle.chain.proofs.pipeline.apply.Statement.{statement}
 use Rattle.chain.proofs.pipeline.apply.Tie as tie

@@ -4,10 +4,11 @@ use native.Mathlib.Omega.{arith}
 use mathlib.Core.Path.{_≡_, sym, ap, _∙_}
 use borrow.Author.Needs.{needs}
 use lib.ListN.{length, getD}
+use Rattle.num.specs.Refusals.{refuses}
 use Rattle.chain.specs.Calls.{lacks}
 use Rattle.chain.specs.Passes.{kindOf}
 use Rattle.chain.proofs.PassCases.{stepped-kind}
-use Rattle.chain.proofs.Replies.{refuses, present, unmapped, cycles}
+use Rattle.chain.proofs.Replies.{present, unmapped, cycles}
 use Rattle.chain.proofs.Scans.{past}
 use Rattle.chain.proofs.pipeline.cycle_lut.Statement.{statement}
 use Rattle.chain.proofs.pipeline.cycle_lut.Tie as tie
@@ -19,7 +20,7 @@ none : (c : tie.Else1) → lacks (c .before .before .args .station) 5 ≡ 0
 none c = sym (c .before .lacks .ensures) ∙ c .if1 .left
 
 returns : tie.Need-returns
-returns c = refuses _ _ _ _ (c .if1 .taken) (c .before .lacks .ensures)
+returns c = refuses _ _ _ (c .before .lacks .ensures) (c .if1 .taken)
 
 place-requires : tie.Need-place-requires
 place-requires c κs = let p = present _ _ (none (c .before)) in (p .0 .few, p .1)

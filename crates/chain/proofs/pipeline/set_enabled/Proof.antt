@@ -4,8 +4,9 @@ use native.Mathlib.Omega.{arith}
 use mathlib.Core.Path.{_≡_, sym, _∙_}
 use borrow.Author.Needs.{needs}
 use lib.ListN.{length}
+use Rattle.num.specs.Refusals.{refuses}
 use Rattle.chain.specs.Calls.{lacks}
-use Rattle.chain.proofs.Replies.{refuses, present, unmapped, switches}
+use Rattle.chain.proofs.Replies.{present, unmapped, switches}
 use Rattle.chain.proofs.pipeline.set_enabled.Statement.{statement}
 use Rattle.chain.proofs.pipeline.set_enabled.Tie as tie
 
@@ -16,7 +17,7 @@ none : (c : tie.Else1) → let a = c .before .before .args in lacks (a .station)
 none c = sym (c .before .lacks .ensures) ∙ c .if1 .left
 
 returns : tie.Need-returns
-returns c = refuses _ _ _ _ (c .if1 .taken) (c .before .lacks .ensures)
+returns c = refuses _ _ _ (c .before .lacks .ensures) (c .if1 .taken)
 
 place-requires : tie.Need-place-requires
 place-requires c κs = let p = present _ _ (none (c .before .before)) in (p .0 .few, p .1)

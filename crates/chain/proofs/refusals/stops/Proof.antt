@@ -6,10 +6,10 @@ use mathlib.Core.Path.{_≡_, sym, subst, _∙_}
 use mathlib.Core.Bool.{Bool, true, false}
 use borrow.Author.Tests.{lt-ltb, le-ltb, not-true, not-false}
 use lib.Dec.{ltb}
-use Rattle.chain.specs.Calls.{badSide, stops}
+use Rattle.num.specs.Refusals.{badSide, side-fine, area-fine}
+use Rattle.chain.specs.Calls.{stops}
 use Rattle.chain.specs.Normal.{goodStation}
 use Rattle.chain.proofs.Good.{good}
-use Rattle.chain.proofs.Goes.{side-fine, area-fine}
 use Rattle.chain.proofs.refusals.stops.Statement.{statement}
 use Rattle.chain.proofs.refusals.stops.Tie as tie
 

@@ -1,8 +1,8 @@
--- `chain::refusals::bad_side` meets its contract. Assumes nothing.
+-- `num::size::bad_side` meets its contract. Assumes nothing.
 use borrow.Author.Tests.{eq-eqb, ne-eqb}
-use Rattle.chain.specs.Calls.{badSide}
-use Rattle.chain.proofs.refusals.bad_side.Statement.{statement}
-use Rattle.chain.proofs.refusals.bad_side.Tie as tie
+use Rattle.num.specs.Refusals.{badSide}
+use Rattle.num.proofs.size.bad_side.Statement.{statement}
+use Rattle.num.proofs.size.bad_side.Tie as tie
 
 returns : tie.Need-returns
 unfolding badSide
