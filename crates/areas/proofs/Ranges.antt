@@ -1,5 +1,4 @@
--- Sums over the numbers from p up to q, and the part of a range that another range adds: so rows are added band by band, and columns run by run.
--- Assumes nothing.
+-- Sums over the numbers from p up to q, and the part of a range that another range adds: so rows are added band by band. Assumes nothing.
 use Prim.Native.Nat.{ℕ, _+_, _-_, _≤_, _<_, min, max}
 use mathlib.Core.Path.{_≡_, sym, ap, ap₂, _∙_}
 use native.Mathlib.Decide.{decLt}
