@@ -1,8 +1,8 @@
 -- The walk, band after band: the totals and the words of the rows before y. The rows of a band have the same rectangles, so what holds of its first row
 -- holds of each. Assumes nothing.
 use Prim.Native.Nat.{ℕ, _+_, _*_, _-_, _/_, _%_, _≤_, _<_, min, max}
-use mathlib.Core.Path.{_≡_, refl, sym, ap, ap₂, subst, _∙_}
-use mathlib.Core.Bool.{Bool, true, false, _&&_, cond}
+use mathlib.Core.Path.{_≡_, refl, sym, ap, ap₂, _∙_}
+use mathlib.Core.Bool.{Bool, _&&_, cond}
 use mathlib.Core.List.{List}
 use native.Mathlib.Nat.{mul-le-mul-right}
 use native.Mathlib.Decide.{decLt}
@@ -11,14 +11,15 @@ use borrow.Author.Tests.{le-leb, lt-leb, lt-ltb, le-ltb}
 use lib.Dec.{leb, ltb}
 use lib.ListN.{length, getD}
 use Rattle.num.specs.Rewrite.{rewrite, rewrite-ext, rewrite-twice, length-rewrite, getD-rewrite}
-use Rattle.areas.specs.Areas.{sum, some, count, areaAt, holds, held, channel, total, words as wordsOf, totalsOf}
-use Rattle.areas.specs.Private.{inRow, Edge, Edges, rowTotal, rowWords, bandPart, Ready, Banded, Framed}
+use Rattle.areas.specs.Areas.{sum, count, areaAt, holds, held, channel, total, words as wordsOf, totalsOf}
+use Rattle.areas.specs.Private.{inRow, Edge, Edges, Changed, over, rowTotal, rowWords, bandPart, Ready, Banded, Framed}
 use Rattle.areas.specs.declared.area.Area.{Area}
 use Rattle.areas.specs.declared.block.Band.{Band}
-use Rattle.areas.proofs.Ranges.{over, over-empty, over-step}
+use Rattle.areas.proofs.Ranges.{over-empty, over-step}
 use Rattle.areas.proofs.Runs.{one-most}
 use Rattle.areas.proofs.Search.{placed-in}
 use Rattle.areas.proofs.Spread.{channel-small}
+use Rattle.areas.proofs.Strips.{as-rewrite}
 use Rattle.areas.proofs.Sums.{sum-ext, sum-zero, sum-bound, sum-split, sum-const, some-ext}
 
 -- ## The rows of a band
@@ -117,13 +118,13 @@ pub record Walking (picture : List ℕ) (w h : ℕ) (areas xs : List ℕ) (y wor
   pub done : ys ≡ rewrite (3 * count areas) (λ i v. upTo picture w (i % 3) (areaAt areas (i / 3)) y) xs
 
 -- from words that are cleared: it begins, and it is as if they had not been
-module _ (picture : List ℕ) (w h : ℕ) (areas old : List ℕ) {xs : List ℕ} (e : xs ≡ rewrite (length areas / 4 * 3) (λ i v. 0) old) where
+module _ {picture : List ℕ} {w h : ℕ} {areas old : List ℕ} (f : Framed picture w h areas old) {xs : List ℕ} (e : Changed 0 (length areas / 4 * 3) (λ i v. 0) old xs) where
   cleared : xs ≡ rewrite (3 * count areas) (λ i v. 0) old
-  cleared = e ∙ ap (λ (n : ℕ). rewrite n (λ i v. 0) old) (omega arith)
+  cleared = as-rewrite e refl (omega (arith, f .room)) ∙ ap (λ (n : ℕ). rewrite n (λ i v. 0) old) (omega arith)
 
   -- a rewriting that looks at no word
-  over-cleared : (f : ℕ → ℕ) → rewrite (3 * count areas) (λ i v. f i) xs ≡ rewrite (3 * count areas) (λ i v. f i) old
-  over-cleared f = ap (rewrite (3 * count areas) (λ i v. f i)) cleared ∙ rewrite-twice (3 * count areas) (λ i v. 0) (λ i v. f i) old
+  over-cleared : (g : ℕ → ℕ) → rewrite (3 * count areas) (λ i v. g i) xs ≡ rewrite (3 * count areas) (λ i v. g i) old
+  over-cleared g = ap (rewrite (3 * count areas) (λ i v. g i)) cleared ∙ rewrite-twice (3 * count areas) (λ i v. 0) (λ i v. g i) old
 
   pub begun : Walking picture w h areas xs 0 0 xs
   begun = record {
@@ -134,13 +135,13 @@ module _ (picture : List ℕ) (w h : ℕ) (areas old : List ℕ) {xs : List ℕ}
         (λ i v l. sym (up-zero picture w (i % 3) (areaAt areas (i / 3))));
   }
 
-  pub framed : Framed picture w h areas old → Framed picture w h areas xs
-  framed f = record {
+  pub framed : Framed picture w h areas xs
+  framed = record {
     narrow = f .narrow;
     low = f .low;
     full = f .full;
     placed = f .placed;
-    room = omega (arith, f .room, ap length cleared, length-rewrite (3 * count areas) (λ i v. 0) old);
+    room = omega (arith, f .room, e .kept);
   }
 
   pub totals-cleared : totalsOf picture w areas xs ≡ totalsOf picture w areas old

@@ -1,10 +1,12 @@
 pub mod Sums
 pub mod Strips
 pub mod Spread
+pub mod Ranges
 pub mod Search
+pub mod Fine
+pub mod Marking
 pub mod Blocks
 pub mod Sharing
-pub mod Ranges
 pub mod Runs
+pub mod Parts
 pub mod Bands
-pub mod Fine

@@ -1,19 +1,19 @@
--- Sums over the numbers from p up to q, and the part of a range that another range adds: so rows are added band by band, and columns run by run.
--- Assumes nothing.
-use Prim.Native.Nat.{ℕ, _+_, _*_, _-_, _≤_, _<_, min, max}
+-- Sums over the numbers from p up to q, and the part of a range that another range adds: so rows are added band by band. Assumes nothing.
+use Prim.Native.Nat.{ℕ, _+_, _-_, _≤_, _<_, min, max}
 use mathlib.Core.Path.{_≡_, sym, ap, ap₂, _∙_}
 use native.Mathlib.Decide.{decLt}
 use native.Mathlib.Omega.{arith}
 use Rattle.areas.specs.Areas.{sum}
-use Rattle.areas.proofs.Sums.{sum-ext, sum-zero, sum-bound, sum-split}
-
--- F p + .. + F (q - 1)
-abbrev pub over : ℕ → ℕ → (ℕ → ℕ) → ℕ
-over p q F = sum (q - p) (λ t. F (p + t))
+use Rattle.areas.specs.Private.{over}
+use Rattle.areas.proofs.Sums.{sum-ext, sum-zero, sum-more, sum-split}
 
 module _ (F : ℕ → ℕ) where
   pub over-empty : (p q : ℕ) → q ≤ p → over p q F ≡ 0
   over-empty p q l = ap (λ (n : ℕ). sum n (λ t. F (p + t))) (omega arith) ∙ sum-zero (λ t. F (p + t))
+
+  pub over-more : (p q : ℕ) → p ≤ q → over p (q + 1) F ≡ over p q F + F q
+  over-more p q l =
+      ap (λ (n : ℕ). sum n (λ t. F (p + t))) (omega arith) ∙ sum-more (q - p) (λ t. F (p + t)) ∙ ap (λ (n : ℕ). over p q F + F n) (omega arith)
 
   pub over-join : (p q r : ℕ) → p ≤ q → q ≤ r → over p r F ≡ over p q F + over q r F
   over-join p q r l m =

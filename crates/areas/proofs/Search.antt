@@ -1,18 +1,19 @@
--- What the search over the rectangles finds: the next edge of a row, the first place that is held, how far all is held. Each law adds one rectangle to
--- those that were looked at. Assumes nothing.
+-- What the search over the rectangles finds: the next edge of a row, and the part of a row that has all held places. Each law adds one rectangle to those
+-- that were looked at. Assumes nothing.
 use Prim.Native.Nat.{ℕ, _+_, _≤_, _<_, min, max}
-use mathlib.Core.Path.{_≡_, refl, sym, ap, ap₂, _∙_}
-use mathlib.Core.Bool.{Bool, true, false, _&&_, _||_, or-true, and-false}
+use mathlib.Core.Path.{_≡_, refl, sym, ap, _∙_}
+use mathlib.Core.Bool.{Bool, true, false, and-false, cond}
 use mathlib.Core.List.{List}
 use native.Mathlib.Decide.{decLt}
 use native.Mathlib.Omega.{arith}
 use borrow.Author.Tests.{le-leb, lt-leb, lt-ltb, le-ltb}
-use lib.Dec.{leb, ltb}
+use lib.Dec.{ltb}
 use Rattle.num.specs.Refusals.{false-true}
-use Rattle.areas.specs.Areas.{some, count, areaAt, holds}
-use Rattle.areas.specs.Private.{Inside, Placed, inRow, Edge, Edges, First, Through}
+use Rattle.areas.specs.Areas.{count, areaAt, holds, held}
+use Rattle.areas.specs.Private.{Inside, Placed, inRow, Edge, Edges, partOf, Spans}
 use Rattle.areas.specs.declared.area.Area.{Area}
-use Rattle.areas.proofs.Sums.{some-more}
+use Rattle.areas.specs.declared.area.Part.{Part}
+use Rattle.areas.proofs.Sums.{one-of}
 
 -- a rectangle of the list, as it was read, is where that one is
 pub placed-at : {w h : ℕ} {areas : List ℕ} {a : Area} → Placed w h areas → (k : ℕ) → k < count areas → a ≡ areaAt areas k → Inside w h a
@@ -41,116 +42,81 @@ next-edge {areas} {n} {y} {h} {e} {f} {r} {a} t s g m =
         let last : n ≡ k = omega arith in
         rw (← last, ← s) (edge-sooner g past (omega arith))
 
--- ## The first that holds, and how far
-
-pub none-found : (p : ℕ → Bool) (x w : ℕ) → x ≤ w → ((z : ℕ) → p z ≡ false) → First p x w w
-none-found p x w l f = record { low = l; high = omega arith; free = λ z h m. f z; found = λ m. absurd (omega arith) }
-
-pub none-full : (p : ℕ → Bool) (x w : ℕ) → p x ≡ false → Through p x w x
-none-full p x w e = record { low = omega arith; high = omega arith; full = λ z l m. absurd (omega arith); past = λ h. false-true (sym e ∙ h) }
-
-pub through-wider : {p : ℕ → Bool} {x w v e : ℕ} → Through p x w e → w ≤ v → Through p x v e
-through-wider t l = record { low = t .low; high = omega (arith, t .high); full = t .full; past = t .past }
-
 -- ## The places of a rectangle
 
 module _ (a : Area) (y : ℕ) where
-  pub holds-in : (z : ℕ) → inRow a y ≡ true → a .left ≤ z → z < a .left + a .wide → holds z y a ≡ true
+  pub part-in : inRow a y ≡ true → partOf a y ≡ record { from = a .left; to = a .left + a .wide }
+  unfolding partOf
+  part-in e = simp e
+
+  pub part-out : inRow a y ≡ false → partOf a y ≡ record { from = 0; to = 0 }
+  unfolding partOf
+  part-out e = simp e
+
+  pub part-fits : {w h : ℕ} → Inside w h a → (partOf a y .from ≤ partOf a y .to) × (partOf a y .to ≤ w)
+  part-fits {w} i = go (inRow a y) refl
+    where
+      go : (b : Bool) → inRow a y ≡ b → (partOf a y .from ≤ partOf a y .to) × (partOf a y .to ≤ w)
+      go true e = rw (part-in e) (omega arith, i .across)
+      go false e = rw (part-out e) (omega arith, omega arith)
+
+  -- they are those that it holds
+  pub part-held : (z : ℕ) → partOf a y .from ≤ z → z < partOf a y .to → holds z y a ≡ true
   unfolding holds inRow
-  holds-in z e l m = simp (le-leb (a .left) z l, lt-ltb z (a .left + a .wide) m, e)
+  part-held z = go (inRow a y) refl
+    where
+      go : (b : Bool) → inRow a y ≡ b → partOf a y .from ≤ z → z < partOf a y .to → holds z y a ≡ true
+      go true e = rw (part-in e) (λ l m. simp (le-leb (a .left) z l, lt-ltb z (a .left + a .wide) m, e))
+      go false e = rw (part-out e) (λ l m. absurd (omega arith))
 
-  pub other-row : (z : ℕ) → inRow a y ≡ false → holds z y a ≡ false
+  pub held-part : (z : ℕ) → holds z y a ≡ true → (partOf a y .from ≤ z) × (z < partOf a y .to)
   unfolding holds inRow
-  other-row z e = ap (λ (b : Bool). (leb (a .left) z && ltb z (a .left + a .wide)) && b) e ∙ and-false (leb (a .left) z && ltb z (a .left + a .wide))
+  held-part z h = go (inRow a y) refl (decLt z (a .left)) (decLt z (a .left + a .wide))
+    where
+      go : (b : Bool) → inRow a y ≡ b → Dec (z < a .left) → Dec (z < a .left + a .wide) → (partOf a y .from ≤ z) × (z < partOf a y .to)
+      go true e (no l) (yes m) = rw (part-in e) (omega arith, m)
+      go true e (yes l) m = false-true (sym (simp (lt-leb (a .left) z l)) ∙ h)
+      go true e (no l) (no m) = false-true (sym (simp (le-ltb z (a .left + a .wide) (omega arith), and-false)) ∙ h)
+      go false e l m = false-true (sym (simp (e, and-false)) ∙ h)
 
-  before-it : (z : ℕ) → z < a .left → holds z y a ≡ false
-  unfolding holds
-  before-it z l = simp (lt-leb (a .left) z l)
+-- ## The part of a row that has all of them
 
-  after-it : (z : ℕ) → a .left + a .wide ≤ z → holds z y a ≡ false
-  unfolding holds
-  after-it z l = simp (le-ltb z (a .left + a .wide) l, and-false)
+-- those of the first n rectangles
+pub record Spanning (areas : List ℕ) (n y w from to : ℕ) : Type 0 where
+  pub low : from ≤ w
+  pub high : to ≤ w
+  pub each : (k z : ℕ) → k < n → holds z y (areaAt areas k) ≡ true → (from ≤ z) × (z < to)
 
-  -- where it begins from x on, and how far it goes from there
-  module _ {x s : ℕ} (e : inRow a y ≡ true) (m : s ≡ max (a .left) x) where
-    pub begins-at : {w : ℕ} → s < a .left + a .wide → a .left + a .wide ≤ w → First (λ z. holds z y a) x w s
-    begins-at l h = record {
-      low = omega arith;
-      high = omega arith;
-      free = λ z i j. before-it z (omega arith);
-      found = λ i. holds-in s e (omega arith) l;
-    }
+pub no-span : (areas : List ℕ) (y w : ℕ) → Spanning areas 0 y w w 0
+no-span areas y w = record { low = omega arith; high = omega arith; each = λ k z l. absurd (omega arith) }
 
-    pub begins-not : (w : ℕ) → a .left + a .wide ≤ s → x ≤ w → First (λ z. holds z y a) x w w
-    begins-not w l h = record {
-      low = h;
-      high = omega arith;
-      free = λ z i j. go z i (decLt z (a .left));
-      found = λ i. absurd (omega arith);
-    }
-      where
-        go : (z : ℕ) → x ≤ z → Dec (z < a .left) → holds z y a ≡ false
-        go z i (yes p) = before-it z p
-        go z i (no p) = after-it z (omega arith)
-
-  pub goes-before : (x : ℕ) → x < a .left → Through (λ z. holds z y a) x (a .left + a .wide) x
-  goes-before x l = none-full (λ z. holds z y a) x (a .left + a .wide) (before-it x l)
-
-  pub goes-to : {x r : ℕ} → inRow a y ≡ true → a .left ≤ x → r ≡ max x (a .left + a .wide) → Through (λ z. holds z y a) x (a .left + a .wide) r
-  goes-to {x} {r} e l m = record {
-    low = omega arith;
-    high = omega arith;
-    full = λ z i j. holds-in z e (omega arith) (omega arith);
-    past = λ h. go h (decLt x (a .left + a .wide));
+module _ {areas : List ℕ} {n y w from to : ℕ} (t : Spanning areas n y w from to) where
+  pub next-span : {a : Area} {p : Part} {b f g : ℕ} → a ≡ areaAt areas n → Inside w 1024 a → p ≡ partOf a y
+      → b ≡ cond (ltb (p .from) (p .to)) (p .from) w → f ≡ min from b → g ≡ max to (p .to) → Spanning areas (n + 1) y w f g
+  next-span {a} {p} {b} {f} {g} ea i ep eb ef eg = record {
+    low = omega (arith, t .low);
+    high = omega (arith, t .high, ap (λ (q : Part). q .to) ep, part-fits a y i);
+    each = λ k z l h. go k z l h (decLt k n);
   }
     where
-      go : holds x y a ≡ true → Dec (x < a .left + a .wide) → x < r
-      go h (yes p) = omega arith
-      go h (no p) = false-true (sym (after-it x (omega arith)) ∙ h)
+      go : (k z : ℕ) → k < n + 1 → holds z y (areaAt areas k) ≡ true → Dec (k < n) → (f ≤ z) × (z < g)
+      go k z l h (yes m) = let old = t .each k z m h in (omega arith, omega arith)
+      go k z l h (no m) =
+          let last : n ≡ k = omega arith in
+          let new = held-part a y z (ap (holds z y) (ea ∙ ap (areaAt areas) last) ∙ h) in
+          let first : p .from ≤ z = omega (arith, ap (λ (q : Part). q .from) ep) in
+          let past : z < p .to = omega (arith, ap (λ (q : Part). q .to) ep) in
+          let begins : b ≡ p .from = eb ∙ simp (lt-ltb (p .from) (p .to) (omega arith)) in
+          (omega arith, omega arith)
 
--- ## Of several rectangles
+pub spanned : {areas : List ℕ} {n y w from to f : ℕ} → Spanning areas n y w from to → n ≡ count areas → f ≡ min from to
+    → Spans (λ z. held areas z y) w (record { from = f; to = to })
+spanned {areas} {n} {y} {w} {from} {to} {f} t e m = record {
+  along = omega arith;
+  within = t .high;
+  each = λ z h.
+      one-of (count areas) (λ k. holds z y (areaAt areas k)) h (λ k l i. let old = t .each k z (omega arith) i in (omega arith, omega arith));
+}
 
-or-either : (a b : Bool) {A : Type 0} → a || b ≡ true → (a ≡ true → A) → (b ≡ true → A) → A
-or-either true b e f g = f refl
-or-either false b e f g = g e
-
-module _ (p q o : ℕ → Bool) (e : (z : ℕ) → o z ≡ p z || q z) where
-  from-first : (z : ℕ) → p z ≡ true → o z ≡ true
-  from-first z h = e z ∙ ap (λ (b : Bool). b || q z) h
-
-  from-second : (z : ℕ) → q z ≡ true → o z ≡ true
-  from-second z h = e z ∙ ap (λ (b : Bool). p z || b) h ∙ or-true (p z)
-
-  pub first-of : {x w s t r : ℕ} → First p x w s → First q x w t → r ≡ min s t → First o x w r
-  first-of {x} {w} {s} {t} {r} f g m = record {
-    low = omega (arith, f .low, g .low);
-    high = omega (arith, f .high);
-    free = λ z l h. e z ∙ ap₂ (λ (a b : Bool). a || b) (f .free z l (omega arith)) (g .free z l (omega arith));
-    found = λ h. go h (decLt s t);
-  }
-    where
-      go : r < w → Dec (s < t) → o r ≡ true
-      go h (yes l) =
-          let same : s ≡ r = omega arith in
-          rw (← same) (from-first s (f .found (omega arith)))
-      go h (no l) =
-          let same : t ≡ r = omega arith in
-          rw (← same) (from-second t (g .found (omega arith)))
-
-  pub through-of : {x w s t r : ℕ} → Through p x w s → Through q x w t → r ≡ max s t → Through o x w r
-  through-of {x} {w} {s} {t} {r} f g m = record {
-    low = omega (arith, f .low);
-    high = omega (arith, f .high, g .high);
-    full = λ z l h. go z l h (decLt z s);
-    past = λ h. or-either (p x) (q x) (sym (e x) ∙ h) (λ i. omega (arith, f .past i)) (λ i. omega (arith, g .past i));
-  }
-    where
-      go : (z : ℕ) → x ≤ z → z < r → Dec (z < s) → o z ≡ true
-      go z l h (yes i) = from-first z (f .full z l i)
-      go z l h (no i) = from-second z (g .full z l (omega arith))
-
--- one rectangle more
-pub some-next : (areas : List ℕ) (n y : ℕ) {a : Area} → a ≡ areaAt areas n
-    → (z : ℕ) → some (n + 1) (λ k. holds z y (areaAt areas k)) ≡ some n (λ k. holds z y (areaAt areas k)) || holds z y a
-some-next areas n y s z =
-    some-more n (λ k. holds z y (areaAt areas k)) ∙ ap (λ (b : Area). some n (λ k. holds z y (areaAt areas k)) || holds z y b) (sym s)
+pub spans-in : {p : ℕ → Bool} {v w : ℕ} {s : Part} → Spans p v s → v ≤ w → Spans p w s
+spans-in t l = record { along = t .along; within = omega (arith, t .within); each = t .each }

@@ -1,11 +1,12 @@
 -- Laws of sums, and of 'one of'. Assumes nothing.
 use Prim.Native.Nat.{ℕ, zero, suc, _+_, _*_, _≤_, _<_, zero-le}
 use mathlib.Core.Path.{_≡_, refl, sym, ap, ap₂, _∙_}
-use mathlib.Core.Bool.{Bool, true, false, _||_, or-true}
+use mathlib.Core.Bool.{Bool, true, false, _||_, or-true, or-false}
 use native.Mathlib.Nat.{add-zero, add-suc, not-suc-le-zero}
 use native.Mathlib.Numerals.{add-one}
 use native.Mathlib.Decide.{decLt}
 use native.Mathlib.Omega.{arith}
+use Rattle.num.specs.Refusals.{false-true}
 use Rattle.areas.specs.Areas.{sum, some}
 
 -- ## Sums
@@ -82,14 +83,19 @@ some-at (suc n) p k l e = go (λ m. some-at n p k m e) (decLt k n)
         let same : k ≡ n = omega arith in
         ap (λ (b : Bool). some n p || b) (sym (ap p same) ∙ e) ∙ or-true (some n p)
 
+-- what follows from any of them
+pub one-of : {A : Type 0} (n : ℕ) (p : ℕ → Bool) → some n p ≡ true → ((k : ℕ) → k < n → p k ≡ true → A) → A
+unfolding some
+one-of zero p e f = false-true e
+one-of {A} (suc n) p e f = go (p n) refl (λ h. one-of n p h (λ k l. f k (omega arith)))
+  where
+    go : (b : Bool) → p n ≡ b → (some n p ≡ true → A) → A
+    go true h ih = f n (omega arith) h
+    go false h ih = ih (sym (ap (λ (b : Bool). some n p || b) h ∙ or-false (some n p)) ∙ e)
+
 pub none-at : (n : ℕ) (p : ℕ → Bool) → some n p ≡ false → (k : ℕ) → k < n → p k ≡ false
 none-at n p e k l = go (p k) refl
   where
     go : (b : Bool) → p k ≡ b → p k ≡ false
     go false h = h
     go true h = let z : _≡_ {A = ℕ} 0 1 = cc (some-at n p k l h) in absurd (omega arith)
-
-pub some-none : (n : ℕ) (p : ℕ → Bool) → ((k : ℕ) → k < n → p k ≡ false) → some n p ≡ false
-unfolding some
-some-none zero p h = refl
-some-none (suc n) p h = ap₂ (λ (a b : Bool). a || b) (some-none n p (λ k l. h k (omega arith))) (h n (omega arith))

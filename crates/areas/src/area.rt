@@ -1,9 +1,9 @@
-// A rectangle of the list.
+// A rectangle of the list, and the places of a row that it has.
 ghost use mathlib.Core.Path.{_≡_};
 ghost use Prim.Native.Nat.{_+_, _*_, _<_, _≤_, min, max};
 ghost use lib.ListN.{length, getD};
 ghost use Rattle.areas.specs.Areas.{areaAt};
-ghost use Rattle.areas.specs.Private.{Listed, inRow};
+ghost use Rattle.areas.specs.Private.{Listed, inRow, Inside, partOf};
 
 pub(crate) struct Area {
     pub(crate) left: usize,
@@ -46,6 +46,26 @@ pub(crate) fn in_row(a: Area, y: usize) -> bool
         return false;
     }
     y < a.top + a.high
+}
+
+// Places of a row, from one up to another.
+pub(crate) struct Part {
+    pub(crate) from: usize,
+    pub(crate) to: usize,
+}
+
+// Those that the rectangle has of row y: from 0 to 0 if it has not the row.
+pub(crate) fn part_of(a: Area, y: usize) -> Part
+    requires { ⌜ Inside 1024 1024 a ⌝ }
+    ensures { λ r. ⌜ r ≡ partOf a y ⌝ }
+{
+    if !in_row(a, y) {
+        return Part { from: 0, to: 0 };
+    }
+    Part {
+        from: a.left,
+        to: a.left + a.wide,
+    }
 }
 
 pub(crate) fn smaller(a: usize, b: usize) -> usize

@@ -1,12 +1,15 @@
-// Where a band of rows ends, and where a run of words begins and ends that the rectangles of a row hold.
+// Where a band of rows ends, and from where to where it is held.
 ghost use mathlib.Core.Path.{_≡_};
+ghost use mathlib.Core.Bool.{cond};
 ghost use Prim.Native.Nat.{_+_, _<_, _≤_};
-ghost use Rattle.areas.specs.Areas.{count, holds, held};
-ghost use Rattle.areas.specs.Private.{Inside, Placed, Edge, Edges, First, Through};
+ghost use lib.Dec.{ltb};
+ghost use Rattle.areas.specs.Areas.{count, held};
+ghost use Rattle.areas.specs.Private.{Placed, Edge, Edges, Spans};
 use super::area::Area;
+use super::area::Part;
 use super::area::area_at;
-use super::area::in_row;
 use super::area::larger;
+use super::area::part_of;
 use super::area::smaller;
 
 // The first row after y where the rectangle begins or ends; `last` where there is none.
@@ -38,61 +41,33 @@ pub(crate) fn band_end(areas: &[u16], y: usize, height: usize) -> usize
     end
 }
 
-// The first place of row y from x on that the rectangle holds; the width where there is none.
-fn begin(a: Area, y: usize, x: usize, width: usize) -> usize
-    requires { ⌜ (Inside width 1024 a) × (width ≤ 1024) × (x ≤ width) ⌝ }
-    ensures { λ r. ⌜ First (λ z. holds z y a) x width r ⌝ }
+// Where the part begins if it has a place; else `last`.
+fn begin(p: Part, last: usize) -> usize
+    ensures { λ r. ⌜ r ≡ cond (ltb (p .from) (p .to)) (p .from) last ⌝ }
 {
-    if !in_row(a, y) {
-        return width;
+    if p.from < p.to {
+        return p.from;
     }
-    let from = larger(a.left, x);
-    if from < a.left + a.wide {
-        return from;
-    }
-    width
+    last
 }
 
-// The first that one of the rectangles holds.
-pub(crate) fn run_start(areas: &[u16], y: usize, x: usize, width: usize) -> usize
-    requires { ⌜ (Placed width 1024 (now areas)) × (width ≤ 1024) × (x ≤ width) ⌝ }
-    ensures { λ r. ⌜ First (λ z. held (now (areas .entry)) z y) x width r ⌝ }
+// From the first place of row y that a rectangle holds to where the last of its rectangles ends. Empty where none is held.
+pub(crate) fn span(areas: &[u16], y: usize, width: usize) -> Part
+    requires { ⌜ (Placed width 1024 (now areas)) × (width ≤ 1024) ⌝ }
+    ensures { λ r. ⌜ Spans (λ z. held (now (areas .entry)) z y) width r ⌝ }
 {
     let n = areas.len() / 4;
     let mut from = width;
+    let mut to = 0;
     let mut k = 0;
     while k < n {
-        from = smaller(from, begin(area_at(areas, k), y, x, width));
+        let p = part_of(area_at(areas, k), y);
+        from = smaller(from, begin(p, width));
+        to = larger(to, p.to);
         k += 1;
     }
-    from
-}
-
-// Where the rectangle ends if it holds place x of row y; else x.
-fn reach(a: Area, y: usize, x: usize) -> usize
-    requires { ⌜ Inside 1024 1024 a ⌝ }
-    ensures { λ r. ⌜ Through (λ z. holds z y a) x (a .left + a .wide) r ⌝ }
-{
-    if !in_row(a, y) {
-        return x;
+    Part {
+        from: smaller(from, to),
+        to,
     }
-    if x < a.left {
-        return x;
-    }
-    larger(x, a.left + a.wide)
-}
-
-// The farthest end of the rectangles that hold place x of row y: all from x to there is held.
-pub(crate) fn run_end(areas: &[u16], y: usize, x: usize, width: usize) -> usize
-    requires { ⌜ (Placed width 1024 (now areas)) × (width ≤ 1024) × (x ≤ width) ⌝ }
-    ensures { λ r. ⌜ Through (λ z. held (now (areas .entry)) z y) x width r ⌝ }
-{
-    let n = areas.len() / 4;
-    let mut to = x;
-    let mut k = 0;
-    while k < n {
-        to = larger(to, reach(area_at(areas, k), y, x));
-        k += 1;
-    }
-    to
 }

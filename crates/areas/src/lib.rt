@@ -6,10 +6,12 @@ ghost use Rattle.areas.specs.Areas.{judged};
 
 mod area; // a rectangle of the list
 mod refusal; // what is refused
-mod edges; // where a band of rows ends, where a run of words begins and ends
-mod block; // the words of a run in all rows of a band: each is read once, at one place
-mod share; // what a block gives to each rectangle
-mod walk; // band after band, run after run
+mod edges; // where a band of rows ends, and from where to where it is held
+mod lines; // the lines that a walk works with
+mod marks; // which places of a row are held
+mod block; // the words of a band that are held: each is read once, at one place
+mod share; // what a band gives to each rectangle
+mod walk; // band after band
 
 // The number of words read, or a refusal's number.
 pub enum Answer {

@@ -1,4 +1,5 @@
-//! The memory that a frame takes: of what is lent and of the stack here, of the heap in the original.
+//! The memory that a frame takes: of what is lent and of the stack here, of the heap in the original. The stack that the
+//! totals of rectangles take.
 
 use std::io::{self, Write};
 use std::process::ExitCode;
@@ -6,6 +7,8 @@ use std::process::ExitCode;
 use super::cases::{self, Case};
 use super::stand::{card, picture, Side, Size, Stand, CONSOLE};
 use super::{heap, stack};
+use crate::areas::bench::narrow;
+use crate::bridge;
 
 /// The chains once more: whether the stack grows with the size.
 const LARGEST: Size = (1024, 1024);
@@ -24,6 +27,11 @@ pub fn run() -> ExitCode {
     for case in cases::chains() {
         line(&case, LARGEST);
     }
+    let (width, height) = LARGEST;
+    println!(
+        "memory call=areas size={width}x{height} stack_bytes={}",
+        stack_of_areas()
+    );
     ExitCode::SUCCESS
 }
 
@@ -72,6 +80,19 @@ fn scratch_and_stack(stand: &mut Stand, given: &[u32]) -> String {
     let words = floats + ints;
     let per_pixel = words as f64 / given.len() as f64;
     format!("scratch_words={words} floats={floats} ints={ints} per_pixel={per_pixel:.2} stack_bytes={stack}")
+}
+
+/// Of the totals of 64 stripes.
+fn stack_of_areas() -> usize {
+    let (width, height) = LARGEST;
+    let words = picture(LARGEST);
+    let list = narrow(width, height);
+    let (mut result, mut read) = ([0; 192], [0]);
+    stack::used(|| {
+        let lent = (words.as_ptr(), words.len());
+        let answer = bridge::areas(lent, width, height, &list, &mut result, &mut read);
+        assert_eq!(answer, Ok(0), "the list was refused");
+    })
 }
 
 fn stack_of(stand: &mut Stand, given: &[u32]) -> usize {

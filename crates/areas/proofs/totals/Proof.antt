@@ -1,12 +1,10 @@
 -- `areas::totals` meets its contract: a refusal, or the walk. Assumes nothing.
-use mathlib.Core.Path.{_≡_, sym, ap₂, _∙_}
+use mathlib.Core.Path.{sym, ap₂, _∙_}
 use mathlib.Core.List.{List}
 use borrow.Author.Needs.{needs}
 use Prim.Native.Nat.{ℕ}
-use lib.ListN.{length}
 use Rattle.num.specs.Refusals.{refuses, accepts}
 use Rattle.areas.specs.Areas.{judged}
-use Rattle.areas.specs.declared.Answer.{Answer}
 use Rattle.areas.specs.declared.Answer.the-variants.{Read}
 use Rattle.areas.proofs.Fine.{fine}
 use Rattle.areas.proofs.totals.Statement.{statement}
