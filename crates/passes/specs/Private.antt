@@ -41,14 +41,14 @@ unmarked words = painted (every (λ i q. q % 16777216) words) (sum (length words
 
 -- ---- LUT by tables
 
--- a channel as it is converted, and marked; one channel of a colour at its place in a word
-abbrev pub level : Float → ℕ
-level x = cutOf (clampOf x c0·0 c1·0 ⊗ c255·0)
+-- a channel as it is converted; then marked, and at its place in a word
+abbrev pub cutUnit : Float → ℕ
+cutUnit x = cutOf (clampOf x c0·0 c1·0 ⊗ c255·0)
 
 unfoldable pub entry : ℕ → Rgb → ℕ
-entry zero c = level (c .r) * 65536 + clip c1·0 (c .r) * 16777216
-entry (suc zero) c = level (c .g) * 256 + clip c1·0 (c .g) * 16777216
-entry (suc (suc n)) c = level (c .b) + clip c1·0 (c .b) * 16777216
+entry zero c = cutUnit (c .r) * 65536 + clip c1·0 (c .r) * 16777216
+entry (suc zero) c = cutUnit (c .g) * 256 + clip c1·0 (c .g) * 16777216
+entry (suc (suc n)) c = cutUnit (c .b) + clip c1·0 (c .b) * 16777216
 
 -- a table of what that channel of the greys becomes
 pub record Greys (which preset : ℕ) (strength : Float) (words : List ℕ) : Type 0 where
