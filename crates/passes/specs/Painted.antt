@@ -38,9 +38,9 @@ module _ (A : Arith) where
 abbrev pub onto : (List ℕ → Painted) → Painted → Painted
 onto paint x = let y = paint (x .words) in painted (y .words) (x .clipped + y .clipped)
 
--- a pass without a final conversion that clips
-abbrev pub unclipped : (List ℕ → List ℕ) → Painted → Painted
-unclipped paint x = painted (paint (x .words)) (x .clipped)
+-- by a pass that clips nothing
+abbrev pub unclipped : (List ℕ → List ℕ) → List ℕ → Painted
+unclipped paint frame = painted (paint frame) 0
 
 -- as many words as the frame, and no more than three clipped channels for each
 pub record Paints (frame : List ℕ) (x : Painted) : Type 0 where
