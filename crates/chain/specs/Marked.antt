@@ -85,7 +85,7 @@ unfolding dec ofBits toBits ofInt add sub mul div neg lt le eq clampOf minOf max
     Text.Vignette.factor Text.Crt.crt Text.Crt.beam Text.Crt.phosphor Text.Crt.offset Text.Crt.edge Text.Crt.shade
     Text.Curvature.curvature Text.Curvature.bend Text.Curvature.sample Text.Curvature.outside
     Text.AutoGradient.autoGradient Text.AutoGradient.shaded Text.AutoGradient.adaptive Text.AutoGradient.addLuma
-    Text.AutoGradient.warm Text.AutoGradient.brightness Text.AutoGradient.shade Text.Persistence.persistence
+    Text.AutoGradient.warm Text.AutoGradient.fall Text.AutoGradient.brightness Text.AutoGradient.shade Text.Persistence.persistence
     Text.Persistence.decay Text.Persistence.total Text.Persistence.add Text.Persistence.mix converted
     Text.Persistence.blended Text.Persistence.blend Persistence.copies Persistence.refilled Persistence.shifted
     Text.ColorCorrection.colorCorrection Text.ColorCorrection.colour openOf stationAt headerAt fieldAt valueAt refuseIf

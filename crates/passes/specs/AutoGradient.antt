@@ -32,21 +32,25 @@ module _ (A : Arith) where
   unfoldable pub warm : ℕ → ℕ → F → F → F
   warm h y vertical a = neg (position A y h) ⊗ vertical ⊗ a
 
-  -- the brightness factor at column x of w, in a row of warmth t
-  unfoldable pub brightness : ℕ → ℕ → F → F → F → F
-  brightness w x t horizontal a = (lit c1·0 ⊕ t ⊗ lit c0·30) ⊗ (lit c1·0 ⊖ abs (position A x w) ⊗ horizontal ⊗ a)
+  -- how much of its light column x of w keeps
+  unfoldable pub fall : ℕ → F → F → ℕ → F
+  fall w horizontal a x = lit c1·0 ⊖ abs (position A x w) ⊗ horizontal ⊗ a
+
+  -- the brightness factor of a column that keeps so much, in a row of warmth t
+  unfoldable pub brightness : F → F → F
+  brightness t kept = (lit c1·0 ⊕ t ⊗ lit c0·30) ⊗ kept
 
   unfoldable pub shade : F → F → ℕ → Rgb
   shade t factor p =
       let c = unpack A p in
       rgb (red c ⊗ factor ⊕ t ⊗ lit c18·0) (green c ⊗ factor ⊕ t ⊗ lit c5·0) (blue c ⊗ factor ⊖ t ⊗ lit c14·0)
 
-  -- the colour at column x and row y
-  abbrev pub at : ℕ → ℕ → F → F → F → ℕ → ℕ → ℕ → Rgb
-  at w h vertical horizontal a x y = let t = warm h y vertical a in shade t (brightness w x t horizontal a)
+  -- the colour at column x and row y of h; `falls` gives how much of its light each column keeps
+  abbrev pub at : ℕ → (ℕ → F) → F → F → ℕ → ℕ → ℕ → Rgb
+  at h falls vertical a x y = let t = warm h y vertical a in shade t (brightness t (falls x))
 
   unfoldable pub shaded : ℕ → ℕ → F → F → F → List ℕ → Painted
-  shaded w h vertical horizontal a frame = fromLimited A (placed w (at w h vertical horizontal a)) frame
+  shaded w h vertical horizontal a frame = fromLimited A (placed w (at h (fall w horizontal a) vertical a)) frame
 
   -- the mean is taken over the frame as it comes, by one sum from left to right
   unfoldable pub autoGradient : ℕ → ℕ → F → F → F → List ℕ → Painted

@@ -70,7 +70,7 @@ unfolding ofBits ofInt add sub mul div neg lt le clampOf minOf maxOf absOf cutOf
     Text.Vignette.vignette Text.Vignette.square Text.Vignette.factor Text.Crt.crt Text.Crt.beam Text.Crt.phosphor
     Text.Crt.offset Text.Crt.edge Text.Crt.shade Text.Curvature.curvature Text.Curvature.bend Text.Curvature.sample
     Text.Curvature.outside Text.AutoGradient.autoGradient Text.AutoGradient.shaded Text.AutoGradient.adaptive
-    Text.AutoGradient.addLuma Text.AutoGradient.warm Text.AutoGradient.brightness Text.AutoGradient.shade sameHeld
+    Text.AutoGradient.addLuma Text.AutoGradient.warm Text.AutoGradient.fall Text.AutoGradient.brightness Text.AutoGradient.shade sameHeld
     Text.Persistence.persistence Text.Persistence.decay Text.Persistence.total Text.Persistence.add Text.Persistence.mix
     converted Text.Persistence.blended Text.Persistence.blend Persistence.copies Persistence.refilled
     Persistence.shifted Text.ColorCorrection.colorCorrection Text.ColorCorrection.colour
@@ -122,7 +122,7 @@ unfolding ofBits ofInt add sub mul div neg lt le clampOf absOf cutOf rewrite fol
     Text.Pixel.unpack Text.Pixel.unit Text.Pixel.pack Text.Pixel.packLimited Text.Pixel.packUnit Text.Pixel.clip Text.Pixel.clips
     Text.Pixel.channel Text.Pixel.luma601 Text.Pixel.luma709 Text.Position.position Text.ColorCorrection.colorCorrection
     Text.ColorCorrection.colour Text.Lut.lut Text.Lut.colour Text.Lut.transform Text.AutoGradient.autoGradient
-    Text.AutoGradient.shaded Text.AutoGradient.adaptive Text.AutoGradient.addLuma Text.AutoGradient.warm
+    Text.AutoGradient.shaded Text.AutoGradient.adaptive Text.AutoGradient.addLuma Text.AutoGradient.warm Text.AutoGradient.fall
     Text.AutoGradient.brightness Text.AutoGradient.shade Text.Blur.weight Text.Blur.total Text.Bloom.bloom Text.Bloom.bright
     Text.Bloom.composite Text.Ntsc.ntsc Text.Ntsc.pixel Text.Ntsc.chroma Text.Persistence.persistence Text.Persistence.decay
     Text.Persistence.total Text.Persistence.add Text.Persistence.mix Text.Persistence.blended Text.Persistence.blend

@@ -16,13 +16,16 @@ adaptive = Text.AutoGradient.adaptive plain
 abbrev pub warm : ℕ → ℕ → Float → Float → Float
 warm = Text.AutoGradient.warm plain
 
-abbrev pub brightness : ℕ → ℕ → Float → Float → Float → Float
+abbrev pub fall : ℕ → Float → Float → ℕ → Float
+fall = Text.AutoGradient.fall plain
+
+abbrev pub brightness : Float → Float → Float
 brightness = Text.AutoGradient.brightness plain
 
 abbrev pub shade : Float → Float → ℕ → Rgb
 shade = Text.AutoGradient.shade plain
 
-abbrev pub at : ℕ → ℕ → Float → Float → Float → ℕ → ℕ → ℕ → Rgb
+abbrev pub at : ℕ → (ℕ → Float) → Float → Float → ℕ → ℕ → ℕ → Rgb
 at = Text.AutoGradient.at plain
 
 abbrev pub shaded : ℕ → ℕ → Float → Float → Float → List ℕ → Painted
