@@ -8,7 +8,8 @@ use super::ppm::{self, Frame};
 use super::process::{Said, PIPE};
 use crate::cards::paper;
 use crate::met::Met;
-use crate::passes::chain::{built, PERSISTENCE};
+use crate::passes::chain::PERSISTENCE;
+use crate::passes::effects::built;
 
 const USAGE: &str = "usage: filter CARD FRAME..   \
     (a card as a file or in hexadecimal; frames as binary PPM, up to 256 by 240 pixels)";
