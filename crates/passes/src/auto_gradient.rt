@@ -4,9 +4,11 @@ ghost use Prim.Native.Nat.{_≤_, _<_};
 ghost use lib.ListN.{length};
 ghost use Rattle.num.specs.Const.{c0·0};
 ghost use Rattle.passes.specs.Fold.{fold};
-ghost use Rattle.num.specs.Rewrite.{every};
-ghost use Rattle.passes.specs.Rows.{Frame};
+ghost use Rattle.passes.specs.Rows.{Frame, placed};
 ghost use Rattle.passes.specs.Plain.AutoGradient as AutoGradient;
+ghost use Rattle.passes.specs.Painted.{painted};
+ghost use Rattle.passes.specs.Private.{markLimited, everyLimited};
+use crate::marks;
 use crate::pixel;
 use crate::pixel::Rgb;
 use crate::rows;
@@ -56,10 +58,10 @@ fn brightness(w: usize, x: usize, t: f32, horizontal: f32, a: f32) -> f32
 }
 
 fn shade(t: f32, factor: f32, p: u32) -> u32
-    ensures { λ r. ⌜ r ≡ AutoGradient.shade t factor p ⌝ }
+    ensures { λ r. ⌜ r ≡ markLimited (AutoGradient.shade t factor p) ⌝ }
 {
     let c = pixel::unpack(p);
-    pixel::pack_limited(Rgb {
+    marks::limited(Rgb {
         r: c.r * factor + t * 18.0,
         g: c.g * factor + t * 5.0,
         b: c.b * factor - t * 14.0,
@@ -76,7 +78,7 @@ fn row(
     a: f32,
 )
     requires { ⌜ (y < height) × (height ≤ 1024) × (width ≤ 1024) × (length (now row) ≡ width) ⌝ }
-    ensures { λ _. ⌜ now (row .exit) ≡ every (λ x. AutoGradient.at width height vertical horizontal a x y) (now (row .entry)) ⌝ }
+    ensures { λ _. ⌜ now (row .exit) ≡ everyLimited (λ x. AutoGradient.at width height vertical horizontal a x y) (now (row .entry)) ⌝ }
 {
     let t = warm(height, y, vertical, a);
     let mut x = 0;
@@ -88,7 +90,7 @@ fn row(
 
 fn rows(frame: &mut [u32], width: usize, height: usize, vertical: f32, horizontal: f32, a: f32)
     requires { ⌜ Frame width height (now frame) ⌝ }
-    ensures { λ _. ⌜ now (frame .exit) ≡ AutoGradient.shaded width height vertical horizontal a (now (frame .entry)) ⌝ }
+    ensures { λ _. ⌜ now (frame .exit) ≡ everyLimited (placed width (AutoGradient.at width height vertical horizontal a)) (now (frame .entry)) ⌝ }
 {
     let mut y = 0;
     let mut at = 0;
@@ -108,6 +110,7 @@ fn rows(frame: &mut [u32], width: usize, height: usize, vertical: f32, horizonta
     }
 }
 
+// Returns how many channels were clipped.
 pub fn apply(
     frame: &mut [u32],
     width: usize,
@@ -115,10 +118,11 @@ pub fn apply(
     strength: f32,
     vertical: f32,
     horizontal: f32,
-)
+) -> u32
     requires { ⌜ Frame width height (now frame) ⌝ }
-    ensures { λ _. ⌜ now (frame .exit) ≡ AutoGradient.autoGradient width height strength vertical horizontal (now (frame .entry)) ⌝ }
+    ensures { λ r. ⌜ painted (now (frame .exit)) r ≡ AutoGradient.autoGradient width height strength vertical horizontal (now (frame .entry)) ⌝ }
 {
     let a = adaptive(strength, frame.len() as u32, total(frame));
     rows(frame, width, height, vertical, horizontal, a);
+    marks::collect(frame)
 }

@@ -4,11 +4,12 @@ use native.Mathlib.Omega.{arith}
 use lib.ListN.{length}
 use Rattle.num.specs.Rewrite.{Rewritten, none, more, all}
 use Rattle.passes.specs.Plain.AutoGradient.{at}
+use Rattle.passes.specs.Private.{markLimited}
 use Rattle.passes.proofs.auto_gradient.row.Statement.{statement}
 use Rattle.passes.proofs.auto_gradient.row.Tie as tie
 
 abbrev Inv-loop : tie.InvT-loop
-Inv-loop row₀ y w h vertical horizontal a t x₀ row x = Rewritten x (λ k. at w h vertical horizontal a k y) row₀ row
+Inv-loop row₀ y w h vertical horizontal a t x₀ row x = Rewritten x (λ k p. markLimited (at w h vertical horizontal a k y p)) row₀ row
 
 abbrev μ-loop : tie.MeasureT-loop
 μ-loop row₀ y w h vertical horizontal a t x₀ row x = length row₀ - x

@@ -1,14 +1,14 @@
 -- `passes::auto_gradient::rows` meets its contract: row by row. Assumes nothing.
 use Prim.Native.Nat.{_-_}
 use native.Mathlib.Omega.{arith}
-use Rattle.passes.specs as Text
 use Rattle.passes.specs.Rows.{Rowed, no-rows, row-in, row-length, row-done, rows-all}
 use Rattle.passes.specs.Plain.AutoGradient.{at}
+use Rattle.passes.specs.Private.{markLimited}
 use Rattle.passes.proofs.auto_gradient.rows.Statement.{statement}
 use Rattle.passes.proofs.auto_gradient.rows.Tie as tie
 
 abbrev Inv-loop : tie.InvT-loop
-Inv-loop fb₀ w h v z a y₀ at₀ fb y k = Rowed w h y k (at w h v z a) fb₀ fb
+Inv-loop fb₀ w h v z a y₀ at₀ fb y k = Rowed w h y k (λ x y p. markLimited (at w h v z a x y p)) fb₀ fb
 
 abbrev μ-loop : tie.MeasureT-loop
 μ-loop fb₀ w h v z a y₀ at₀ fb y k = h - y
@@ -33,7 +33,6 @@ loop-again c =
     row-done (in-loop .before .loop .inv) _ (in-loop .loop-test .taken) (c .before .before .row .ensures)
 
 returns : tie.Need-returns Inv-loop μ-loop
-unfolding Text.AutoGradient.shaded
 returns c = rows-all (c .before .loop .inv) (c .loop-test .left)
 
 pub rows-spec : {M : Type 1} → statement M
