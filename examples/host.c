@@ -1,4 +1,5 @@
-/* A host in C: opens a card, runs frames, and prints a checksum of the last picture and the totals of its middle. */
+/* A host in C: opens a card, runs frames, and prints a checksum of the last picture, the channels that were clipped on the way, and
+   the totals of the picture's middle. */
 #include <stdio.h>
 #include "hedgemallow.h"
 
@@ -34,17 +35,18 @@ int main(void) {
         printf("the card is refused: %u\n", (unsigned)(answer - HEDGEMALLOW_REFUSED));
         return 1;
     }
-    uint32_t preset = 0;
+    uint32_t preset = 0, clipped[1], sum = 0;
     for (uint32_t number = 0; number < FRAMES; number++) {
         paint(number);
         if (number == 3) preset = hedgemallow_cycle_lut(state);
         if (number == 4) hedgemallow_set_enabled(state, 10, 0);
         answer = hedgemallow_apply(state, frame, COUNT, WIDTH, HEIGHT, history, hedgemallow_depth(state) * (size_t)COUNT,
-                                   floats, 6 * COUNT, ints, COUNT);
+                                   floats, 6 * COUNT, ints, COUNT, clipped);
         if (answer >= HEDGEMALLOW_REFUSED) {
             printf("the frame is refused: %u\n", (unsigned)(answer - HEDGEMALLOW_REFUSED));
             return 1;
         }
+        sum += clipped[0];
     }
     uint8_t again[HEDGEMALLOW_CARD];
     uint32_t length = hedgemallow_write(state, again, sizeof again);
@@ -55,7 +57,8 @@ int main(void) {
         printf("the area is refused: %u\n", (unsigned)(answer - HEDGEMALLOW_REFUSED));
         return 1;
     }
-    printf("frames %d, preset %u, card %u bytes, picture %08X\n", FRAMES, (unsigned)preset, (unsigned)length, (unsigned)checksum());
+    printf("frames %d, preset %u, card %u bytes, picture %08X, clipped %u\n", FRAMES, (unsigned)preset, (unsigned)length,
+           (unsigned)checksum(), (unsigned)sum);
     printf("middle: %u words, red %lu, green %lu, blue %lu\n", (unsigned)read[0], (unsigned long)totals[0], (unsigned long)totals[1],
            (unsigned long)totals[2]);
     return 0;

@@ -1,4 +1,5 @@
-//! A host in Rust: opens a card, runs frames, and prints a checksum of the last picture and the totals of its middle.
+//! A host in Rust: opens a card, runs frames, and prints a checksum of the last picture, the channels that were clipped on the way,
+//! and the totals of the picture's middle.
 
 use hedgemallow::{areas, history_words, scratch_words, Refusal, Station};
 
@@ -35,7 +36,7 @@ fn run() -> Result<(), Refusal> {
     let mut ints = vec![0; scratch.ints];
     let mut history = vec![0; history_words(&CARD, WIDTH, HEIGHT)?];
     let mut frame = vec![0; WIDTH * HEIGHT];
-    let mut preset = 0;
+    let (mut preset, mut clipped) = (0, 0);
     for number in 0..FRAMES {
         paint(&mut frame, number);
         match number {
@@ -43,12 +44,12 @@ fn run() -> Result<(), Refusal> {
             4 => station.set_enabled(10, false)?,
             _ => {}
         }
-        station.apply(&mut frame, WIDTH, HEIGHT, &mut history, &mut floats, &mut ints)?;
+        clipped += station.apply(&mut frame, WIDTH, HEIGHT, &mut history, &mut floats, &mut ints)?;
     }
     let length = station.write(&mut [0; 72])?;
     let mut totals = [0; 3];
     let read = areas(&frame, WIDTH, HEIGHT, &MIDDLE, &mut totals)?;
-    println!("frames {FRAMES}, preset {preset}, card {length} bytes, picture {:08X}", checksum(&frame));
+    println!("frames {FRAMES}, preset {preset}, card {length} bytes, picture {:08X}, clipped {clipped}", checksum(&frame));
     println!("middle: {read} words, red {}, green {}, blue {}", totals[0], totals[1], totals[2]);
     Ok(())
 }

@@ -88,10 +88,13 @@ uint32_t hedgemallow_open(const uint8_t *card, size_t card_len, uint8_t state[HE
 uint32_t hedgemallow_write(const uint8_t state[HEDGEMALLOW_STATE], uint8_t *buffer, size_t buffer_len);
 
 /* A frame: the passes that are on, in the card's order, over the first count words of the
-   framebuffer. Refusals 13, 8, 9, 10, 11, in that order. */
+   framebuffer. clipped[0] is how many channels their final conversions clipped, since they lay
+   strictly below 0 or strictly above the top end, added up over the passes: no part of the answer,
+   since it may be above 255. Refusals 13, 8, 9, 10, 11, in that order. */
 uint32_t hedgemallow_apply(uint8_t state[HEDGEMALLOW_STATE], uint32_t *framebuffer, size_t framebuffer_len,
                            size_t width, size_t height, uint32_t *history, size_t history_len,
-                           float *floats, size_t floats_len, uint32_t *ints, size_t ints_len);
+                           float *floats, size_t floats_len, uint32_t *ints, size_t ints_len,
+                           uint32_t clipped[1]);
 
 /* Forgets what the history holds; its words stay. Refusals 13, 12. */
 uint32_t hedgemallow_reset(uint8_t state[HEDGEMALLOW_STATE]);

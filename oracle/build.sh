@@ -46,16 +46,38 @@ END
     original=
 }
 
-# A module for each file of the original's passes, compiled where it lies.
+# A module for each file of passes in the folder $1, compiled where it lies.
 modules() {
     echo "// Written by oracle/build.sh."
-    for file in "$original"/src/postprocess/*.rs; do
+    for file in "$1"/*.rs; do
         name=${file##*/}
         name=${name%.rs}
         # The original has no mod.rs: this file stands for it.
         [ "$name" = mod ] && continue
         printf '#[path = r##"%s"##]\npub mod %s;\n' "$file" "$name"
     done
+}
+
+# Writes a copy of the original's passes to target/oracle/counted in which each final clamp of a channel is the one of
+# oracle/src/clipped.rs, which counts. Six passes have such clamps, one for each of three channels.
+copy_counting() {
+    mkdir -p target/oracle/counted || return 1
+    for file in "$original"/src/postprocess/*.rs; do
+        sed -E 's/\b(final_[rgb]|[rgb]|red|green|blue)\.clamp\(0\.0, (1|255)\.0\)/crate::clipped::clamp(\1, \2.0)/g' "$file" \
+            >"target/oracle/counted/${file##*/}" || return 1
+    done
+    counting=$(cd target/oracle/counted && grep -o 'crate::clipped::clamp(' -- *.rs | sort | uniq -c | tr -s ' ')
+    asked=$(for pass in auto_gradient bloom color_correction lut ntsc persistence; do echo " 3 $pass.rs:crate::clipped::clamp("; done)
+    [ "$counting" = "$asked" ] && return
+    printf 'Error: the final clamps of the original are not where they were. Found:\n%s\nasked:\n%s\n' "$counting" "$asked" >&2
+    return 1
+}
+
+# The original's passes and the copy, as the program compiles them.
+write_modules() {
+    modules "$original/src/postprocess" >target/oracle/original.rs || return 1
+    copy_counting || return 1
+    modules "$PWD/target/oracle/counted" >target/oracle/counted.rs
 }
 
 # Proves the named programs and leaves them in target/bin. What is proved already is not proved again.
@@ -114,7 +136,7 @@ build() {
     need rt
     build_libraries probe bridge || return 1
     if [ -n "$original" ]; then
-        modules >target/oracle/original.rs || return 1
+        write_modules || return 1
     fi
     compile ${original:+--cfg with_original} -o target/oracle/compare
 }

@@ -18,6 +18,13 @@ use hedgemallow::exports;
 /// What is added to a refusal's number: no call reports so much.
 const REFUSED: u32 = 256;
 
+/// What stands where a frame tells its clipped channels, before it does: no frame has so many.
+const UNTOLD: u32 = 0xa5a5_5a5a;
+
+/// What a frame's answer becomes where it is accepted by another number than 0, or refused and tells something: no refusals.
+const ACCEPTED_BY: u32 = 1000;
+const REFUSED_AND_TOLD: u32 = 2000;
+
 fn answer(given: u32) -> Answer {
     match given.checked_sub(REFUSED) {
         None => Ok(given),
@@ -46,9 +53,11 @@ pub fn write(state: &State, buffer: &mut [u8]) -> Answer {
     answer(unsafe { exports::hedgemallow_write(state.as_ptr(), buffer.as_mut_ptr(), buffer.len()) })
 }
 
+/// A frame. Its answer is what it tells in the place that it is lent for that: the clipped channels.
 pub fn apply(state: &mut State, width: usize, height: usize, lent: Lent) -> Answer {
+    let mut clipped = [UNTOLD];
     // SAFETY: as above.
-    answer(unsafe {
+    let given = answer(unsafe {
         exports::hedgemallow_apply(
             state.as_mut_ptr(),
             lent.framebuffer.as_mut_ptr(),
@@ -61,8 +70,16 @@ pub fn apply(state: &mut State, width: usize, height: usize, lent: Lent) -> Answ
             lent.floats.len(),
             lent.ints.as_mut_ptr(),
             lent.ints.len(),
+            clipped.as_mut_ptr(),
         )
-    })
+    });
+    match (given, clipped) {
+        (Ok(0), [told]) => Ok(told),
+        (Err(number), [UNTOLD]) => Err(number),
+        // No model answers these: they differ.
+        (Ok(other), _) => Err(ACCEPTED_BY + other),
+        (Err(number), _) => Err(REFUSED_AND_TOLD + number),
+    }
 }
 
 pub fn reset(state: &mut State) -> Answer {

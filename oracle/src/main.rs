@@ -16,6 +16,8 @@ mod bench;
 #[cfg_attr(fuzz, path = "guarded.rs")]
 mod bridge;
 mod cards;
+#[cfg(with_original)]
+mod clipped;
 mod constants;
 #[cfg(fuzz)]
 mod fuzz;

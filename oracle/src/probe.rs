@@ -32,7 +32,7 @@ mod exports {
             strength: f32,
             vertical: f32,
             horizontal: f32,
-        );
+        ) -> u32;
         pub fn probe_bloom(
             frame: *mut u32,
             frame_len: usize,
@@ -43,14 +43,14 @@ mod exports {
             threshold: u8,
             strength: f32,
             radius: usize,
-        );
+        ) -> u32;
         pub fn probe_color_correction(
             frame: *mut u32,
             frame_len: usize,
             brightness: f32,
             contrast: f32,
             saturation: f32,
-        );
+        ) -> u32;
         pub fn probe_crt(
             frame: *mut u32,
             frame_len: usize,
@@ -67,7 +67,7 @@ mod exports {
             height: usize,
             amount: f32,
         );
-        pub fn probe_lut(frame: *mut u32, frame_len: usize, preset: u8, strength: f32);
+        pub fn probe_lut(frame: *mut u32, frame_len: usize, preset: u8, strength: f32) -> u32;
         pub fn probe_ntsc(
             frame: *mut u32,
             frame_len: usize,
@@ -75,7 +75,7 @@ mod exports {
             height: usize,
             strength: f32,
             bleed: usize,
-        );
+        ) -> u32;
         pub fn probe_persistence(
             frame: *mut u32,
             frame_len: usize,
@@ -86,6 +86,7 @@ mod exports {
             amount: f32,
             depth: u8,
             held: u32,
+            clipped: *mut u32,
         ) -> u32;
         pub fn probe_scanlines(
             frame: *mut u32,
@@ -203,7 +204,7 @@ pub fn limit(x: f32, lo: f32, hi: f32) -> f32 {
     unsafe { exports::probe_limit(x, lo, hi) }
 }
 
-// The passes. What is safe of a call is the same for all: each buffer is a slice of its own, goes
+// The passes. Those with a final clamp give how many channels it clipped. What is safe of a call is the same for all: each buffer is a slice of its own, goes
 // with its own length and is not kept.
 
 /// What a pass requires of its frame, by rows of `width` words. Not more is lent than that.
@@ -220,7 +221,7 @@ pub fn auto_gradient(
     strength: f32,
     vertical: f32,
     horizontal: f32,
-) {
+) -> u32 {
     assert_frame(frame, width, height);
     let (start, len) = (frame.as_mut_ptr(), frame.len());
     // SAFETY: as said of the passes.
@@ -237,7 +238,7 @@ pub fn bloom(
     threshold: u8,
     strength: f32,
     radius: usize,
-) {
+) -> u32 {
     assert_frame(frame, width, height);
     assert_lendable(scratch.as_ptr(), scratch.len());
     assert!(scratch.len() >= 3 * frame.len());
@@ -258,8 +259,9 @@ pub fn bloom(
     }
 }
 
-pub fn color_correction(frame: &mut [u32], brightness: f32, contrast: f32, saturation: f32) {
+pub fn color_correction(frame: &mut [u32], brightness: f32, contrast: f32, saturation: f32) -> u32 {
     assert_lendable(frame.as_ptr(), frame.len());
+    assert!(frame.len() <= 1024 * 1024);
     let (start, len) = (frame.as_mut_ptr(), frame.len());
     // SAFETY: as said of the passes.
     unsafe { exports::probe_color_correction(start, len, brightness, contrast, saturation) }
@@ -290,13 +292,14 @@ pub fn curvature(frame: &mut [u32], scratch: &mut [u32], width: usize, height: u
     }
 }
 
-pub fn lut(frame: &mut [u32], preset: u8, strength: f32) {
+pub fn lut(frame: &mut [u32], preset: u8, strength: f32) -> u32 {
     assert_lendable(frame.as_ptr(), frame.len());
+    assert!(frame.len() <= 1024 * 1024);
     // SAFETY: as said of the passes.
     unsafe { exports::probe_lut(frame.as_mut_ptr(), frame.len(), preset, strength) }
 }
 
-pub fn ntsc(frame: &mut [u32], width: usize, height: usize, strength: f32, bleed: usize) {
+pub fn ntsc(frame: &mut [u32], width: usize, height: usize, strength: f32, bleed: usize) -> u32 {
     assert_frame(frame, width, height);
     assert!(bleed <= 64);
     let (start, len) = (frame.as_mut_ptr(), frame.len());
@@ -304,7 +307,7 @@ pub fn ntsc(frame: &mut [u32], width: usize, height: usize, strength: f32, bleed
     unsafe { exports::probe_ntsc(start, len, width, height, strength, bleed) }
 }
 
-/// Gives the count that is held after the call. It takes no width and no height: the frame may be
+/// Gives the count that is held after the call, and the clipped channels. It takes no width and no height: the frame may be
 /// of any shape.
 pub fn persistence(
     frame: &mut [u32],
@@ -313,7 +316,7 @@ pub fn persistence(
     amount: f32,
     depth: u8,
     held: u32,
-) -> u32 {
+) -> (u32, u32) {
     assert_lendable(frame.as_ptr(), frame.len());
     assert_lendable(history.as_ptr(), history.len());
     assert_lendable(scratch.as_ptr(), scratch.len());
@@ -321,8 +324,9 @@ pub fn persistence(
     assert!((1..=8).contains(&depth));
     assert!(history.len() >= usize::from(depth) * frame.len());
     assert!(scratch.len() >= frame.len());
+    let mut clipped = [u32::MAX];
     // SAFETY: as said of the passes.
-    unsafe {
+    let held = unsafe {
         exports::probe_persistence(
             frame.as_mut_ptr(),
             frame.len(),
@@ -333,8 +337,10 @@ pub fn persistence(
             amount,
             depth,
             held,
+            clipped.as_mut_ptr(),
         )
-    }
+    };
+    (held, clipped[0])
 }
 
 pub fn scanlines(frame: &mut [u32], width: usize, height: usize, strength: f32) {

@@ -176,6 +176,8 @@ pub struct FrameTally {
     name: &'static str,
     frames: u64,
     words: u64,
+    /// The channels that the original clips.
+    clipped: u64,
     different: u64,
     /// The first few differences, each with the place of its case.
     shown: Vec<(usize, String)>,
@@ -187,6 +189,7 @@ impl FrameTally {
             name,
             frames: 0,
             words: 0,
+            clipped: 0,
             different: 0,
             shown: Vec::new(),
         }
@@ -225,6 +228,25 @@ impl FrameTally {
         self.different += different as u64 - 1;
     }
 
+    /// Holds the clipped channels that are reported here to those of the original.
+    pub fn check_clipped(
+        &mut self,
+        at: usize,
+        here: u32,
+        original: u32,
+        what: impl FnOnce() -> String,
+    ) {
+        self.clipped += u64::from(original);
+        if here != original {
+            self.differ(at, || {
+                format!(
+                    "{}: here {here} clipped channels, original {original}",
+                    what()
+                )
+            });
+        }
+    }
+
     /// Counts a difference.
     #[cold]
     pub fn differ(&mut self, at: usize, text: impl FnOnce() -> String) {
@@ -238,6 +260,7 @@ impl FrameTally {
     pub fn join(&mut self, other: FrameTally) {
         self.frames += other.frames;
         self.words += other.words;
+        self.clipped += other.clipped;
         self.different += other.different;
         self.shown.extend(other.shown);
         self.shown.sort_by_key(|&(at, _)| at);
@@ -251,12 +274,13 @@ impl fmt::Display for FrameTally {
             name,
             frames,
             words,
+            clipped,
             different,
             shown,
         } = self;
         writeln!(
             f,
-            "{name}: {frames} frames, {words} words compared, {different} different{}",
+            "{name}: {frames} frames, {words} words, {clipped} clipped channels compared, {different} different{}",
             first(shown)
         )?;
         for (_, text) in shown {

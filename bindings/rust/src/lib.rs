@@ -26,6 +26,7 @@ pub(crate) mod exports {
             floats_len: usize,
             ints: *mut u32,
             ints_len: usize,
+            clipped: *mut u32,
         ) -> u32;
         pub fn hedgemallow_reset(state: *mut u8) -> u32;
         pub fn hedgemallow_set_enabled(state: *mut u8, kind: u8, on: u8) -> u32;
@@ -153,7 +154,8 @@ impl Station {
         report(unsafe { exports::hedgemallow_write(self.state.as_ptr(), to, len) }).map(|n| n as usize)
     }
 
-    /// A frame: the passes that are on, over the first width * height words of the framebuffer.
+    /// A frame: the passes that are on, over the first width * height words of the framebuffer. The answer is how many channels
+    /// their final conversions clipped.
     pub fn apply(
         &mut self,
         framebuffer: &mut [u32],
@@ -162,7 +164,8 @@ impl Station {
         history: &mut [u32],
         floats: &mut [f32],
         ints: &mut [u32],
-    ) -> Result<(), Refusal> {
+    ) -> Result<u32, Refusal> {
+        let mut clipped = [0];
         let answer = unsafe {
             exports::hedgemallow_apply(
                 self.state.as_mut_ptr(),
@@ -176,9 +179,10 @@ impl Station {
                 floats.len(),
                 ints.as_mut_ptr(),
                 ints.len(),
+                clipped.as_mut_ptr(),
             )
         };
-        report(answer).map(|_| ())
+        report(answer).map(|_| clipped[0])
     }
 
     /// Forgets what the history holds.
@@ -310,6 +314,16 @@ mod tests {
         assert_eq!(Station::open(&[]), Err(TornCard));
         assert_eq!(opened().write(&mut []), Err(ShortCardBuffer));
         assert_eq!(opened().apply(&mut [], 1, 1, &mut [], &mut [], &mut []), Err(ShortFrame));
+    }
+
+    /// Colour 1, 1, 1, 1: black comes to lie exactly at the top end, and all three channels of any other grey above it.
+    #[test]
+    fn a_frame_reports_its_clipped_channels() {
+        let card = [0x11, 0x79, 0xFC, 0, 0, 1, 0xFC, 0, 0, 1, 0xFC, 0, 0, 1, 0xFC, 0, 0, 0];
+        let mut station = Station::open(&card).unwrap();
+        let mut frame = [0, 0x010101, 0, 0x808080];
+        assert_eq!(station.apply(&mut frame, 2, 2, &mut [], &mut [0.0; 24], &mut [0; 4]), Ok(6));
+        assert_eq!(frame, [0xFFFFFF; 4]);
     }
 
     #[test]

@@ -7,14 +7,10 @@ use lib.Dec.{leb, ltb, eqb}
 use lib.ListN.{length, getD}
 use Rattle.num.specs.Refusals.{badSide, unless}
 use Rattle.num.specs.Rewrite.{rewrite}
+unfoldable pub use Rattle.num.specs.Sums.{sum}
 use Rattle.areas.specs.declared.area.Area.{Area}
 use Rattle.areas.specs.declared.Answer.{Answer}
 use Rattle.areas.specs.declared.Answer.the-variants.{Read, Refused}
-
--- f 0 + .. + f (n - 1)
-unfoldable pub sum : ℕ → (ℕ → ℕ) → ℕ
-sum zero f = 0
-sum (suc n) f = sum n f + f n
 
 -- whether p holds of a number below n
 unfoldable pub some : ℕ → (ℕ → Bool) → Bool

@@ -104,9 +104,10 @@ frame-whole w h words past floats ints s t =
     subst (λ (l : List ℕ). Whole (frameReply w h s words l floats ints .station)) (take-length past)
     (call-whole (frame w h words (length past) floats ints) (with-past s past) t)
 
-frame-state : (w h : ℕ) (b words past : List ℕ) (floats ints : ℕ) → isState b ≡ true → isState (frameShown w h b words past floats ints .state) ≡ true
+frame-state : (w h : ℕ) (b words past : List ℕ) (floats ints : ℕ) (old : List ℕ) → isState b ≡ true
+    → isState (frameShown w h b words past floats ints old .state) ≡ true
 unfolding frameShown
-frame-state w h b words past floats ints e =
+frame-state w h b words past floats ints old e =
     let r : Framed = frameReply w h (stationIn b) words past floats ints in
     rw e (left-state (r .answer) b (encoded (r .station)) e (encoded-state (r .station) (frame-whole w h words past floats ints (stationIn b) (state-whole b e))))
 

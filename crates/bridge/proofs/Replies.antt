@@ -3,26 +3,29 @@ use Prim.Native.Nat.{ℕ, _+_, _*_}
 use native.Mathlib.Omega.{arith}
 use mathlib.Core.Path.{_≡_, refl, ap, sym, subst, _∙_}
 use mathlib.Core.Bool.{Bool, true, false}
-use mathlib.Core.List.{List}
+use mathlib.Core.List.{List, [], _∷_}
 use borrow.Author.Tests.{ne-eqb}
 use lib.Ieee.{Float}
 use lib.ListN.{length, drop}
 use Rattle.chain.specs.Alike.{chainOf}
-use Rattle.chain.specs.Answers.{reported, reportedStep, called, cycled, free, Applies}
-use Rattle.chain.specs.Calls.{Reply, reply, frameReply}
+use Rattle.chain.specs.Answers.{reported, reportedFrame, reportedStep, cycled, free, Applies}
+use Rattle.chain.specs.Calls.{Reply, reply, framed, frameReply}
 use Rattle.chain.specs.Card.{accepted, openOf}
 use Rattle.chain.specs.Chain.{depth}
 use Rattle.chain.specs.Write.{writeAnswer, writeInto}
-use Rattle.chain.specs.declared.pipeline.Called.{Called}
+use Rattle.chain.specs.declared.pipeline.Applied.{Applied}
 use Rattle.chain.specs.declared.pipeline.Cycle.{Cycle}
 use Rattle.chain.specs.declared.pipeline.Cycle.the-variants as Cycle
 use Rattle.chain.specs.declared.pipeline.Cycled.{Cycled}
+use Rattle.chain.specs.declared.pipeline.FrameAnswer.{FrameAnswer}
+use Rattle.chain.specs.declared.pipeline.FrameAnswer.the-variants as Frame
 use Rattle.chain.specs.declared.reader.Opened.{Opened}
 use Rattle.chain.specs.declared.station.Answer.{Answer}
 use Rattle.chain.specs.declared.station.Answer.the-variants.{Accepted, Refused}
 use Rattle.chain.specs.declared.station.Station.{Station}
 use Rattle.chain.specs.declared.writer.Written.{Written}
-use Rattle.bridge.specs.Outcomes.{told, Outcome, outcome, answered, damaged, opening, onState, depthTold, wrote, writeTold, writeLeft, shown, framedShown, frameShown, freed, Frames}
+use Rattle.bridge.specs.Outcomes.{Outcome, outcome, answered, damaged, opening, onState, depthTold, wrote, writeTold, writeLeft}
+use Rattle.bridge.specs.Outcomes.{Shown, shown, framedNumber, framedShown, frameShown, freed, Frames}
 use Rattle.bridge.specs.State.{encoded, stationIn, isState, decoded}
 
 pub opens : (card b : List ℕ) (o : Opened) (x : Outcome) → o ≡ openOf card → x ≡ answered b (reply (reported (o .answer)) (o .station)) → x ≡ opening card b
@@ -123,27 +126,40 @@ write-some b buf new s x n t e f h = (
 
 -- ## Frame
 
-freed-is : (a : Answer) (k : ℕ) → freed (told (reported a)) k ≡ free a k
-freed-is Accepted k = refl
-freed-is (Refused e) k = rw (ne-eqb (256 + e) 0 (λ z. omega (arith, z)))
+freed-is : (a : FrameAnswer) (k : ℕ) → freed (framedNumber (reportedFrame a)) k ≡ free a k
+freed-is (Frame.Shown n) k = refl
+freed-is (Frame.Refused e) k = rw (ne-eqb (256 + e) 0 (λ z. omega (arith, z)))
 
-module _ (w h : ℕ) (b words past : List ℕ) (floats : List Float) (ints : List ℕ) where
-  pub frame-none : (k n : ℕ) → Unread b k → n ≡ 256 + k → Frames w h b words past floats ints n b words past floats ints
+-- what a frame tells: that it is shown, with its clipped channels, or refused
+module _ (b old words past : List ℕ) (r : Applied) where
+  abbrev tells : Shown
+  tells = framedShown b old (framed (reportedFrame (r .answer)) (r .station) words past)
+
+  by-answer : {a : FrameAnswer} → r .answer ≡ a → framedShown b old (framed (reportedFrame a) (r .station) words past) ≡ tells
+  by-answer e = ap (λ (x : FrameAnswer). framedShown b old (framed (reportedFrame x) (r .station) words past)) (sym e)
+
+  pub shows : (new : List ℕ) (n : ℕ) → r .answer ≡ Frame.Shown n → new ≡ encoded (r .station) → shown 0 new words past (n ∷ []) ≡ tells
+  shows new n e f = ap (λ (z : List ℕ). shown 0 z words past (n ∷ [])) f ∙ by-answer e
+
+  pub shows-none : (k n : ℕ) → r .answer ≡ Frame.Refused k → n ≡ 256 + k → shown n b words past old ≡ tells
+  shows-none k n e f = ap (λ (m : ℕ). shown m b words past old) f ∙ by-answer e
+
+module _ (w h : ℕ) (b words past : List ℕ) (floats : List Float) (ints old : List ℕ) where
+  pub frame-none : (k n : ℕ) → Unread b k → n ≡ 256 + k → Frames w h b words past floats ints old n b words past floats ints old
   unfolding frameShown
   frame-none k n u e =
-      record { replies = rw (u .broken) (ap (λ (m : ℕ). shown m b words past) (e ∙ u .by-13)); floats-stay = refl; ints-stay = refl }
+      record { replies = rw (u .broken) (ap (λ (m : ℕ). shown m b words past old) (e ∙ u .by-13)); floats-stay = refl; ints-stay = refl }
 
-  pub frame-some : (s : Station) (r : Called) (n : ℕ) (b′ words′ past′ : List ℕ) (floats′ : List Float) (ints′ : List ℕ) → Read b s
-      → Applies w h s words past floats ints r words′ past′ floats′ ints′ → outcome n b′ ≡ answered b (called r)
-      → Frames w h b words past floats ints n b′ words′ past′ floats′ ints′
+  pub frame-some : (s : Station) (r : Applied) (n : ℕ) (b′ words′ past′ : List ℕ) (floats′ : List Float) (ints′ new : List ℕ) → Read b s
+      → Applies w h s words past floats ints r words′ past′ floats′ ints′ → shown n b′ words′ past′ new ≡ tells b old words′ past′ r
+      → Frames w h b words past floats ints old n b′ words′ past′ floats′ ints′ new
   unfolding frameShown
-  frame-some s r n b′ words′ past′ floats′ ints′ t a e =
-      let same : (k : ℕ) → freed n k ≡ free (r .answer) k = λ k. ap (λ (o : Outcome). freed (o .number) k) e ∙ freed-is (r .answer) k in
+  frame-some s r n b′ words′ past′ floats′ ints′ new t a e =
+      let same : (k : ℕ) → freed n k ≡ free (r .answer) k = λ k. ap (λ (o : Shown). freed (o .number) k) e ∙ freed-is (r .answer) k in
       record {
         replies =
             rw (t .sound)
-            (ap (λ (o : Outcome). shown (o .number) (o .state) words′ past′) e
-            ∙ ap (framedShown b) (a .replies ∙ ap (λ (q : Station). frameReply w h q words past (length floats) (length ints)) (t .station)));
+            (e ∙ ap (framedShown b old) (a .replies ∙ ap (λ (q : Station). frameReply w h q words past (length floats) (length ints)) (t .station)));
         floats-stay = subst (λ (j : ℕ). drop j floats′ ≡ drop j floats) (sym (same (6 * (h * w)))) (a .floats-stay);
         ints-stay = subst (λ (j : ℕ). drop j ints′ ≡ drop j ints) (sym (same (h * w))) (a .ints-stay);
       }

@@ -1,5 +1,5 @@
 -- What the exports answer and leave: each is chain's call on the station of the state, through the one encoding. The number is what the call reports, 0 where it
--- reports nothing, or 256 and the refusal's number. Assumes nothing.
+-- reports nothing, or 256 and the refusal's number; what a frame reports goes to a place of its own, since it may be above 255. Assumes nothing.
 use Prim.Native.Nat.{ℕ, _+_, _*_}
 use mathlib.Core.Path.{_≡_}
 use mathlib.Core.Bool.{cond}
@@ -68,28 +68,41 @@ writeLeft b buf = cond (isState b) (writeInto (stationIn b) buf) buf
 
 -- ## Frame
 
+-- `reports` is what stands in the place for what it reports
 pub record Shown : Type 0 where
   pub number : ℕ
   pub state : List ℕ
   pub words : List ℕ
   pub past : List ℕ
+  pub reports : List ℕ
 
-abbrev pub shown : ℕ → (state words past : List ℕ) → Shown
-shown number state words past = record { number = number; state = state; words = words; past = past }
+abbrev pub shown : ℕ → (state words past reports : List ℕ) → Shown
+shown number state words past reports = record { number = number; state = state; words = words; past = past; reports = reports }
 
-abbrev pub framedShown : List ℕ → Framed → Shown
-framedShown b r = shown (told (r .answer)) (left (r .answer) b (encoded (r .station))) (r .words) (r .past)
+abbrev pub framedNumber : Report → ℕ
+framedNumber (refusal k) = 256 + k
+framedNumber (acceptance r) = 0
+
+-- a refusal leaves that place as it was
+abbrev pub framedReports : Report → List ℕ → List ℕ
+framedReports (refusal k) old = old
+framedReports (acceptance r) old = r
+
+abbrev pub framedShown : (b old : List ℕ) → Framed → Shown
+framedShown b old r =
+    shown (framedNumber (r .answer)) (left (r .answer) b (encoded (r .station))) (r .words) (r .past) (framedReports (r .answer) old)
 
 -- `floats` and `ints` are the lengths of the scratches
-unfoldable pub frameShown : (w h : ℕ) → (b words past : List ℕ) → (floats ints : ℕ) → Shown
-frameShown w h b words past floats ints = cond (isState b) (framedShown b (frameReply w h (stationIn b) words past floats ints)) (shown damaged b words past)
+unfoldable pub frameShown : (w h : ℕ) → (b words past : List ℕ) → (floats ints : ℕ) → (old : List ℕ) → Shown
+frameShown w h b words past floats ints old =
+    cond (isState b) (framedShown b old (frameReply w h (stationIn b) words past floats ints)) (shown damaged b words past old)
 
 -- the scratch words that a frame may change: k, or none where it is refused
 abbrev pub freed : (number k : ℕ) → ℕ
 freed number k = cond (eqb number 0) k 0
 
--- what a frame promises: the number, the state, the framebuffer, the history, and the scratch words that stay
-pub record Frames (w h : ℕ) (b words past : List ℕ) (floats : List Float) (ints : List ℕ) (number : ℕ) (b′ words′ past′ : List ℕ) (floats′ : List Float) (ints′ : List ℕ) : Type 0 where
-  pub replies : shown number b′ words′ past′ ≡ frameShown w h b words past (length floats) (length ints)
+-- what a frame promises: the number, the state, the framebuffer, the history, the number of clipped channels, and the scratch words that stay
+pub record Frames (w h : ℕ) (b words past : List ℕ) (floats : List Float) (ints clipped : List ℕ) (number : ℕ) (b′ words′ past′ : List ℕ) (floats′ : List Float) (ints′ clipped′ : List ℕ) : Type 0 where
+  pub replies : shown number b′ words′ past′ clipped′ ≡ frameShown w h b words past (length floats) (length ints) clipped
   pub floats-stay : drop (freed number (6 * (h * w))) floats′ ≡ drop (freed number (6 * (h * w))) floats
   pub ints-stay : drop (freed number (h * w)) ints′ ≡ drop (freed number (h * w)) ints

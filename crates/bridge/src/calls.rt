@@ -13,6 +13,7 @@ use super::state::decode;
 use super::state::encode;
 use chain::pipeline;
 use chain::pipeline::Cycle;
+use chain::pipeline::FrameAnswer;
 use chain::reader;
 use chain::station::Answer;
 use chain::station::Station;
@@ -65,7 +66,7 @@ pub extern "C" fn hedgemallow_write(state: &[u8; 80], buffer: &mut [u8]) -> u32
     }
 }
 
-// A frame.
+// A frame; and how many channels were clipped.
 #[no_mangle]
 pub extern "C" fn hedgemallow_apply(
     state: &mut [u8; 80],
@@ -75,8 +76,11 @@ pub extern "C" fn hedgemallow_apply(
     history: &mut [u32],
     floats: &mut [f32],
     ints: &mut [u32],
+    clipped: &mut [u32; 1],
 ) -> u32
-    ensures { λ r. ⌜ Frames width height (now (state .entry)) (now (framebuffer .entry)) (now (history .entry)) (now (floats .entry)) (now (ints .entry)) r (now (state .exit)) (now (framebuffer .exit)) (now (history .exit)) (now (floats .exit)) (now (ints .exit)) ⌝ }
+    ensures { λ r. ⌜ Frames width height (now (state .entry)) (now (framebuffer .entry)) (now (history .entry)) (now (floats .entry)) (now (ints .entry))
+        (now (clipped .entry)) r (now (state .exit)) (now (framebuffer .exit)) (now (history .exit)) (now (floats .exit)) (now (ints .exit))
+        (now (clipped .exit)) ⌝ }
 {
     let opened = decode(*state);
     let answer = opened.answer;
@@ -84,10 +88,17 @@ pub extern "C" fn hedgemallow_apply(
     if let Answer::Refused(k) = answer {
         return refusal(k);
     }
-    let called = pipeline::apply(station, framebuffer, width, height, history, floats, ints);
-    let told = called.answer;
-    let after = called.station;
-    keep(told, after, state)
+    let applied = pipeline::apply(station, framebuffer, width, height, history, floats, ints);
+    let told = applied.answer;
+    let after = applied.station;
+    match told {
+        FrameAnswer::Shown { clipped: n } => {
+            *state = encode(after);
+            *clipped = [n];
+            0
+        }
+        FrameAnswer::Refused(k) => refusal(k),
+    }
 }
 
 // Forgets what the history holds.

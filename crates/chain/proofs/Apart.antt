@@ -11,7 +11,8 @@ use lib.Dec.{leb, eqb}
 use lib.Ieee.{Float}
 use lib.ListN.{length, take}
 use Rattle.num.specs.Const.{c0·0, c0·95}
-use Rattle.passes.specs.Flow.{sized, Flow}
+use Rattle.passes.specs.Flow.{sized, Flow, flow}
+use Rattle.passes.specs.Painted.{Painted, onto}
 use Rattle.passes.specs.Fold.{fold}
 use Rattle.passes.specs.Lengths.{persistence-length, history-length, persistence-held}
 use Rattle.passes.specs.Plain.Persistence.{persistence}
@@ -50,21 +51,30 @@ depth-among (r ∷ rs) e =
 
 -- ## Records without persistence that is on
 
+-- they change the frame alone, its words and what was clipped
+abbrev pub repaint : (Painted → Painted) → Flow → Flow
+repaint paint x = flow (paint (x .frame)) (x .held) (x .past)
+
 pub record Washes (rs : List Record) : Type 0 where
-  pub paint : (w h : ℕ) → List ℕ → List ℕ
-  pub keeps : (w h : ℕ) (frame : List ℕ) → length (paint w h frame) ≡ length frame
-  pub whole : (w h : ℕ) (x : Flow) → chain w h rs x ≡ wash (paint w h) x
+  pub paint : (w h : ℕ) → Painted → Painted
+  pub keeps : (w h : ℕ) (frame : Painted) → length (paint w h frame .words) ≡ length (frame .words)
+  pub whole : (w h : ℕ) (x : Flow) → chain w h rs x ≡ repaint (paint w h) x
 
 unwashed : (r : Record) → r .on ≡ false → Washes (r ∷ [])
-unfolding fold turnBy wash
+unfolding fold turnBy
 unwashed r e = record { paint = λ w h frame. frame; keeps = λ w h frame. refl; whole = λ w h x. rw e }
 
 washed : (r : Record) → Plain (r .pass) → Washes (r ∷ [])
-unfolding fold turnBy
+unfolding fold turnBy wash
 washed r m = go (r .on) refl
   where
     go : (b : Bool) → r .on ≡ b → Washes (r ∷ [])
-    go true e = record { paint = m .paint; keeps = m .keeps; whole = λ w h x. rw e (m .whole w h x) }
+    go true e =
+        record {
+          paint = λ w h. onto (m .paint w h);
+          keeps = λ w h frame. m .paints w h (frame .words) .long;
+          whole = λ w h x. rw e (m .whole w h x);
+        }
     go false e = unwashed r e
 
 washes-one : (r : Record) → eqb (kindOf (r .pass)) 4 && r .on ≡ false → Washes (r ∷ [])
@@ -74,7 +84,7 @@ washes-one r e =
     (r .pass) e
 
 washes-more : (r : Record) (rs : List Record) → Washes (r ∷ []) → Washes rs → Washes (r ∷ rs)
-unfolding fold wash
+unfolding fold
 washes-more r rs a b =
     record {
       paint = λ w h frame. b .paint w h (a .paint w h frame);
@@ -83,7 +93,7 @@ washes-more r rs a b =
     }
 
 washes : (rs : List Record) → persists rs ≡ false → Washes rs
-unfolding fold persists wash
+unfolding fold persists
 washes [] e = record { paint = λ w h frame. frame; keeps = λ w h frame. refl; whole = λ w h x. refl }
 washes (r ∷ rs) e =
     let d = neither (eqb (kindOf (r .pass)) 4 && r .on) (persists rs) e in
@@ -94,15 +104,15 @@ washes (r ∷ rs) e =
 -- what stands before it, persistence, and what stands after it
 pub record Keeps (rs : List Record) : Type 0 where
   pub amount : Float
-  pub before : (w h : ℕ) → List ℕ → List ℕ
-  pub after : (w h : ℕ) → List ℕ → List ℕ
-  pub before-keeps : (w h : ℕ) (frame : List ℕ) → length (before w h frame) ≡ length frame
-  pub after-keeps : (w h : ℕ) (frame : List ℕ) → length (after w h frame) ≡ length frame
+  pub before : (w h : ℕ) → Painted → Painted
+  pub after : (w h : ℕ) → Painted → Painted
+  pub before-keeps : (w h : ℕ) (frame : Painted) → length (before w h frame .words) ≡ length (frame .words)
+  pub after-keeps : (w h : ℕ) (frame : Painted) → length (after w h frame .words) ≡ length (frame .words)
   pub some-depth : 1 ≤ depth rs
-  pub whole : (w h : ℕ) (x : Flow) → chain w h rs x ≡ wash (after w h) (persistence amount (depth rs) (sized w h) (wash (before w h) x))
+  pub whole : (w h : ℕ) (x : Flow) → chain w h rs x ≡ repaint (after w h) (persistence amount (depth rs) (sized w h) (repaint (before w h) x))
 
 keeps-later : (r : Record) (rs : List Record) → Plain (r .pass) → Keeps rs → Keeps (r ∷ rs)
-unfolding fold wash depth
+unfolding fold depth
 keeps-later r rs m s =
     let a = washed r m in
     record {
@@ -117,7 +127,7 @@ keeps-later r rs m s =
 
 keeps-now : (seen : List ℕ) (on : Bool) (amount : Float) (k : ℕ) (rs : List Record) → Headed seen (Persistence amount k) rs
     → on || persists rs ≡ true → Keeps (record { on = on; pass = Persistence amount k } ∷ rs)
-unfolding fold turnBy overBy wash depth normalPass
+unfolding fold turnBy overBy depth normalPass
 keeps-now seen true amount k rs q e =
     let rest = absent rs (no-second seen (Persistence amount k) rs q) in
     let a = washes rs (rest .0) in
@@ -160,54 +170,46 @@ module _ (w h : ℕ) (rs : List Record) where
   abbrev Enough : Flow → Type 0
   Enough = Fits (depth rs) (sized w h)
 
-  pub frame-length : Apart rs → (x : Flow) → length (chain w h rs x .frame) ≡ length (x .frame)
-  unfolding wash
-  frame-length (quiet e a) x = ap (λ (y : Flow). length (y .frame)) (a .whole w h x) ∙ a .keeps w h (x .frame)
+  pub frame-length : Apart rs → (x : Flow) → length (chain w h rs x .frame .words) ≡ length (x .frame .words)
+  frame-length (quiet e a) x = ap (λ (y : Flow). length (y .frame .words)) (a .whole w h x) ∙ a .keeps w h (x .frame)
   frame-length (keeping e a) x =
-      ap (λ (y : Flow). length (y .frame)) (a .whole w h x)
+      ap (λ (y : Flow). length (y .frame .words)) (a .whole w h x)
       ∙ a .after-keeps w h _
-      ∙ persistence-length (a .amount) (depth rs) (sized w h) (wash (a .before w h) x)
+      ∙ persistence-length (a .amount) (depth rs) (sized w h) (repaint (a .before w h) x)
       ∙ a .before-keeps w h (x .frame)
 
   pub past-length : Apart rs → (x : Flow) → Enough x → length (chain w h rs x .past) ≡ length (x .past)
-  unfolding wash
   past-length (quiet e a) x fits = ap (λ (y : Flow). length (y .past)) (a .whole w h x)
   past-length (keeping e a) x fits =
-      let long : length (a .before w h (x .frame)) ≡ h * w = a .before-keeps w h (x .frame) ∙ fits .long in
+      let long : length (a .before w h (x .frame) .words) ≡ h * w = a .before-keeps w h (x .frame) ∙ fits .long in
       ap (λ (y : Flow). length (y .past)) (a .whole w h x)
-      ∙ history-length (a .amount) (depth rs) (sized w h) (wash (a .before w h) x) (rw long (fits .room))
+      ∙ history-length (a .amount) (depth rs) (sized w h) (repaint (a .before w h) x) (rw long (fits .room))
 
   pub chain-held : Keeps rs → (x : Flow) → chain w h rs x .held ≡ sized w h
-  unfolding wash
-  chain-held a x = ap (λ (y : Flow). y .held) (a .whole w h x) ∙ persistence-held (a .amount) (depth rs) (sized w h) (wash (a .before w h) x)
+  chain-held a x = ap (λ (y : Flow). y .held) (a .whole w h x) ∙ persistence-held (a .amount) (depth rs) (sized w h) (repaint (a .before w h) x)
 
-  before-fits : (a : Keeps rs) (x : Flow) → Enough x → Enough (wash (a .before w h) x)
-  unfolding wash
+  before-fits : (a : Keeps rs) (x : Flow) → Enough x → Enough (repaint (a .before w h) x)
   before-fits a x fits = record { long = a .before-keeps w h (x .frame) ∙ fits .long; room = fits .room }
 
   -- two flows through it
   module _ (x y : Flow) (same : x .frame ≡ y .frame) (fits : Enough x) (fits′ : Enough y) where
     before-near : (a : Keeps rs) (m : ℕ) → Near m (x .held) (y .held) (x .past) (y .past)
-        → let u = wash (a .before w h) x in let v = wash (a .before w h) y in Near m (u .held) (v .held) (u .past) (v .past)
-    unfolding wash
+        → let u = repaint (a .before w h) x in let v = repaint (a .before w h) y in Near m (u .held) (v .held) (u .past) (v .past)
     before-near a m near = record { same-held = near .same-held; places = near .places }
 
-    before-same : (a : Keeps rs) → wash (a .before w h) x .frame ≡ wash (a .before w h) y .frame
-    unfolding wash
+    before-same : (a : Keeps rs) → repaint (a .before w h) x .frame ≡ repaint (a .before w h) y .frame
     before-same a = ap (a .before w h) same
 
     -- where m places agree, one more does
     pub chain-near : Keeps rs → (m : ℕ) → suc m ≤ depth rs → Near m (x .held) (y .held) (x .past) (y .past)
         → take (suc m * (h * w)) (chain w h rs x .past) ≡ take (suc m * (h * w)) (chain w h rs y .past)
-    unfolding wash
     chain-near a m le near =
         ap (λ (z : Flow). take (suc m * (h * w)) (z .past)) (a .whole w h x)
-        ∙ near-more (a .amount) (depth rs) (sized w h) _ _ (before-same a) (before-fits a x fits) (before-fits a y fits′) m le (before-near a m near)
+        ∙ near-more (a .amount) (depth rs) (sized w h) _ _ (ap (λ (p : Painted). p .words) (before-same a)) (before-fits a x fits) (before-fits a y fits′) m le (before-near a m near)
         ∙ sym (ap (λ (z : Flow). take (suc m * (h * w)) (z .past)) (a .whole w h y))
 
-    -- where all do, the pictures do
+    -- where all do, the pictures do, and what was clipped
     pub chain-picture : Apart rs → Near (depth rs) (x .held) (y .held) (x .past) (y .past) → chain w h rs x .frame ≡ chain w h rs y .frame
-    unfolding wash
     chain-picture (quiet e a) near =
         ap (λ (z : Flow). z .frame) (a .whole w h x) ∙ ap (a .paint w h) same ∙ sym (ap (λ (z : Flow). z .frame) (a .whole w h y))
     chain-picture (keeping e a) near =

@@ -8,13 +8,15 @@ use mathlib.Core.List.{List, [], _∷_, map}
 use lib.Ieee.{ofBits, ofInt, add, mul, div, lt, eq}
 use lib.ListN.{drop}
 use Rattle.num.specs.Cases.{Hold}
-use Rattle.num.specs.Const.{c0·5, c1·0}
+use Rattle.num.specs.Const.{c0·30, c0·5, c1·0}
 use Rattle.num.specs.Refusals.{badSide, unless}
 use Rattle.num.specs.Rewrite.{rewrite}
 use Rattle.num.specs.Steps.{clampOf, cutOf, plusZeroOf, limitOf}
+use Rattle.num.specs.Sums.{sum}
 use Rattle.passes.specs as Text
 use Rattle.passes.specs.Flow.{sameHeld, fineHeld}
 use Rattle.passes.specs.Fold.{fold}
+use Rattle.passes.specs.Painted.{converted}
 use Rattle.passes.specs.Plain.Persistence as Persistence
 use Rattle.chain.specs.Agree.{opened, SameCall, frames, none, more, before, point}
 use Rattle.chain.specs.Bits.{valueAt, fieldAt}
@@ -94,10 +96,20 @@ shows =
     ∷ (pictures (saw old (switch 4 false ∷ switch 4 true ∷ shared 7)), [] ∷ [] ∷ (0 ∷ []) ∷ (0x242424 ∷ []) ∷ (0x5a5a5a ∷ []) ∷ (0xbdbdbd ∷ []) ∷ [])
     ∷ []
 
--- what the own list reports: acceptance, refusal 10, and the presets
+-- persistence 0.3 of depth 1, which clips a white frame over a white one, since its weights add up to more than 1
+abbrev tube : Station
+tube = stationOf (record { on = true; pass = Persistence c0·30 1 } ∷ [])
+
+abbrev white : Call
+white = frame 1 1 (0xffffff ∷ []) 1 6 1
+
+-- What the own list reports: acceptance with no channel clipped, refusal 10, and the presets. Before the point of agreement two stations may report different
+-- numbers: the first shared frame is mixed by one, and fills the history of the other.
 abbrev reports : List (List Report × List Report)
 reports =
-    (answers (saw (opened station (90 ∷ 91 ∷ 92 ∷ [])) own), acceptance [] ∷ refusal 10 ∷ map (λ p. acceptance (p ∷ [])) (0 ∷ 1 ∷ 2 ∷ 3 ∷ 4 ∷ 5 ∷ 6 ∷ []))
+    (answers (saw (run (opened tube (7 ∷ [])) (white ∷ [])) (white ∷ white ∷ [])), acceptance (3 ∷ []) ∷ acceptance (3 ∷ []) ∷ [])
+    ∷ (answers (saw (opened tube (7 ∷ [])) (white ∷ white ∷ [])), acceptance (0 ∷ []) ∷ acceptance (3 ∷ []) ∷ [])
+    ∷ (answers (saw (opened station (90 ∷ 91 ∷ 92 ∷ [])) own), acceptance (0 ∷ []) ∷ refusal 10 ∷ map (λ p. acceptance (p ∷ [])) (0 ∷ 1 ∷ 2 ∷ 3 ∷ 4 ∷ 5 ∷ 6 ∷ []))
     ∷ []
 
 -- Of the shared list the point is the call after the second frame. A reset and a switching-off agree themselves; a switch to the present position, a switch of
@@ -118,8 +130,8 @@ pub runs-hold : Hold shows × Hold reports × Hold points
 unfolding point before saw run after call frameReplyBy unless shownBy stops lacks goodStation fineHeld sameHeld
     badSide settled normalPass normalChain persists depth fold turnBy overBy wash onFirst presets ofBits ofInt add mul div
     lt clampOf cutOf rewrite Text.Pixel.unpack Text.Pixel.pack Text.Pixel.packLimited Text.Persistence.persistence
-    Text.Persistence.decay Text.Persistence.total Text.Persistence.add Text.Persistence.mix Text.Persistence.pixel
-    Text.Persistence.blended Text.Persistence.blend Persistence.copies Persistence.refilled Persistence.shifted
+    Text.Persistence.decay Text.Persistence.total Text.Persistence.add Text.Persistence.mix converted sum
+    Text.Pixel.clip Text.Pixel.clips Text.Persistence.blended Text.Persistence.blend Persistence.copies Persistence.refilled Persistence.shifted
 runs-hold = (refl, refl, refl)
 
 -- ## The theorem at these stations
@@ -131,8 +143,8 @@ pub agree : drop 2 (saw old (shared 7)) ≡ drop 2 (saw new (shared 8))
 unfolding point before saw run after call frameReplyBy unless shownBy stops lacks goodStation fineHeld sameHeld
     badSide settled normalPass normalChain persists depth fold turnBy overBy wash onFirst presets ofBits ofInt add mul div
     lt clampOf cutOf rewrite Text.Pixel.unpack Text.Pixel.pack Text.Pixel.packLimited Text.Persistence.persistence
-    Text.Persistence.decay Text.Persistence.total Text.Persistence.add Text.Persistence.mix Text.Persistence.pixel
-    Text.Persistence.blended Text.Persistence.blend Persistence.copies Persistence.refilled Persistence.shifted
+    Text.Persistence.decay Text.Persistence.total Text.Persistence.add Text.Persistence.mix converted sum
+    Text.Pixel.clip Text.Pixel.clips Text.Persistence.blended Text.Persistence.blend Persistence.copies Persistence.refilled Persistence.shifted
 agree =
     demand-3 card other station station opens opens-other refl (90 ∷ 91 ∷ 92 ∷ []) (5 ∷ 6 ∷ []) own [] (record { same-switches = refl; same-presets = refl })
     (shared 7) (shared 8) (more (same 0) (more (same 0x404040) (more (same 0x808080) (more (same 0xffffff) none))))

@@ -3,12 +3,13 @@ use Prim.Native.Nat.{ℕ, zero, suc, _*_, _≤_, _<_}
 use native.Mathlib.Omega.{arith}
 use mathlib.Core.Path.{_≡_, refl, sym, ap, _∙_}
 use mathlib.Core.Bool.{Bool, true, false, not, _||_, cond}
-use mathlib.Core.List.{List, [], _++_}
+use mathlib.Core.List.{List, [], _∷_, _++_}
 use borrow.Author.Tests.{ltb-false, not-false}
 use lib.Dec.{ltb}
 use lib.ListN.{length, take, drop}
 use Rattle.num.specs.Refusals.{badSide, unless, neither, by, side-fine}
 use Rattle.passes.specs.Flow.{Flow, flow}
+use Rattle.passes.specs.Painted.{painted}
 use Rattle.chain.specs.Alike.{chainOf}
 use Rattle.chain.specs.Calls.{hold, stops, refusal, acceptance, framed, refusingFrame, shown, shownBy}
 use Rattle.chain.specs.Calls.{frameReply, frameReplyBy}
@@ -53,10 +54,11 @@ refused-frame zero w h s words past floats ints n e = absurd (n refl)
 refused-frame (suc k) w h s words past floats ints n e = ap (λ (m : ℕ). unless m (refusingFrame s words past) (shown w h s words past)) e
 
 -- or what the chain makes of it
-pub shown-frame : (w h : ℕ) (s : Station) (words past : List ℕ) (floats ints : ℕ) {frame′ past′ : List ℕ} {held′ : ℕ}
-    → stops s w h (length words) (length past) floats ints ≡ 0 → flow frame′ held′ past′ ≡ chain w h (chainOf s) (flow (take (h * w) words) (s .held) past)
-    → framed (acceptance []) (hold held′ s) (frame′ ++ drop (h * w) words) past′ ≡ frameReply w h s words past floats ints
+pub shown-frame : (w h : ℕ) (s : Station) (words past : List ℕ) (floats ints : ℕ) {frame′ past′ : List ℕ} {held′ clipped′ : ℕ}
+    → stops s w h (length words) (length past) floats ints ≡ 0
+    → flow (painted frame′ clipped′) held′ past′ ≡ chain w h (chainOf s) (flow (painted (take (h * w) words) 0) (s .held) past)
+    → framed (acceptance (clipped′ ∷ [])) (hold held′ s) (frame′ ++ drop (h * w) words) past′ ≡ frameReply w h s words past floats ints
 unfolding frameReplyBy unless shownBy
 shown-frame w h s words past floats ints e x =
-    ap (λ (y : Flow). framed (acceptance []) (hold (y .held) s) (y .frame ++ drop (h * w) words) (y .past)) x
+    ap (λ (y : Flow). framed (acceptance (y .frame .clipped ∷ [])) (hold (y .held) s) (y .frame .words ++ drop (h * w) words) (y .past)) x
     ∙ ap (λ (m : ℕ). unless m (refusingFrame s words past) (shown w h s words past)) (sym e)

@@ -11,6 +11,7 @@ use lib.ListN.{length, take, drop, length-append}
 use lib.Seq.{take-append-add, take-append-le, take-take, length-take-le}
 use Rattle.passes.specs as Text
 use Rattle.passes.specs.Flow.{Held, nothing, area, sameHeld, Flow, flow}
+use Rattle.passes.specs.Painted.{Painted, painted, onto}
 use Rattle.passes.specs.Plain.Persistence.{persistence, blend, copies, refilled, shifted}
 use Rattle.passes.specs.PersistenceLaws.{blend-take, length-copies}
 
@@ -74,10 +75,10 @@ module _ (amount : Float) (k : ℕ) (size : Held) where
   through = persistence amount k size
 
   abbrev kept : Flow → Flow
-  kept x = flow (blend amount k (x .past) (x .frame)) size (shifted k (x .frame) (x .past))
+  kept x = flow (onto (blend amount k (x .past)) (x .frame)) size (shifted k (x .frame .words) (x .past))
 
   abbrev begun : Flow → Flow
-  begun x = flow (x .frame) size (refilled k (x .frame) (x .past))
+  begun x = flow (x .frame) size (refilled k (x .frame .words) (x .past))
 
   held-is : (x : Flow) → sameHeld (x .held) size ≡ true → x .held ≡ size
   unfolding sameHeld
@@ -97,32 +98,32 @@ module _ (amount : Float) (k : ℕ) (size : Held) where
 
 -- a flow whose frame has that size, with room for the places of depth k
 pub record Fits (k : ℕ) (size : Held) (x : Flow) : Type 0 where
-  pub long : length (x .frame) ≡ area size
+  pub long : length (x .frame .words) ≡ area size
   pub room : k * area size ≤ length (x .past)
 
 module _ (k m : ℕ) (le : m ≤ k) (size : Held) (x : Flow) (fits : Fits (suc k) size x) where
-  kept-front : take (suc m * area size) (shifted (suc k) (x .frame) (x .past)) ≡ x .frame ++ take (m * area size) (x .past)
+  kept-front : take (suc m * area size) (shifted (suc k) (x .frame .words) (x .past)) ≡ x .frame .words ++ take (m * area size) (x .past)
   kept-front =
-      subst (λ (n : ℕ). suc k * n ≤ length (x .past) → take (suc m * n) (shifted (suc k) (x .frame) (x .past)) ≡ x .frame ++ take (m * n) (x .past))
-      (fits .long) (shifted-front k (x .frame) (x .past) m le) (fits .room)
+      subst (λ (n : ℕ). suc k * n ≤ length (x .past) → take (suc m * n) (shifted (suc k) (x .frame .words) (x .past)) ≡ x .frame .words ++ take (m * n) (x .past))
+      (fits .long) (shifted-front k (x .frame .words) (x .past) m le) (fits .room)
 
-  begun-front : take (suc m * area size) (refilled (suc k) (x .frame) (x .past)) ≡ x .frame ++ take (m * area size) (copies k (x .frame))
+  begun-front : take (suc m * area size) (refilled (suc k) (x .frame .words) (x .past)) ≡ x .frame .words ++ take (m * area size) (copies k (x .frame .words))
   begun-front =
-      subst (λ (n : ℕ). take (suc m * n) (refilled (suc k) (x .frame) (x .past)) ≡ x .frame ++ take (m * n) (copies k (x .frame))) (fits .long)
-      (refilled-front k (x .frame) (x .past) m le)
+      subst (λ (n : ℕ). take (suc m * n) (refilled (suc k) (x .frame .words) (x .past)) ≡ x .frame .words ++ take (m * n) (copies k (x .frame .words))) (fits .long)
+      (refilled-front k (x .frame .words) (x .past) m le)
 
 -- the newest place is the incoming frame, whatever was held
-newest : (amount : Float) (k : ℕ) (size : Held) (x : Flow) → Fits (suc k) size x → take (1 * area size) (persistence amount (suc k) size x .past) ≡ x .frame
+newest : (amount : Float) (k : ℕ) (size : Held) (x : Flow) → Fits (suc k) size x → take (1 * area size) (persistence amount (suc k) size x .past) ≡ x .frame .words
 newest amount k size x fits =
-    by-held amount (suc k) size (λ a b. take (1 * area size) (a .past) ≡ x .frame) x x refl
+    by-held amount (suc k) size (λ a b. take (1 * area size) (a .past) ≡ x .frame .words) x x refl
     (λ t. kept-front k 0 (omega arith) size x fits ∙ none (x .past))
-    (begun-front k 0 (omega arith) size x fits ∙ none (copies k (x .frame)))
+    (begun-front k 0 (omega arith) size x fits ∙ none (copies k (x .frame .words)))
   where
-    none : (l : List ℕ) → x .frame ++ take (0 * area size) l ≡ x .frame
-    none l = rw (zero-mul (area size)) (append-nil (x .frame))
+    none : (l : List ℕ) → x .frame .words ++ take (0 * area size) l ≡ x .frame .words
+    none l = rw (zero-mul (area size)) (append-nil (x .frame .words))
 
 -- a frame that both take: where m places agree, one more does
-pub near-more : (amount : Float) (k : ℕ) (size : Held) (x y : Flow) → x .frame ≡ y .frame → Fits k size x → Fits k size y
+pub near-more : (amount : Float) (k : ℕ) (size : Held) (x y : Flow) → x .frame .words ≡ y .frame .words → Fits k size x → Fits k size y
     → (m : ℕ) → suc m ≤ k → Near m (x .held) (y .held) (x .past) (y .past)
     → take (suc m * area size) (persistence amount k size x .past) ≡ take (suc m * area size) (persistence amount k size y .past)
 near-more amount zero size x y same fits fits′ m le near = absurd (omega arith)
@@ -137,13 +138,17 @@ near-more amount (suc k) size x y same fits fits′ (suc m) le near =
     ∙ ap (λ (f : List ℕ). f ++ take (suc m * area size) (copies k f)) same
     ∙ sym (begun-front k (suc m) fine size y fits′))
 
--- where all k places agree, the pictures do
-pub near-picture : (amount : Float) (k : ℕ) (size : Held) (x y : Flow) → x .frame ≡ y .frame → length (x .frame) ≡ area size
+-- where all k places agree, the pictures do, and what was clipped
+pub near-picture : (amount : Float) (k : ℕ) (size : Held) (x y : Flow) → x .frame ≡ y .frame → length (x .frame .words) ≡ area size
     → 1 ≤ k → Near k (x .held) (y .held) (x .past) (y .past) → persistence amount k size x .frame ≡ persistence amount k size y .frame
 near-picture amount k size x y same long some near =
     by-held amount k size (λ a b. a .frame ≡ b .frame) x y (near .same-held some)
-    (λ t. sym (blend-take amount k (x .past) (x .frame))
-    ∙ ap (λ (l : List ℕ). blend amount k l (x .frame)) (subst (λ (n : ℕ). take (k * n) (x .past) ≡ take (k * n) (y .past)) (t ∙ sym long) (near .places))
-    ∙ blend-take amount k (y .past) (x .frame)
-    ∙ ap (blend amount k (y .past)) same)
+    (λ t.
+    let words = x .frame .words in
+    let blends : blend amount k (x .past) words ≡ blend amount k (y .past) words =
+    sym (blend-take amount k (x .past) words)
+    ∙ ap (λ (l : List ℕ). blend amount k l words) (subst (λ (n : ℕ). take (k * n) (x .past) ≡ take (k * n) (y .past)) (t ∙ sym long) (near .places))
+    ∙ blend-take amount k (y .past) words in
+    ap (λ (b : Painted). painted (b .words) (x .frame .clipped + b .clipped)) blends
+    ∙ ap (onto (blend amount k (y .past))) same)
     same

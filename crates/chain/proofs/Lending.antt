@@ -1,5 +1,7 @@
 -- What a ready pass may rely on, and what it leaves when it is one pass of the chain. Assumes nothing.
-use Prim.Native.Nat.{ℕ, _*_, _≤_}
+use Prim.Native.Nat.{ℕ, _+_, _*_, _≤_}
+use native.Mathlib.Nat.{zero-add, add-zero}
+use native.Mathlib.Omega.{arith}
 use mathlib.Core.Path.{_≡_, sym, ap, subst, _∙_}
 use mathlib.Core.Bool.{Bool, true, false, cond, _&&_}
 use mathlib.Core.List.{List}
@@ -8,17 +10,20 @@ use lib.Dec.{leb}
 use lib.ListN.{length}
 use lib.Ieee.{Float}
 use Rattle.num.specs.Const.{c0·0, c0·95, c1·0}
-use Rattle.passes.specs.Flow.{Flow, flow}
+use Rattle.passes.specs as Text
+use Rattle.passes.specs.Flow.{Held, sized, sameHeld, Flow, flow}
 use Rattle.passes.specs.Fold.{Folded}
-use Rattle.passes.specs.Plain.Persistence.{persistence}
+use Rattle.passes.specs.Painted.{Painted, painted, onto}
+use Rattle.passes.specs.Plain.Persistence.{persistence, blend, shifted, refilled}
 use Rattle.passes.specs.Rows.{Frame}
-use Rattle.chain.specs.Chain.{over, overBy, turn, turnBy}
+use Rattle.chain.specs.Chain.{wash, over, overBy, turn, turnBy}
 use Rattle.chain.specs.Lent.{Lent, Ready}
 use Rattle.chain.specs.Normal.{normalPass, settled, counted}
 use Rattle.chain.specs.declared.station.Pass.{Pass}
 use Rattle.chain.specs.declared.station.Pass.the-variants.{Ntsc, Bloom, Persistence}
 use Rattle.chain.specs.declared.station.Record.{Record}
 use Rattle.chain.proofs.Bools.{both}
+use Rattle.chain.proofs.PassCases.{by-memory, over-few}
 
 -- ## What a ready pass may rely on
 
@@ -46,15 +51,21 @@ module _ {w h room : ℕ} {pass : Pass} (r : Ready w h pass room) where
 
 -- ## What a pass leaves
 
+-- on a frame of which nothing was clipped yet
+fresh : (t : Painted) → t ≡ painted (t .words) (0 + t .clipped)
+fresh t = ap (painted (t .words)) (sym (zero-add (t .clipped)))
+
 -- a pass without memory was `case`, and left `new`
-pub washed : (w h : ℕ) (frame : List ℕ) {held : ℕ} {pass case : Pass} {new painted past : List ℕ} → pass ≡ case → new ≡ painted
-    → over w h case (flow frame held past) ≡ flow painted held past → flow new held past ≡ over w h pass (flow frame held past)
-washed w h frame {held} {pass} {case} {new} {painted} {past} e n o =
-    ap (λ (f : List ℕ). flow f held past) n ∙ sym o ∙ ap (λ (p : Pass). over w h p (flow frame held past)) (sym e)
+pub washed : (w h : ℕ) (frame : List ℕ) (paint : List ℕ → Painted) {held : Held} {pass case : Pass} {new : Painted} {past : List ℕ}
+    → pass ≡ case → new ≡ paint frame → over w h case (flow (painted frame 0) held past) ≡ wash paint (flow (painted frame 0) held past)
+    → flow new held past ≡ over w h pass (flow (painted frame 0) held past)
+unfolding wash
+washed w h frame paint {held} {pass} {case} {new} {past} e n o =
+    ap (λ (y : Painted). flow y held past) (n ∙ fresh (paint frame)) ∙ sym o ∙ ap (λ (p : Pass). over w h p (flow (painted frame 0) held past)) (sym e)
 
 -- persistence, by the frame's length
-pub persisted : (w h : ℕ) (x : Flow) {pass : Pass} {amount : Float} {depth : ℕ} {y : Flow} → length (x .frame) ≡ h * w → pass ≡ Persistence amount depth
-    → y ≡ persistence amount depth (length (x .frame)) x → y ≡ over w h pass x
+pub persisted : (w h : ℕ) (x : Flow) {pass : Pass} {amount : Float} {depth : ℕ} {y : Flow} → length (x .frame .words) ≡ h * w
+    → pass ≡ Persistence amount depth → y ≡ persistence amount depth (length (x .frame .words)) x → y ≡ over w h pass x
 unfolding overBy
 persisted w h x {pass} {amount} {depth} s e o = o ∙ ap (λ (n : ℕ). persistence amount depth n x) s ∙ ap (λ (p : Pass). over w h p x) (sym e)
 
@@ -66,14 +77,73 @@ pub turn-off : (w h : ℕ) (x : Flow) (r : Record) → r .on ≡ false → x ≡
 unfolding turnBy
 turn-off w h x r e = ap (λ (b : Bool). cond b (over w h (r .pass) x) x) (sym e)
 
+-- ## What was clipped before
+
+-- n channels more
+abbrev pub adding : ℕ → Flow → Flow
+adding n x = flow (painted (x .frame .words) (n + x .frame .clipped)) (x .held) (x .past)
+
+module _ (w h n : ℕ) (words : List ℕ) (held : Held) (past : List ℕ) where
+  abbrev before : ℕ → Flow
+  before k = flow (painted words k) held past
+
+  none-added : before n ≡ adding n (before 0)
+  none-added = ap (λ (m : ℕ). flow (painted words m) held past) (sym (add-zero n))
+
+  persistence-adds : (amount : Float) (k : ℕ) → persistence amount k (sized w h) (before n) ≡ adding n (persistence amount k (sized w h) (before 0))
+  unfolding Text.Persistence.persistence
+  persistence-adds amount k = of (sameHeld held (sized w h))
+    where
+      either : Bool → ℕ → Flow
+      either b m =
+          cond b (flow (onto (blend amount k past) (painted words m)) (sized w h) (shifted k words past))
+          (flow (painted words m) (sized w h) (refilled k words past))
+
+      of : (b : Bool) → either b n ≡ adding n (either b 0)
+      of true =
+          let t : Painted = blend amount k past words in
+          ap (λ (m : ℕ). flow (painted (t .words) (n + m)) (sized w h) (shifted k words past)) (sym (zero-add (t .clipped)))
+      of false = ap (λ (m : ℕ). flow (painted words m) (sized w h) (refilled k words past)) (sym (add-zero n))
+
+  over-adds : (p : Pass) → over w h p (before n) ≡ adding n (over w h p (before 0))
+  unfolding overBy wash
+  over-adds =
+      by-memory (λ p. over w h p (before n) ≡ adding n (over w h p (before 0))) persistence-adds
+      (λ p m.
+      let t : Painted = m .paint w h words in
+      m .whole w h (before n) ∙ ap (λ (y : Painted). flow (painted (y .words) (n + y .clipped)) held past) (fresh t)
+      ∙ sym (ap (adding n) (m .whole w h (before 0))))
+
+  -- a record over a frame of which n channels were clipped before: as over one of which none were, and these added
+  pub turn-adds : (r : Record) → turn w h (before n) r ≡ adding n (turn w h (before 0) r)
+  unfolding turnBy
+  turn-adds r = of (r .on)
+    where
+      of : (b : Bool) → cond b (over w h (r .pass) (before n)) (before n) ≡ adding n (cond b (over w h (r .pass) (before 0)) (before 0))
+      of true = over-adds (r .pass)
+      of false = none-added
+
+-- a record clips no more than three channels of each word
+pub turn-few : (w h : ℕ) (x : Flow) (r : Record) → turn w h x r .frame .clipped ≤ x .frame .clipped + 3 * length (x .frame .words)
+unfolding turnBy
+turn-few w h x r = of (r .on)
+  where
+    of : (b : Bool) → cond b (over w h (r .pass) x) x .frame .clipped ≤ x .frame .clipped + 3 * length (x .frame .words)
+    of true = over-few w h x (r .pass)
+    of false = omega arith
+
 -- ## The loop over the records
 
--- the first i of n records have turned the flow x into `frame`, `held` and `past`; `room` is the length of the history
-pub record Running (w h n i room : ℕ) (rs : List Record) (x : Flow) (frame : List ℕ) (held : ℕ) (past : List ℕ) (floats : List Float) (ints : List ℕ) : Type 0 where
-  pub near : i ≤ n
-  pub so-far : Folded i (turn w h) x rs (flow frame held past)
-  pub lent : Lent w h frame floats ints
-  pub kept : length past ≡ room
+-- the first i of n records have turned the flow x into `frame`, `clipped`, `held` and `past`; `room` is the length of the history
+pub record Running
+    (w h n i room : ℕ) (rs : List Record) (x : Flow) (frame : List ℕ) (clipped : ℕ) (held : Held) (past : List ℕ) (floats : List Float) (ints : List ℕ)
+    : Type 0
+  where
+    pub near : i ≤ n
+    pub so-far : Folded i (turn w h) x rs (flow (painted frame clipped) held past)
+    pub few : clipped ≤ 3145728 * i
+    pub lent : Lent w h frame floats ints
+    pub kept : length past ≡ room
 
 pub relent : {w h : ℕ} {frame ints frame′ ints′ : List ℕ} {floats floats′ : List Float} → Lent w h frame floats ints
     → length frame′ ≡ length frame → length floats′ ≡ length floats → length ints′ ≡ length ints → Lent w h frame′ floats′ ints′

@@ -5,7 +5,7 @@ use mathlib.Core.List.{List, _∷_}
 use lib.ListN.{length, drop}
 use Rattle.chain.specs.Agree.{opened, Same, Lends, point, Comparable, Made, begin, by-apply, by-reset, by-set-enabled, by-cycle-lut}
 use Rattle.chain.specs.Agree.{Made-is, Demand-3-made}
-use Rattle.chain.specs.Answers.{reported, called, cycled}
+use Rattle.chain.specs.Answers.{reportedFrame, called, cycled}
 use Rattle.chain.specs.Calls.{framed}
 use Rattle.chain.specs.Card.{accepted, openOf}
 use Rattle.chain.specs.Machine.{Call, State, Seen, Done, lend, still, call, after, run, saw}
@@ -36,7 +36,7 @@ unfolding call saw run
 is-machine begin = record { given = refl; left = refl }
 is-machine (by-apply {s = s} {w = w} {h = h} {history = history} {words′ = words′} {past′ = past′} r a rest) =
     let lending = lend (h * w) history (s .history) in
-    one-more (lending (framed (reported (r .answer)) (r .station) words′ past′)) (ap lending (a .replies)) (is-machine rest)
+    one-more (lending (framed (reportedFrame (r .answer)) (r .station) words′ past′)) (ap lending (a .replies)) (is-machine rest)
 is-machine (by-reset {s = s} r e rest) = one-more (still (s .history) (called r)) (ap (still (s .history)) e) (is-machine rest)
 is-machine (by-set-enabled {s = s} r e rest) = one-more (still (s .history) (called r)) (ap (still (s .history)) e) (is-machine rest)
 is-machine (by-cycle-lut {s = s} r e rest) = one-more (still (s .history) (cycled r)) (ap (still (s .history)) e) (is-machine rest)

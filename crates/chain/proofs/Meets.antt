@@ -1,6 +1,6 @@
--- Two stations meet in j places when they differ in what they hold alone and their histories agree in the newest j places. A shared call gives both the same
--- answer; it leaves the j places, and one more where persistence takes it; a reset or a switching-off leaves no place to differ in. Where all places agree the
--- pictures do. Assumes nothing.
+-- Two stations meet in j places when they differ in what they hold alone and their histories agree in the newest j places. A shared call is accepted by both
+-- or by none; it leaves the j places, and one more where persistence takes it; a reset or a switching-off leaves no place to differ in. Where all places agree
+-- the answers do, and the pictures. Assumes nothing.
 use Prim.Native.Nat.{ℕ, zero, suc, _+_, _*_, _-_, _≤_, zero-le}
 use native.Mathlib.Nat.{le-of-suc-le-suc, mul-le-mul-right}
 use native.Mathlib.Omega.{arith}
@@ -13,12 +13,13 @@ use lib.ListN.{length, take, drop, take-append-drop}
 use lib.Seq.{take-nil, take-append-le, take-at, length-take-le}
 use Rattle.num.specs.Refusals.{unless}
 use Rattle.passes.specs.Flow.{Held, nothing, sized, area, Flow}
+use Rattle.passes.specs.Painted.{Painted, painted}
 use Rattle.chain.specs.Agree.{SameCall, frames, resets, switches-to, steps, lent, Lends}
 use Rattle.chain.specs.Agree.{on, ok, takes, ends}
 use Rattle.chain.specs.Alike.{chainOf}
 use Rattle.chain.specs.Calls.{hold, rechain, stops, lacks, Report, acceptance, reply, refusing, onFirst, turned}
 use Rattle.chain.specs.Calls.{presets, stepLut, Framed, refusingFrame, incoming, shown, shownBy, frameReplyBy}
-use Rattle.chain.specs.Chain.{wash, chain, depth}
+use Rattle.chain.specs.Chain.{chain, depth}
 use Rattle.chain.specs.Machine.{Call, frame, reset, switch, step, State, seen, Done, lend, still, call, after}
 use Rattle.chain.specs.Normal.{persists}
 use Rattle.chain.specs.declared.station.Record.{Record}
@@ -46,12 +47,18 @@ near-lent j l held other H G n =
 
 -- ## One call on two stations
 
--- what two calls give: the histories agree in i places, and the pictures where `all` holds
+-- what two calls give: the histories agree in i places, and answers and pictures where `all` holds. Before, two frames may have clipped different channels
 pub record Step (all : Type 0) (i : ℕ) (d e : Done) : Type 0 where
-  pub answers : d .gives .answer ≡ e .gives .answer
+  pub accepted : ok (d .gives .answer) ≡ ok (e .gives .answer)
   pub alike : hold (e .gives .station .held) (d .gives .station) ≡ e .gives .station
   pub near : Near i (d .gives .station .held) (e .gives .station .held) (d .history) (e .history)
+  pub answers : all → d .gives .answer ≡ e .gives .answer
   pub pictures : all → d .gives .picture ≡ e .gives .picture
+
+-- two calls that answer alike and show nothing
+unseen : (A : Type 0) (i : ℕ) (r : Report) (s t : Station) (H G : List ℕ) → hold (t .held) s ≡ t → Near i (s .held) (t .held) H G
+    → Step A i (still H (reply r s)) (still G (reply r t))
+unseen A i r s t H G e near = record { accepted = refl; alike = e; near = near; answers = λ z. refl; pictures = λ z. refl }
 
 abbrev with-history : Station → List ℕ → State
 with-history s H = record { station = s; history = H }
@@ -93,7 +100,6 @@ module _ (s : Station) (b : Held) (H G : List ℕ) (fit-s : Fit s) (fit-t : Fit 
 
       near-after : Apart rs → (i : ℕ) → i ≤ depth rs → i ≤ cond (persists rs) (suc j) j
           → Near i (X .held) (Y .held) (X .past ++ drop l H) (Y .past ++ drop l G)
-      unfolding wash
       near-after (quiet o a) i le at = rw (a .whole w h x, a .whole w h y) (near-nothing (s .held) b _ _ i (idle-held s fit-s o) (idle-held (hold b s) fit-t o))
       near-after (keeping o a) zero le at = near-zero (X .held) (Y .held) _ _
       near-after (keeping o a) (suc m) le at =
@@ -110,15 +116,18 @@ module _ (s : Station) (b : Held) (H G : List ℕ) (fit-s : Fit s) (fit-t : Fit 
             places =
                 rw u
                 (take-append-le (suc m * (h * w)) (X .past) (drop l H) (omega arith)
-                ∙ chain-near w h rs x y same fits fits′ a m le (lent-near m fewer)
+                ∙ chain-near w h rs x y (ap (λ (l : List ℕ). painted l 0) same) fits fits′ a m le (lent-near m fewer)
                 ∙ sym (take-append-le (suc m * (h * w)) (Y .past) (drop l G) (omega arith)));
           }
 
-      picture-same : Apart rs → depth rs ≤ j → take (h * w) (X .frame ++ drop (h * w) p) ≡ take (h * w) (Y .frame ++ drop (h * w) q)
+      frame-same : Apart rs → depth rs ≤ j → X .frame ≡ Y .frame
+      frame-same a all = chain-picture w h rs x y (ap (λ (l : List ℕ). painted l 0) same) fits fits′ a (lent-near (depth rs) all)
+
+      picture-same : Apart rs → depth rs ≤ j → take (h * w) (X .frame .words ++ drop (h * w) p) ≡ take (h * w) (Y .frame .words ++ drop (h * w) q)
       picture-same a all =
-          take-at (X .frame) (drop (h * w) p) (h * w) (frame-length w h rs a x ∙ fits .long)
-          ∙ chain-picture w h rs x y same fits fits′ a (lent-near (depth rs) all)
-          ∙ sym (take-at (Y .frame) (drop (h * w) q) (h * w) (frame-length w h rs a y ∙ fits′ .long))
+          take-at (X .frame .words) (drop (h * w) p) (h * w) (frame-length w h rs a x ∙ fits .long)
+          ∙ ap (λ (f : Painted). f .words) (frame-same a all)
+          ∙ sym (take-at (Y .frame .words) (drop (h * w) q) (h * w) (frame-length w h rs a y ∙ fits′ .long))
 
   lacks-same : (kind : ℕ) → lacks s kind ≡ lacks (hold b s) kind
   unfolding lacks
@@ -148,23 +157,24 @@ module _ (s : Station) (b : Held) (H G : List ℕ) (fit-s : Fit s) (fit-t : Fit 
         let fits′ = enough w h (hold b s) q (take l G) (rw e at (g .frame-room)) (rw (length-take-le l G lent-t) room) in
         let a = good-apart s fit-s in
         record {
-          answers = refl;
+          accepted = refl;
           alike = refl;
           near = near-after w h l p q (f (g .frame-room)) fits fits′ a n le (rw (and-true (persists (chainOf s))) at at);
+          answers = λ z. ap (λ (x : Painted). acceptance (x .clipped ∷ [])) (frame-same w h l p q (f (g .frame-room)) fits fits′ a (all z));
           pictures = λ z. picture-same w h l p q (f (g .frame-room)) fits fits′ a (all z);
         }
     frame-step A all e f (suc k) z n le at =
         rw (take-append-drop l H, take-append-drop l G)
-        (record { answers = refl; alike = refl; near = near-less (s .held) b H G n j (rw (and-false (persists (chainOf s))) at at) near; pictures = λ z. refl })
+        (unseen A n _ s (hold b s) H G refl (near-less (s .held) b H G n j (rw (and-false (persists (chainOf s))) at at) near))
 
   -- a call that touches no word: where c holds it forgets what is held, else it keeps it
   reply-step : (A : Type 0) (n : ℕ) → n ≤ j → (k : ℕ) (reports : List ℕ) (c : Bool) (u : Station)
       → Step A n (still H (unless k (refusing s) (reply (acceptance reports) (hold (cond c nothing (s .held)) u))))
       (still G (unless k (refusing (hold b s)) (reply (acceptance reports) (hold (cond c nothing b) u))))
   unfolding unless
-  reply-step A n le zero reports true u = record { answers = refl; alike = refl; near = near-nothing nothing nothing H G n refl refl; pictures = λ z. refl }
-  reply-step A n le zero reports false u = record { answers = refl; alike = refl; near = near-less (s .held) b H G n j le near; pictures = λ z. refl }
-  reply-step A n le (suc k) reports c u = record { answers = refl; alike = refl; near = near-less (s .held) b H G n j le near; pictures = λ z. refl }
+  reply-step A n le zero reports true u = unseen A n _ _ _ H G refl (near-nothing nothing nothing H G n refl refl)
+  reply-step A n le zero reports false u = unseen A n _ _ _ H G refl (near-less (s .held) b H G n j le near)
+  reply-step A n le (suc k) reports c u = unseen A n _ _ _ H G refl (near-less (s .held) b H G n j le near)
 
   abbrev Whole : Call → Type 0
   Whole c = ends this c ≡ false → depth (chainOf s) ≤ j
@@ -200,11 +210,11 @@ module _ (s : Station) (b : Held) (H G : List ℕ) (fit-s : Fit s) (fit-t : Fit 
   ends-same (frames e f) lH lG = refl
   ends-same resets lH lG = refl
   ends-same switches-to lH lG =
-      ap₂ (λ (a : Report) (o : Bool). ok a && (persists (chainOf s) && not o)) (first-step switches-to lH lG .answers) (persists-same switches-to lH lG)
+      ap₂ (λ (a o : Bool). a && (persists (chainOf s) && not o)) (first-step switches-to lH lG .accepted) (persists-same switches-to lH lG)
   ends-same steps lH lG = refl
 
   takes-same : {c d : Call} → SameCall c d → lent c ≤ length H → lent c ≤ length G → takes this c ≡ takes that d
-  takes-same (frames e f) lH lG = ap (λ (a : Report). persists (chainOf s) && ok a) (first-step (frames e f) lH lG .answers)
+  takes-same (frames e f) lH lG = ap (λ (a : Bool). persists (chainOf s) && a) (first-step (frames e f) lH lG .accepted)
   takes-same resets lH lG = refl
   takes-same switches-to lH lG = refl
   takes-same steps lH lG = refl
@@ -281,7 +291,7 @@ module _ {j : ℕ} {s t : State} {c d : Call} (m : Meet j s t) (same : SameCall 
   gives-same all held =
       let k = shared .steps-to 0 zero-le zero-le in
       let station : call c s .gives .station ≡ call d t .gives .station = ap (λ (z : Held). hold z (call c s .gives .station)) held ∙ k .alike in
-      λ i. seen (k .answers i) (station i) (k .pictures all i)
+      λ i. seen (k .answers all i) (station i) (k .pictures all i)
 
 -- where all places agree, so does what is held: with persistence on there is a place, and else nothing is held
 pub meet-held : {s t : State} → Meet (K s) s t → s .station .held ≡ t .station .held

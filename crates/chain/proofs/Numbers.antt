@@ -21,15 +21,13 @@ use Rattle.passes.specs.Casts.{casts, casts-agree, checked, checked-agree}
 use Rattle.passes.specs.Flow.{sized, Flow, flow}
 use Rattle.passes.specs.Fold.{fold}
 use Rattle.passes.specs.Inside as Inside
-use Rattle.passes.specs.Lengths.{scanlines-length, vignette-length, crt-length, curvature-length, auto-gradient-length}
-use Rattle.passes.specs.Lengths.{lut-length, color-correction-length, ntsc-length, bloom-length, persistence-length}
-use Rattle.passes.specs.Lengths.{history-length}
+use Rattle.passes.specs.Painted.{Painted, painted}
 use Rattle.passes.specs.Range as Range
 use Rattle.passes.specs.Rows.{Frame}
 use Rattle.chain.specs.Alike.{chainOf}
 use Rattle.chain.specs.Calls.{framed, acceptance, hold, incoming, stops, refusingFrame, shown, shownBy}
 use Rattle.chain.specs.Calls.{frameReply, frameReplyBy}
-use Rattle.chain.specs.Chain.{wash, over, overBy, turn, turnBy, chain, depthOf, depth}
+use Rattle.chain.specs.Chain.{wash, overBy, turn, turnBy, chain, depthOf, depth}
 use Rattle.chain.specs.Normal.{negZero, settled, counted, normalPass, normalChain}
 use Rattle.chain.specs.Numbers.{Pass-inside, Numbers-inside, Casts-inside}
 use Rattle.chain.specs.Numbers.{Checked-inside}
@@ -43,6 +41,7 @@ use Rattle.chain.specs.declared.station.Station.{Station}
 use Rattle.chain.proofs.Bools.{false-true, both}
 use Rattle.chain.proofs.Goes.{goes}
 use Rattle.chain.proofs.Good.{good, headed}
+use Rattle.chain.proofs.PassCases.{over-frame, over-past}
 
 -- ## Settings
 
@@ -113,36 +112,44 @@ counted-most n k e = leb-true k n (both (leb 1 k) (leb k n) e .1)
 
 -- ## One pass
 
+-- what a pass without memory makes of a flow, by what it makes of the frame
+abbrev painting : Flow → Painted → Flow
+painting x y = flow (painted (y .words) (x .frame .clipped + y .clipped)) (x .held) (x .past)
+
+-- the same of one that clips nothing
+abbrev unpainting : Flow → List ℕ → Flow
+unpainting x l = painting x (painted l 0)
+
 module _ (A : Arith) (G : Agrees A) where
   pub pass-inside : Pass-inside A
   unfolding overBy wash normalPass within ofBits
   pass-inside w h (Ntsc strength bleed) x n t f room =
       let p = both (settled c0·0 c1·0 strength) (counted 64 bleed) n in
-      ap (λ (l : List ℕ). flow l (x .held) (x .past))
-      (Inside.ntsc-inside G w h strength bleed (x .frame) f (unit strength (p .0)) (counted-most 64 bleed (p .1)))
+      ap (painting x)
+      (Inside.ntsc-inside G w h strength bleed (x .frame .words) f (unit strength (p .0)) (counted-most 64 bleed (p .1)))
   pass-inside w h (Bloom threshold strength radius) x n t f room =
       let p = both (settled c0·0 c1·0 strength) (counted 64 radius) n in
       let l : threshold ≤ 255 = (let u = t .0 in omega arith) in
-      ap (λ (l : List ℕ). flow l (x .held) (x .past))
-      (Inside.bloom-inside G w h threshold strength radius (x .frame) f l (unit strength (p .0))
+      ap (painting x)
+      (Inside.bloom-inside G w h threshold strength radius (x .frame .words) f l (unit strength (p .0))
       (counted-most 64 radius (p .1)))
   pass-inside w h (AutoGradient strength vertical horizontal) x n t f room =
       let p = both (settled c0·0 c1·0 strength && settled c0·0 c1·0 vertical) (settled c0·0 c1·0 horizontal) n in
       let q = both (settled c0·0 c1·0 strength) (settled c0·0 c1·0 vertical) (p .0) in
-      ap (λ (l : List ℕ). flow l (x .held) (x .past))
-      (Inside.auto-gradient-inside G w h strength vertical horizontal (x .frame) f (unit strength (q .0))
+      ap (painting x)
+      (Inside.auto-gradient-inside G w h strength vertical horizontal (x .frame .words) f (unit strength (q .0))
       (unit vertical (q .1)) (unit horizontal (p .1)))
   pass-inside w h (Persistence amount k) x n t f room =
       let p = both (settled c0·0 c0·95 amount) (counted 8 k) n in
       Inside.persistence-inside G amount k (sized w h) x (settled-within 1 c0·95 amount tt (p .0))
       (counted-most 8 k (p .1)) room
   pass-inside w h (Lut preset strength) x n t f room =
-      ap (λ (l : List ℕ). flow l (x .held) (x .past))
-      (Inside.lut-inside G preset strength (x .frame)
+      ap (painting x)
+      (Inside.lut-inside G preset strength (x .frame .words)
       (unit strength (both (ltb preset 7) (settled c0·0 c1·0 strength) n .1)))
   pass-inside w h (Curvature amount) x n t f room =
-      ap (λ (l : List ℕ). flow l (x .held) (x .past))
-      (Inside.curvature-inside G w h amount (x .frame) f (settled-within 1 c0·5 amount tt n))
+      ap (unpainting x)
+      (Inside.curvature-inside G w h amount (x .frame .words) f (settled-within 1 c0·5 amount tt n))
   pass-inside w h (ColorCorrection brightness contrast saturation gamma) x n t f room =
       let b = settled (neg c1·0) c1·0 brightness in
       let c = settled c0·0 c4·0 contrast in
@@ -150,59 +157,29 @@ module _ (A : Arith) (G : Agrees A) where
       let p = both (b && c && s) (settled c1·0 c1·0 gamma) n in
       let q = both (b && c) s (p .0) in
       let r = both b c (q .0) in
-      ap (λ (l : List ℕ). flow l (x .held) (x .past))
-      (Inside.color-correction-inside G brightness contrast saturation (x .frame) (settled-sized brightness (r .0))
+      ap (painting x)
+      (Inside.color-correction-inside G brightness contrast saturation (x .frame .words) (settled-sized brightness (r .0))
       (settled-within 4 c4·0 contrast tt (r .1)) (settled-within 4 c4·0 saturation tt (q .1)))
   pass-inside w h (Crt strength) x n t f room =
-      ap (λ (l : List ℕ). flow l (x .held) (x .past)) (Inside.crt-inside G w h strength (x .frame) f (unit strength n))
+      ap (unpainting x) (Inside.crt-inside G w h strength (x .frame .words) f (unit strength n))
   pass-inside w h (Vignette strength) x n t f room =
-      ap (λ (l : List ℕ). flow l (x .held) (x .past))
-      (Inside.vignette-inside G w h strength (x .frame) f (unit strength n))
+      ap (unpainting x)
+      (Inside.vignette-inside G w h strength (x .frame .words) f (unit strength n))
   pass-inside w h (Scanlines strength) x n t f room =
-      ap (λ (l : List ℕ). flow l (x .held) (x .past))
-      (Inside.scanlines-inside G w strength (x .frame) (unit strength n))
+      ap (unpainting x)
+      (Inside.scanlines-inside G w strength (x .frame .words) (unit strength n))
 
 -- ## The chain
-
--- a pass keeps the length of the frame, and that of the history
-over-frame : (w h : ℕ) (p : Pass) (x : Flow) → length (over w h p x .frame) ≡ length (x .frame)
-unfolding overBy wash
-over-frame w h (Ntsc strength bleed) x = ntsc-length w h strength (x .frame) bleed
-over-frame w h (Bloom threshold strength radius) x = bloom-length w h strength (x .frame) threshold radius
-over-frame w h (AutoGradient strength vertical horizontal) x =
-    auto-gradient-length w h strength (x .frame) vertical horizontal
-over-frame w h (Persistence amount k) x = persistence-length amount k (sized w h) x
-over-frame w h (Lut preset strength) x = lut-length w h strength (x .frame) preset
-over-frame w h (Curvature amount) x = curvature-length w h amount (x .frame)
-over-frame w h (ColorCorrection brightness contrast saturation gamma) x =
-    color-correction-length w h brightness (x .frame) contrast saturation
-over-frame w h (Crt strength) x = crt-length w h strength (x .frame)
-over-frame w h (Vignette strength) x = vignette-length w h strength (x .frame)
-over-frame w h (Scanlines strength) x = scanlines-length w h strength (x .frame)
-
-over-past : (w h : ℕ) (p : Pass) (x : Flow) → depthOf p * length (x .frame) ≤ length (x .past)
-    → length (over w h p x .past) ≡ length (x .past)
-unfolding overBy wash
-over-past w h (Ntsc strength bleed) x room = refl
-over-past w h (Bloom threshold strength radius) x room = refl
-over-past w h (AutoGradient strength vertical horizontal) x room = refl
-over-past w h (Persistence amount k) x room = history-length amount k (sized w h) x room
-over-past w h (Lut preset strength) x room = refl
-over-past w h (Curvature amount) x room = refl
-over-past w h (ColorCorrection brightness contrast saturation gamma) x room = refl
-over-past w h (Crt strength) x room = refl
-over-past w h (Vignette strength) x room = refl
-over-past w h (Scanlines strength) x room = refl
 
 module _ (A : Arith) (G : Agrees A) (w h : ℕ) where
   -- a record, on or off
   record Turned (x : Flow) (r : Record) : Type 0 where
     same : turnBy A w h x r ≡ turn w h x r
-    frame : length (turn w h x r .frame) ≡ length (x .frame)
+    frame : length (turn w h x r .frame .words) ≡ length (x .frame .words)
     past : length (turn w h x r .past) ≡ length (x .past)
 
-  turned : (x : Flow) (r : Record) → normalPass (r .pass) ≡ true → Typed (r .pass) → Frame w h (x .frame)
-      → depthOf (r .pass) * length (x .frame) ≤ length (x .past) → Turned x r
+  turned : (x : Flow) (r : Record) → normalPass (r .pass) ≡ true → Typed (r .pass) → Frame w h (x .frame .words)
+      → depthOf (r .pass) * length (x .frame .words) ≤ length (x .past) → Turned x r
   unfolding turnBy
   turned x r n t f room = go (r .on) refl
     where
@@ -210,13 +187,13 @@ module _ (A : Arith) (G : Agrees A) (w h : ℕ) where
       go true e =
           record {
             same = rw e (pass-inside A G w h (r .pass) x n t f room);
-            frame = rw e (over-frame w h (r .pass) x);
-            past = rw e (over-past w h (r .pass) x room);
+            frame = rw e (over-frame w h x (r .pass));
+            past = rw e (over-past w h x (r .pass) room);
           }
       go false e = record { same = rw e; frame = rw e; past = rw e }
 
   chained : (rs : List Record) (seen : List ℕ) (x : Flow) → normalChain seen rs ≡ true → TypedChain rs
-      → Frame w h (x .frame) → depth rs * (h * w) ≤ length (x .past)
+      → Frame w h (x .frame .words) → depth rs * (h * w) ≤ length (x .past)
       → fold (turnBy A w h) x rs ≡ chain w h rs x
   unfolding fold depth
   chained [] seen x n t f room = refl
@@ -224,7 +201,7 @@ module _ (A : Arith) (G : Agrees A) (w h : ℕ) where
       let q = headed seen r rs n in
       let parts : depthOf (r .pass) * (h * w) + depth rs * (h * w) ≤ length (x .past) =
       subst (λ (k : ℕ). k ≤ length (x .past)) (add-mul (depthOf (r .pass)) (depth rs) (h * w)) room in
-      let own : depthOf (r .pass) * length (x .frame) ≤ length (x .past) = rw (f .area) (omega arith) in
+      let own : depthOf (r .pass) * length (x .frame .words) ≤ length (x .past) = rw (f .area) (omega arith) in
       let y = turned x r (q .normal) (t .0) f own in
       ap (λ (z : Flow). fold (turnBy A w h) z rs) (y .same)
       ∙ chained rs (seen ++ kindOf (r .pass) ∷ []) (turn w h x r) (q .others) (t .1)
@@ -241,7 +218,7 @@ module _ (A : Arith) (G : Agrees A) (w h : ℕ) where
           ≡ unless k (refusingFrame s words past) (shown w h s words past)
       go zero e =
           let g = goes s w h (length words) (length past) floats ints e in
-          ap (λ (x : Flow). framed (acceptance []) (hold (x .held) s) (x .frame ++ drop (h * w) words) (x .past))
+          ap (λ (x : Flow). framed (acceptance (x .frame .clipped ∷ [])) (hold (x .held) s) (x .frame .words ++ drop (h * w) words) (x .past))
           (chained (chainOf s) [] (incoming w h s words past) (good s (g .good) .normal) t
           (record { area = length-take-le (h * w) words (g .frame-room); wide = g .wide .1; high = g .high .1 })
           (g .past-room))

@@ -1,6 +1,6 @@
 -- The ten passes by cases: persistence or a pass that only paints the frame, a LUT or a pass without a preset, and what the other arm of a `match` tells.
 -- Assumes nothing.
-use Prim.Native.Nat.{ℕ, suc}
+use Prim.Native.Nat.{ℕ, suc, _+_, _*_, _≤_, zero-le}
 use native.Mathlib.Omega.{arith}
 use mathlib.Core.Path.{_≡_, refl, sym, ap, subst, _∙_}
 use mathlib.Core.Bool.{false}
@@ -10,10 +10,11 @@ use lib.Dec.{eqb}
 use lib.Ieee.{Float}
 use lib.ListN.{length}
 use types.Run.{OneOf, miss}
-use Rattle.passes.specs.Flow.{Flow}
-use Rattle.passes.specs.Lengths.{ntsc-length, bloom-length, auto-gradient-length, lut-length, curvature-length}
-use Rattle.passes.specs.Lengths.{color-correction-length}
-use Rattle.passes.specs.Lengths.{crt-length, vignette-length, scanlines-length}
+use Rattle.passes.specs.Flow.{sized, Flow}
+use Rattle.passes.specs.Lengths.{ntsc-paints, bloom-paints, auto-gradient-paints, lut-paints, color-correction-paints}
+use Rattle.passes.specs.Lengths.{curvature-length, crt-length, vignette-length, scanlines-length}
+use Rattle.passes.specs.Lengths.{persistence-length, persistence-few, history-length}
+use Rattle.passes.specs.Painted.{Painted, painted, unclipped, Paints}
 use Rattle.passes.specs.Plain.Ntsc.{ntsc}
 use Rattle.passes.specs.Plain.Bloom.{bloom}
 use Rattle.passes.specs.Plain.AutoGradient.{autoGradient}
@@ -34,35 +35,65 @@ use Rattle.chain.proofs.station.Pass.{the-type}
 -- ## Persistence, or a pass that only paints the frame
 
 pub record Plain (p : Pass) : Type 0 where
-  pub paint : (w h : ℕ) → List ℕ → List ℕ
-  pub keeps : (w h : ℕ) (frame : List ℕ) → length (paint w h frame) ≡ length frame
+  pub paint : (w h : ℕ) → List ℕ → Painted
+  pub paints : (w h : ℕ) (frame : List ℕ) → Paints frame (paint w h frame)
   pub whole : (w h : ℕ) (x : Flow) → over w h p x ≡ wash (paint w h) x
   pub kind : eqb (kindOf p) 4 ≡ false
   pub no-depth : depthOf p ≡ 0
 
+-- words of a pass that clips nothing
+unclipped-paints : (frame words : List ℕ) → length words ≡ length frame → Paints frame (painted words 0)
+unclipped-paints frame words e = record { long = e; few = zero-le }
+
 pub by-memory : (P : Pass → Type 0) → ((amount : Float) (k : ℕ) → P (Persistence amount k)) → ((p : Pass) → Plain p → P p) → (p : Pass) → P p
 unfolding overBy
 by-memory P f g (Ntsc s b) =
-    g _ (record { paint = λ w h. ntsc w s b; keeps = λ w h l. ntsc-length w h s l b; whole = λ w h x. refl; kind = refl; no-depth = refl })
+    g _ (record { paint = λ w h. ntsc w s b; paints = λ w h l. ntsc-paints w h s l b; whole = λ w h x. refl; kind = refl; no-depth = refl })
 by-memory P f g (Bloom t s r) =
-    g _ (record { paint = λ w h. bloom w h t s r; keeps = λ w h l. bloom-length w h s l t r; whole = λ w h x. refl; kind = refl; no-depth = refl })
+    g _ (record { paint = λ w h. bloom w h t s r; paints = λ w h l. bloom-paints w h s l t r; whole = λ w h x. refl; kind = refl; no-depth = refl })
 by-memory P f g (AutoGradient s u v) =
-    let law : (w h : ℕ) (l : List ℕ) → length (autoGradient w h s u v l) ≡ length l = λ w h l. auto-gradient-length w h s l u v in
-    g _ (record { paint = λ w h. autoGradient w h s u v; keeps = law; whole = λ w h x. refl; kind = refl; no-depth = refl })
+    let law : (w h : ℕ) (l : List ℕ) → Paints l (autoGradient w h s u v l) = λ w h l. auto-gradient-paints w h s l u v in
+    g _ (record { paint = λ w h. autoGradient w h s u v; paints = law; whole = λ w h x. refl; kind = refl; no-depth = refl })
 by-memory P f g (Persistence a k) = f a k
 by-memory P f g (Lut p s) =
-    g _ (record { paint = λ w h. lut p s; keeps = λ w h l. lut-length w h s l p; whole = λ w h x. refl; kind = refl; no-depth = refl })
+    g _ (record { paint = λ w h. lut p s; paints = λ w h l. lut-paints w h s l p; whole = λ w h x. refl; kind = refl; no-depth = refl })
 by-memory P f g (Curvature a) =
-    g _ (record { paint = λ w h. curvature w h a; keeps = λ w h l. curvature-length w h a l; whole = λ w h x. refl; kind = refl; no-depth = refl })
+    let law : (w h : ℕ) (l : List ℕ) → Paints l (unclipped (curvature w h a) l) = λ w h l. unclipped-paints l _ (curvature-length w h a l) in
+    g _ (record { paint = λ w h. unclipped (curvature w h a); paints = law; whole = λ w h x. refl; kind = refl; no-depth = refl })
 by-memory P f g (ColorCorrection b c s y) =
-    let law : (w h : ℕ) (l : List ℕ) → length (colorCorrection b c s l) ≡ length l = λ w h l. color-correction-length w h b l c s in
-    g _ (record { paint = λ w h. colorCorrection b c s; keeps = law; whole = λ w h x. refl; kind = refl; no-depth = refl })
+    let law : (w h : ℕ) (l : List ℕ) → Paints l (colorCorrection b c s l) = λ w h l. color-correction-paints w h b l c s in
+    g _ (record { paint = λ w h. colorCorrection b c s; paints = law; whole = λ w h x. refl; kind = refl; no-depth = refl })
 by-memory P f g (Crt s) =
-    g _ (record { paint = λ w h. crt w h s; keeps = λ w h l. crt-length w h s l; whole = λ w h x. refl; kind = refl; no-depth = refl })
+    let law : (w h : ℕ) (l : List ℕ) → Paints l (unclipped (crt w h s) l) = λ w h l. unclipped-paints l _ (crt-length w h s l) in
+    g _ (record { paint = λ w h. unclipped (crt w h s); paints = law; whole = λ w h x. refl; kind = refl; no-depth = refl })
 by-memory P f g (Vignette s) =
-    g _ (record { paint = λ w h. vignette w h s; keeps = λ w h l. vignette-length w h s l; whole = λ w h x. refl; kind = refl; no-depth = refl })
+    let law : (w h : ℕ) (l : List ℕ) → Paints l (unclipped (vignette w h s) l) = λ w h l. unclipped-paints l _ (vignette-length w h s l) in
+    g _ (record { paint = λ w h. unclipped (vignette w h s); paints = law; whole = λ w h x. refl; kind = refl; no-depth = refl })
 by-memory P f g (Scanlines s) =
-    g _ (record { paint = λ w h. scanlines w s; keeps = λ w h l. scanlines-length w h s l; whole = λ w h x. refl; kind = refl; no-depth = refl })
+    let law : (w h : ℕ) (l : List ℕ) → Paints l (unclipped (scanlines w s) l) = λ w h l. unclipped-paints l _ (scanlines-length w h s l) in
+    g _ (record { paint = λ w h. unclipped (scanlines w s); paints = law; whole = λ w h x. refl; kind = refl; no-depth = refl })
+
+-- ## What each pass keeps
+
+module _ (w h : ℕ) (x : Flow) where
+  pub over-frame : (p : Pass) → length (over w h p x .frame .words) ≡ length (x .frame .words)
+  unfolding overBy wash
+  over-frame =
+      by-memory (λ p. length (over w h p x .frame .words) ≡ length (x .frame .words)) (λ amount k. persistence-length amount k (sized w h) x)
+      (λ p m. ap (λ (y : Flow). length (y .frame .words)) (m .whole w h x) ∙ m .paints w h (x .frame .words) .long)
+
+  -- and how few channels it clips
+  pub over-few : (p : Pass) → over w h p x .frame .clipped ≤ x .frame .clipped + 3 * length (x .frame .words)
+  unfolding overBy wash
+  over-few =
+      by-memory (λ p. over w h p x .frame .clipped ≤ x .frame .clipped + 3 * length (x .frame .words)) (λ amount k. persistence-few amount k (sized w h) x)
+      (λ p m. rw (m .whole w h x) (omega (arith, m .paints w h (x .frame .words) .few)))
+
+  pub over-past : (p : Pass) → depthOf p * length (x .frame .words) ≤ length (x .past) → length (over w h p x .past) ≡ length (x .past)
+  unfolding overBy wash
+  over-past =
+      by-memory (λ p. depthOf p * length (x .frame .words) ≤ length (x .past) → length (over w h p x .past) ≡ length (x .past))
+      (λ amount k room. history-length amount k (sized w h) x room) (λ p m room. ap (λ (y : Flow). length (y .past)) (m .whole w h x))
 
 -- ## No second persistence
 

@@ -162,7 +162,7 @@ pub enough : (w h : ℕ) (s : Station) (words past : List ℕ) → h * w ≤ len
 enough w h s words past frame-room past-room = record { long = length-take-le (h * w) words frame-room; room = past-room }
 
 after-frame : (w h : ℕ) (s : Station) (words past : List ℕ) → Fit s → fineHeld (sized w h) ≡ true → After s (shown w h s words past .station)
-unfolding shownBy wash
+unfolding shownBy
 after-frame w h s words past f fine = go (good-apart s f)
   where
     x : Flow
@@ -268,7 +268,7 @@ pub call-not : (c : Call) (s : State) → goodStation (s .station) ≡ true → 
 unfolding call frameReplyBy shownBy
 call-not (frame w h words l m i) s e =
     by-stop (λ r. r .answer ≡ refusal 13 → ⊥) _ (s .station) words (take l (s .history)) _
-    (refusal-not _ (stops-not (s .station) w h _ _ m i e)) (λ z. acceptance-not [])
+    (refusal-not _ (stops-not (s .station) w h _ _ m i e)) (λ z. acceptance-not _)
 call-not reset s e = by-lack (λ r. r .answer ≡ refusal 13 → ⊥) _ (s .station) _ (refusal-not _ (lacks-not (s .station) 4 e)) (acceptance-not [])
 call-not (switch kind on) s e = by-lack (λ r. r .answer ≡ refusal 13 → ⊥) _ (s .station) _ (refusal-not _ (lacks-not (s .station) kind e)) (acceptance-not [])
 call-not step s e = by-lack (λ r. r .answer ≡ refusal 13 → ⊥) _ (s .station) _ (refusal-not _ (lacks-not (s .station) 5 e)) (acceptance-not _)

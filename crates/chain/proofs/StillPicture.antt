@@ -120,23 +120,24 @@ module _ (on : Bool) (amount : Float) (k w h : ℕ) (words : List ℕ) where
       × Steady (record { station = r .station; history = r .past ++ drop lent (s .history) })
 
   -- through the chain
-  turned : (b : Bool) (x : Flow) → Settings amount k → length (x .frame) ≡ h * w → k * (h * w) ≤ length (x .past)
-      → (x .held ≡ h * w → Full k (x .frame) (x .past)) →
+  turned : (b : Bool) (x : Flow) →
+      let words = x .frame .words in
       let y : Flow = cond b (persistence amount k (sized w h) x) x in
-      Still (x .frame) (y .frame) × (length (y .past) ≡ length (x .past)) × (y .held ≡ h * w → Full k (x .frame) (y .past))
+      Settings amount k → length words ≡ h * w → k * (h * w) ≤ length (x .past) → (x .held ≡ h * w → Full k words (x .past))
+      → Still words (y .frame .words) × (length (y .past) ≡ length (x .past)) × (y .held ≡ h * w → Full k words (y .past))
   turned true x set long room full =
-      let fits : k * length (x .frame) ≤ length (x .past) = rw long room in
+      let fits : k * length (x .frame .words) ≤ length (x .past) = rw long room in
       let p = persistence-still amount (set .own) (set .most) k (set .few) (sized w h) x fits full in
       (p .0, history-length amount k (sized w h) x fits, λ z. p .1)
-  turned false x set long room full = (still-itself (x .frame), refl, full)
+  turned false x set long room full = (still-itself (x .frame .words), refl, full)
 
   -- an accepted frame of which the chain made y
-  leaves : (s : State) (other : List ℕ) (lent : ℕ) (y : Flow) → Steady s → Still F (y .frame)
-      → length (y .frame) ≡ h * w → k * (h * w) ≤ length (y .past)
+  leaves : (s : State) (other : List ℕ) (lent : ℕ) (y : Flow) → Steady s → Still F (y .frame .words)
+      → length (y .frame .words) ≡ h * w → k * (h * w) ≤ length (y .past)
       → (y .held ≡ h * w → take (k * (h * w)) (y .past) ≡ copies k F)
-      → Gives lent s (framed (acceptance []) (hold (y .held) (s .station)) (y .frame ++ drop (h * w) other) (y .past))
+      → Gives lent s (framed (acceptance (y .frame .clipped ∷ [])) (hold (y .held) (s .station)) (y .frame .words ++ drop (h * w) other) (y .past))
   leaves s other lent y t still long room full = (
-    λ z. rw (take-at (y .frame) (drop (h * w) other) (h * w) long) still,
+    λ z. rw (take-at (y .frame .words) (drop (h * w) other) (h * w) long) still,
     record { is-alone = t .is-alone; full = λ g p held. take-append-le (k * (h * w)) (y .past) (drop lent (s .history)) room ∙ full held },
   )
 
@@ -157,7 +158,8 @@ module _ (on : Bool) (amount : Float) (k w h : ℕ) (words : List ℕ) where
       let lends : k * n ≤ lent = omega (arith, length-take lent (s .history)) in
       let p = turned on x (settings (s .station) on amount k (t .is-alone) (g .good)) fits room
       (λ held. rw fits (take-take (k * n) lent (s .history) lends ∙ t .full (g .good) (mul-pos (g .high .0) (g .wide .0)) held ∙ ap (copies k) one)) in
-      subst (λ (v : Flow). Gives lent s (framed (acceptance []) (hold (v .held) (s .station)) (v .frame ++ drop n other) (v .past)))
+      subst
+      (λ (v : Flow). Gives lent s (framed (acceptance (v .frame .clipped ∷ [])) (hold (v .held) (s .station)) (v .frame .words ++ drop n other) (v .past)))
       (sym (ap (λ (rs : List Record). chain w h rs x) (t .is-alone)))
       (leaves s other lent y t (rw one (p .0)) (p .0 .0 ∙ fits) (rw (p .1) room) (λ held. (rw fits at (p .2 held)) ∙ ap (copies k) (sym one)))
 

@@ -10,17 +10,18 @@ use lib.Seq.{length-take-le, drop-at}
 use Rattle.num.specs.Refusals.{unless}
 use Rattle.passes.specs as Text
 use Rattle.passes.specs.Flow.{Held, sized, sameHeld, Flow, flow}
+use Rattle.passes.specs.Painted.{onto}
 use Rattle.passes.specs.Plain.Persistence.{persistence, blend, refilled, shifted}
 use Rattle.passes.specs.PersistenceLaws.{refilled-rest, shifted-rest}
 use Rattle.chain.specs.Alike.{chainOf}
 use Rattle.chain.specs.Calls.{Report, refusal, acceptance, reply, refusing, stops, lacks, Framed, framed}
 use Rattle.chain.specs.Calls.{refusingFrame, incoming, shown, shownBy, frameReplyBy}
-use Rattle.chain.specs.Chain.{wash, chain, depth}
+use Rattle.chain.specs.Chain.{chain, depth}
 use Rattle.chain.specs.Claims.{Refused-keeps, Untouched}
 use Rattle.chain.specs.Machine.{Call, frame, reset, switch, step, State, call, after}
 use Rattle.chain.specs.declared.station.Record.{Record}
 use Rattle.chain.specs.declared.station.Station.{Station}
-use Rattle.chain.proofs.Apart.{Apart, quiet, keeping, apart, frame-length}
+use Rattle.chain.proofs.Apart.{repaint, Apart, quiet, keeping, apart, frame-length}
 use Rattle.chain.proofs.Good.{good}
 use Rattle.chain.proofs.Goes.{goes}
 
@@ -38,7 +39,7 @@ reply-keeps (suc n) s t ns k e = refl
 frame-keeps : (n w h : ℕ) (s : Station) (words past : List ℕ) (k : ℕ) → unless n (refusingFrame s words past) (shown w h s words past) .answer ≡ refusal k
     → unless n (refusingFrame s words past) (shown w h s words past) ≡ framed (refusal k) s words past
 unfolding unless shownBy
-frame-keeps zero w h s words past k e = accepted-not [] k e
+frame-keeps zero w h s words past k e = accepted-not _ k e
 frame-keeps (suc n) w h s words past k e = ap (λ (r : Report). framed r s words past) e
 
 call-keeps : (c : Call) (s : State) (k : ℕ) → call c s .gives .answer ≡ refusal k → after c s ≡ s
@@ -58,26 +59,30 @@ refused-keeps = (call-keeps, λ w h s words past floats ints k e. frame-keeps (s
 
 -- ## What no frame touches
 
-persistence-rest : (amount : Float) (k : ℕ) (size : Held) (x : Flow) → k * length (x .frame) ≤ length (x .past)
-    → drop (k * length (x .frame)) (persistence amount k size x .past) ≡ drop (k * length (x .frame)) (x .past)
+persistence-rest : (amount : Float) (k : ℕ) (size : Held) (x : Flow) →
+    let words = x .frame .words in
+    k * length words ≤ length (x .past)
+    → drop (k * length words) (persistence amount k size x .past) ≡ drop (k * length words) (x .past)
 unfolding Text.Persistence.persistence
 persistence-rest amount k size x fits = of (sameHeld (x .held) size)
   where
+    words : List ℕ
+    words = x .frame .words
+
     of : (b : Bool)
-        → drop (k * length (x .frame))
-        (cond b (flow (blend amount k (x .past) (x .frame)) size (shifted k (x .frame) (x .past))) (flow (x .frame) size (refilled k (x .frame) (x .past))) .past)
-        ≡ drop (k * length (x .frame)) (x .past)
-    of true = shifted-rest k (x .frame) (x .past) fits
-    of false = refilled-rest k (x .frame) (x .past)
+        → drop (k * length words)
+        (cond b (flow (onto (blend amount k (x .past)) (x .frame)) size (shifted k words (x .past))) (flow (x .frame) size (refilled k words (x .past))) .past)
+        ≡ drop (k * length words) (x .past)
+    of true = shifted-rest k words (x .past) fits
+    of false = refilled-rest k words (x .past)
 
 -- a chain leaves the history past its places
-chain-rest : (w h : ℕ) (rs : List Record) → Apart rs → (x : Flow) → length (x .frame) ≡ h * w → depth rs * (h * w) ≤ length (x .past)
+chain-rest : (w h : ℕ) (rs : List Record) → Apart rs → (x : Flow) → length (x .frame .words) ≡ h * w → depth rs * (h * w) ≤ length (x .past)
     → drop (depth rs * (h * w)) (chain w h rs x .past) ≡ drop (depth rs * (h * w)) (x .past)
-unfolding wash
 chain-rest w h rs (quiet e a) x long fits = ap (λ (y : Flow). drop (depth rs * (h * w)) (y .past)) (a .whole w h x)
 chain-rest w h rs (keeping e a) x long fits =
-    let y : Flow = wash (a .before w h) x in
-    let size : length (a .before w h (x .frame)) ≡ h * w = a .before-keeps w h (x .frame) ∙ long in
+    let y : Flow = repaint (a .before w h) x in
+    let size : length (a .before w h (x .frame) .words) ≡ h * w = a .before-keeps w h (x .frame) ∙ long in
     ap (λ (z : Flow). drop (depth rs * (h * w)) (z .past)) (a .whole w h x)
     ∙ subst
     (λ (n : ℕ). depth rs * n ≤ length (x .past) → drop (depth rs * n) (persistence (a .amount) (depth rs) (sized w h) y .past) ≡ drop (depth rs * n) (x .past)) size
@@ -97,7 +102,7 @@ stays w h s words past floats ints zero e =
     let a = apart (chainOf s) (good s (g .good) .normal) in
     let x = incoming w h s words past in
     let long : length (take (h * w) words) ≡ h * w = length-take-le (h * w) words (g .frame-room) in (
-      drop-at (chain w h (chainOf s) x .frame) (drop (h * w) words) (h * w) (frame-length w h (chainOf s) a x ∙ long),
+      drop-at (chain w h (chainOf s) x .frame .words) (drop (h * w) words) (h * w) (frame-length w h (chainOf s) a x ∙ long),
       chain-rest w h (chainOf s) a x long (g .past-room),
       refl,
     )

@@ -7,13 +7,14 @@ use lib.Dec.{eqb}
 use lib.ListN.{length, take, drop}
 use lib.Ieee.{Float}
 use Rattle.chain.specs.Alike.{chainOf, switches}
-use Rattle.chain.specs.Answers.{reported, called, cycled, Applies}
+use Rattle.chain.specs.Answers.{reportedFrame, called, cycled, Applies}
 use Rattle.chain.specs.Calls.{Report, refusal, acceptance, resetReply, switchReply, stepReply, presets}
 use Rattle.chain.specs.Card.{accepted, openOf}
 use Rattle.chain.specs.Chain.{depth}
 use Rattle.chain.specs.Machine.{Call, frame, reset, switch, step, State, Seen, seen, picture, still, call, after, run, saw}
 use Rattle.chain.specs.Normal.{persists}
 use Rattle.chain.specs.Written.{cardOf}
+use Rattle.chain.specs.declared.pipeline.Applied.{Applied}
 use Rattle.chain.specs.declared.pipeline.Called.{Called}
 use Rattle.chain.specs.declared.pipeline.Cycled.{Cycled}
 use Rattle.chain.specs.declared.station.Station.{Station}
@@ -111,10 +112,10 @@ Demand-3 =
 pub data Made : (s : State) → List Call → (gave : List Seen) → (t : State) → Type 0 where
   begin : {s : State} → Made s [] [] s
   -- `apply` with the first words of the own buffer, and scratches with any words
-  by-apply : {s t : State} {cs : List Call} {gave : List Seen} {w h history : ℕ} {words ints words′ past′ ints′ : List ℕ} {floats floats′ : List Float} (r : Called)
+  by-apply : {s t : State} {cs : List Call} {gave : List Seen} {w h history : ℕ} {words ints words′ past′ ints′ : List ℕ} {floats floats′ : List Float} (r : Applied)
       → Applies w h (s .station) words (take history (s .history)) floats ints r words′ past′ floats′ ints′
       → Made (record { station = r .station; history = past′ ++ drop history (s .history) }) cs gave t
-      → Made s (frame w h words history (length floats) (length ints) ∷ cs) (seen (reported (r .answer)) (r .station) (picture (reported (r .answer)) (h * w) words′) ∷ gave) t
+      → Made s (frame w h words history (length floats) (length ints) ∷ cs) (seen (reportedFrame (r .answer)) (r .station) (picture (reportedFrame (r .answer)) (h * w) words′) ∷ gave) t
   by-reset : {s t : State} {cs : List Call} {gave : List Seen} (r : Called) → called r ≡ resetReply (s .station)
       → Made (record { station = r .station; history = s .history }) cs gave t → Made s (reset ∷ cs) (still (s .history) (called r) .gives ∷ gave) t
   by-set-enabled : {s t : State} {cs : List Call} {gave : List Seen} {kind : ℕ} {position : Bool} (r : Called) → called r ≡ switchReply kind position (s .station)

@@ -5,15 +5,23 @@ use mathlib.Core.List.{List, [], _∷_}
 use lib.ListN.{length, drop}
 use lib.Ieee.{Float}
 use Rattle.chain.specs.Calls.{Report, refusal, acceptance, Reply, reply, framed, frameReply}
+use Rattle.chain.specs.declared.pipeline.Applied.{Applied}
 use Rattle.chain.specs.declared.pipeline.Called.{Called}
 use Rattle.chain.specs.declared.pipeline.Cycled.{Cycled}
 use Rattle.chain.specs.declared.pipeline.Cycle.{Cycle}
 use Rattle.chain.specs.declared.pipeline.Cycle.the-variants as Cycle
+use Rattle.chain.specs.declared.pipeline.FrameAnswer.{FrameAnswer}
+use Rattle.chain.specs.declared.pipeline.FrameAnswer.the-variants as Frame
 use Rattle.chain.specs.declared.station.Answer.{Answer}
 use Rattle.chain.specs.declared.station.Answer.the-variants.{Accepted, Refused}
 use Rattle.chain.specs.declared.station.Station.{Station}
 
--- of a frame, a reset and a switch: acceptance reports nothing
+-- of a frame: acceptance reports how many channels were clipped
+abbrev pub reportedFrame : FrameAnswer → Report
+reportedFrame (Frame.Shown clipped) = acceptance (clipped ∷ [])
+reportedFrame (Frame.Refused k) = refusal k
+
+-- of a reset and a switch: acceptance reports nothing
 abbrev pub reported : Answer → Report
 reported Accepted = acceptance []
 reported (Refused k) = refusal k
@@ -30,14 +38,14 @@ abbrev pub cycled : Cycled → Reply
 cycled r = reply (reportedStep (r .answer)) (r .station)
 
 -- the scratch words that a frame may change: k, or none where it is refused
-abbrev pub free : Answer → ℕ → ℕ
-free Accepted k = k
-free (Refused e) k = 0
+abbrev pub free : FrameAnswer → ℕ → ℕ
+free (Frame.Shown clipped) k = k
+free (Frame.Refused e) k = 0
 
 -- What a frame call promises. It gets a station, a framebuffer, a history and two scratches, and leaves `r` and the buffers with a prime.
-pub record Applies (w h : ℕ) (s : Station) (words past : List ℕ) (floats : List Float) (ints : List ℕ) (r : Called) (words′ past′ : List ℕ) (floats′ : List Float) (ints′ : List ℕ) : Type 0 where
+pub record Applies (w h : ℕ) (s : Station) (words past : List ℕ) (floats : List Float) (ints : List ℕ) (r : Applied) (words′ past′ : List ℕ) (floats′ : List Float) (ints′ : List ℕ) : Type 0 where
   -- the answer, the station, and every word of the framebuffer and of the history
-  pub replies : framed (reported (r .answer)) (r .station) words′ past′ ≡ frameReply w h s words past (length floats) (length ints)
+  pub replies : framed (reportedFrame (r .answer)) (r .station) words′ past′ ≡ frameReply w h s words past (length floats) (length ints)
   -- the f32 words past 6 * count stay, and all of them where the frame is refused
   pub floats-stay : drop (free (r .answer) (6 * (h * w))) floats′ ≡ drop (free (r .answer) (6 * (h * w))) floats
   -- the u32 words past count stay, and all of them where the frame is refused

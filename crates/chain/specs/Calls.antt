@@ -7,6 +7,7 @@ use lib.ListN.{length, take, drop}
 use Rattle.num.specs.Refusals.{badSide, unless}
 use Rattle.passes.specs.Arith.{Arith, plain}
 use Rattle.passes.specs.Flow.{Held, nothing, Flow, flow}
+use Rattle.passes.specs.Painted.{painted}
 use Rattle.chain.specs.Alike.{chainOf}
 use Rattle.chain.specs.Chain.{chainBy, depth}
 use Rattle.chain.specs.Normal.{goodStation}
@@ -143,14 +144,15 @@ abbrev pub refusingFrame : Station → (words past : List ℕ) → ℕ → Frame
 refusingFrame s words past k = framed (refusal k) s words past
 
 abbrev pub incoming : (w h : ℕ) → Station → (words past : List ℕ) → Flow
-incoming w h s words past = flow (take (h * w) words) (s .held) past
+incoming w h s words past = flow (painted (take (h * w) words) 0) (s .held) past
 
 module _ (A : Arith) (w h : ℕ) where
-  -- an accepted frame: the chain runs over the first count words of the framebuffer
+  -- an accepted frame: the chain runs over the first count words of the framebuffer, and it reports how many channels the
+  -- passes that are on clipped
   unfoldable pub shownBy : Station → (words past : List ℕ) → Framed
   shownBy s words past =
       let x : Flow = chainBy A w h (chainOf s) (incoming w h s words past) in
-      framed (acceptance []) (hold (x .held) s) (x .frame ++ drop (h * w) words) (x .past)
+      framed (acceptance (x .frame .clipped ∷ [])) (hold (x .held) s) (x .frame .words ++ drop (h * w) words) (x .past)
 
   -- `floats` and `ints` are the lengths of the scratches
   unfoldable pub frameReplyBy : Station → (words past : List ℕ) → (floats ints : ℕ) → Framed

@@ -1,26 +1,34 @@
--- The cases of the card, those that document 01 marks (●) and one for each refusal, and of the refusals of the calls. Each list pairs what a definition gives with what it should give, and one
--- proof by computation holds the whole list. Assumes nothing.
+-- The cases of the card, those that document 01 marks (●) and one for each refusal, of the refusals of the calls, and of what a frame
+-- reports. Each list pairs what a definition gives with what it should give, and one proof by computation holds the whole list.
+-- Assumes nothing.
 use Prim.Native.Nat.{ℕ}
 use mathlib.Core.Bool.{Bool, true, false}
 use mathlib.Core.List.{List, [], _∷_}
 use mathlib.Core.Path.{refl}
-use lib.Ieee.{ofBits, toBits, lt, eq, neg}
+use lib.Ieee.{ofBits, toBits, ofInt, add, sub, mul, div, lt, eq, neg}
 use Rattle.num.specs.Cases.{Hold}
-use Rattle.num.specs.Const.{c0·0}
-use Rattle.num.specs.Refusals.{badSide}
-use Rattle.num.specs.Steps.{clampOf, plusZeroOf, limitOf}
+use Rattle.num.specs.Const.{c0·0, c0·30, c1·0}
+use Rattle.num.specs.Refusals.{badSide, unless}
+use Rattle.num.specs.Rewrite.{rewrite}
+use Rattle.num.specs.Steps.{clampOf, cutOf, plusZeroOf, limitOf}
+use Rattle.num.specs.Sums.{sum}
+use Rattle.passes.specs as Text
 use Rattle.passes.specs.Flow.{sameHeld, fineHeld}
+use Rattle.passes.specs.Fold.{fold}
+use Rattle.passes.specs.Painted.{converted}
+use Rattle.passes.specs.Plain.Persistence as Persistence
 use Rattle.chain.specs.Step.{refuseIf}
 use Rattle.chain.specs.Bits.{valueAt, fieldAt}
 use Rattle.chain.specs.Settings.{finiteAt, limitedAt, withinAt, countAt, presetAt}
 use Rattle.chain.specs.Passes.{passAt, persistenceAt, lutAt, colorCorrectionAt, scanlinesAt}
 use Rattle.chain.specs.Records.{recordAt}
 use Rattle.chain.specs.Card.{stationOf, headerAt, recordsAt, endsAt, endAt, stationAt, accepted, openOf, stoppedOf}
-use Rattle.chain.specs.Calls.{hold, stops, lacks}
-use Rattle.chain.specs.Chain.{depth}
+use Rattle.chain.specs.Calls.{hold, stops, lacks, Report, refusal, acceptance, shownBy, frameReply, frameReplyBy}
+use Rattle.chain.specs.Chain.{wash, overBy, turnBy, depth}
 use Rattle.chain.specs.Normal.{settled, normalPass, normalChain, persists, goodStation}
 use Rattle.chain.specs.Written.{bits, passBits, recordBits, recordsBits, chainBits, valueOf, pack, chainCard, cardOf}
-use Rattle.chain.specs.declared.station.Pass.the-variants.{Persistence, Scanlines}
+use Rattle.chain.specs.declared.station.Pass.the-variants.{Persistence, Lut, ColorCorrection, Scanlines}
+use Rattle.chain.specs.declared.station.Record.{Record}
 use Rattle.chain.specs.declared.station.Station.{Station}
 use Rattle.chain.specs.declared.reader.Opened.{Opened}
 use Rattle.chain.specs.declared.station.Answer.the-variants.{Refused}
@@ -121,3 +129,44 @@ stopped =
 pub stopped-hold : Hold stopped
 unfolding stops lacks badSide goodStation fineHeld sameHeld normalChain normalPass settled persists depth ofBits lt
 stopped-hold = refl
+
+-- What a frame of two words and one row reports: the channels that the passes that are on clipped (request P5).
+-- Colour, brightness 1, clips the three channels of 010101 and none of black, which comes to lie exactly at the end; LUT, high contrast,
+-- then clips all six of two white words, and of the frame as it came, if it is alone. Persistence at 0.3 clips all six where its history
+-- is white, and none when it refills it. A refusal reports its number alone.
+abbrev reportOf : List Record → (held : ℕ) → (words past : List ℕ) → Report
+reportOf rs held words past = frameReply 2 1 (hold held (stationOf rs)) words past 12 2 .answer
+
+abbrev dark : List ℕ
+dark = 0 ∷ 0x010101 ∷ []
+
+abbrev white : List ℕ
+white = 0xffffff ∷ 0xffffff ∷ []
+
+abbrev toned : (colour lut : Bool) → List Record
+toned colour lut = record { on = colour; pass = ColorCorrection c1·0 c1·0 c1·0 c1·0 } ∷ record { on = lut; pass = Lut 6 c1·0 } ∷ []
+
+abbrev tube : List Record
+tube = record { on = true; pass = Persistence c0·30 1 } ∷ record { on = true; pass = Scanlines c1·0 } ∷ []
+
+abbrev pub reports : List (Report × Report)
+reports =
+    (reportOf [] 0 dark [], acceptance (0 ∷ []))
+    ∷ (reportOf (toned true true) 0 dark [], acceptance (9 ∷ []))
+    ∷ (reportOf (toned true false) 0 dark [], acceptance (3 ∷ []))
+    ∷ (reportOf (toned false true) 0 dark [], acceptance (6 ∷ []))
+    ∷ (reportOf (toned false false) 0 dark [], acceptance (0 ∷ []))
+    ∷ (reportOf tube 2 white white, acceptance (6 ∷ []))
+    ∷ (reportOf tube 1 white white, acceptance (0 ∷ []))
+    ∷ (reportOf tube 2 white (0xffffff ∷ []), refusal 10)
+    ∷ []
+
+pub reports-hold : Hold reports
+unfolding frameReplyBy unless shownBy stops badSide goodStation fineHeld sameHeld normalChain normalPass settled persists depth fold turnBy
+    overBy wash ofBits ofInt add sub mul div neg lt clampOf cutOf rewrite sum converted Text.Pixel.unpack Text.Pixel.unit Text.Pixel.pack
+    Text.Pixel.packLimited Text.Pixel.packUnit Text.Pixel.clip Text.Pixel.clips Text.Pixel.dim Text.Pixel.luma709
+    Text.ColorCorrection.colorCorrection Text.ColorCorrection.colour Text.Lut.lut Text.Lut.colour Text.Lut.transform
+    Text.Scanlines.scanlines Text.Scanlines.inRow Text.Persistence.persistence Text.Persistence.decay Text.Persistence.total
+    Text.Persistence.add Text.Persistence.mix Text.Persistence.blended Text.Persistence.blend Persistence.copies Persistence.refilled
+    Persistence.shifted
+reports-hold = refl

@@ -5,6 +5,7 @@ use mathlib.Core.List.{List, [], _∷_}
 use Rattle.passes.specs.Arith.{Arith, plain}
 use Rattle.passes.specs.Fold.{fold}
 use Rattle.passes.specs.Flow.{sized, Flow, flow}
+use Rattle.passes.specs.Painted.{Painted, onto, unclipped}
 use Rattle.passes.specs.Ntsc.{ntsc}
 use Rattle.passes.specs.Bloom.{bloom}
 use Rattle.passes.specs.AutoGradient.{autoGradient}
@@ -20,9 +21,9 @@ use Rattle.chain.specs.declared.station.Pass.the-variants.{Ntsc, Bloom, 
 use Rattle.chain.specs.declared.station.Pass.the-variants.{ColorCorrection, Crt, Vignette, Scanlines}
 use Rattle.chain.specs.declared.station.Record.{Record}
 
--- a pass without memory
-unfoldable pub wash : (List ℕ → List ℕ) → Flow → Flow
-wash paint x = flow (paint (x .frame)) (x .held) (x .past)
+-- a pass without memory: what it clips is added to what was clipped before
+unfoldable pub wash : (List ℕ → Painted) → Flow → Flow
+wash paint x = flow (onto paint (x .frame)) (x .held) (x .past)
 
 -- ## The passes, over an arithmetic A (passes' Arith)
 
@@ -35,12 +36,12 @@ module _ (A : Arith) (w h : ℕ) where
       wash (autoGradient A w h (A .lit strength) (A .lit vertical) (A .lit horizontal))
   overBy (Persistence amount depth) = persistence A (A .lit amount) depth (sized w h)
   overBy (Lut preset strength) = wash (lut A preset (A .lit strength))
-  overBy (Curvature amount) = wash (curvature A w h (A .lit amount))
+  overBy (Curvature amount) = wash (unclipped (curvature A w h (A .lit amount)))
   overBy (ColorCorrection brightness contrast saturation gamma) =
       wash (colorCorrection A (A .lit brightness) (A .lit contrast) (A .lit saturation))
-  overBy (Crt strength) = wash (crt A w h (A .lit strength))
-  overBy (Vignette strength) = wash (vignette A w h (A .lit strength))
-  overBy (Scanlines strength) = wash (scanlines A w (A .lit strength))
+  overBy (Crt strength) = wash (unclipped (crt A w h (A .lit strength)))
+  overBy (Vignette strength) = wash (unclipped (vignette A w h (A .lit strength)))
+  overBy (Scanlines strength) = wash (unclipped (scanlines A w (A .lit strength)))
 
   -- a record: its pass, where it is on
   unfoldable pub turnBy : Flow → Record → Flow

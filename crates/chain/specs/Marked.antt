@@ -13,6 +13,7 @@ use Rattle.num.specs.Steps.{clampOf, minOf, maxOf, absOf, cutOf, roundOf, plusZ
 use Rattle.passes.specs as Text
 use Rattle.passes.specs.Flow.{sameHeld, fineHeld, Flow}
 use Rattle.passes.specs.Fold.{fold}
+use Rattle.passes.specs.Painted.{converted}
 use Rattle.passes.specs.Plain.Persistence as Persistence
 use Rattle.chain.specs.Agree.{opened}
 use Rattle.chain.specs.Alike.{chainOf}
@@ -84,10 +85,10 @@ unfolding dec ofBits toBits ofInt add sub mul div neg lt le eq clampOf minOf max
     Text.Vignette.factor Text.Crt.crt Text.Crt.beam Text.Crt.phosphor Text.Crt.offset Text.Crt.edge Text.Crt.shade
     Text.Curvature.curvature Text.Curvature.bend Text.Curvature.sample Text.Curvature.outside
     Text.AutoGradient.autoGradient Text.AutoGradient.shaded Text.AutoGradient.adaptive Text.AutoGradient.addLuma
-    Text.AutoGradient.warm Text.AutoGradient.brightness Text.AutoGradient.shade Text.Persistence.persistence
-    Text.Persistence.decay Text.Persistence.total Text.Persistence.add Text.Persistence.mix Text.Persistence.pixel
+    Text.AutoGradient.warm Text.AutoGradient.fall Text.AutoGradient.brightness Text.AutoGradient.shade Text.Persistence.persistence
+    Text.Persistence.decay Text.Persistence.total Text.Persistence.add Text.Persistence.mix converted
     Text.Persistence.blended Text.Persistence.blend Persistence.copies Persistence.refilled Persistence.shifted
-    Text.ColorCorrection.colorCorrection Text.ColorCorrection.pixel openOf stationAt headerAt fieldAt valueAt refuseIf
+    Text.ColorCorrection.colorCorrection Text.ColorCorrection.colour openOf stationAt headerAt fieldAt valueAt refuseIf
     recordsAt endAt endsAt recordAt passAt autoGradientAt persistenceAt curvatureAt colorCorrectionAt crtAt vignetteAt
     scanlinesAt finiteAt limitedAt withinAt gainAt countAt cardOf chainCard packBytes valueOf chainBits recordsBits
     recordBits passBits bits saw after call frameReplyBy unless shownBy stops badSide goodStation normalChain

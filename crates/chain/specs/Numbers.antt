@@ -23,8 +23,8 @@ use Rattle.chain.specs.declared.station.Station.{Station}
 -- each pass with normalised settings, over any words of a frame with sides up to 1024
 abbrev pub Pass-inside : Arith → Type 0
 Pass-inside A =
-    (w h : ℕ) (p : Pass) (x : Flow) → normalPass p ≡ true → Typed p → Frame w h (x .frame)
-    → depthOf p * length (x .frame) ≤ length (x .past)
+    (w h : ℕ) (p : Pass) (x : Flow) → normalPass p ≡ true → Typed p → Frame w h (x .frame .words)
+    → depthOf p * length (x .frame .words) ≤ length (x .past)
     → overBy A w h p x ≡ over w h p x
 
 -- each call for a frame, whatever the station and what is lent: what the passes ask is what the refusals leave

@@ -22,9 +22,20 @@ use super::station::Record;
 use super::station::Station;
 use super::station::kind_of;
 
-// What a frame, a reset and a switch answer, with the station.
+// What a reset and a switch answer, with the station.
 pub struct Called {
     pub answer: Answer,
+    pub station: Station,
+}
+
+// What a frame answers: how many channels the passes that are on clipped, or a refusal's number.
+pub enum FrameAnswer {
+    Shown { clipped: u32 },
+    Refused(u8),
+}
+
+pub struct Applied {
+    pub answer: FrameAnswer,
     pub station: Station,
 }
 
@@ -61,8 +72,9 @@ pub fn apply(
     history: &mut [u32],
     floats: &mut [f32],
     ints: &mut [u32],
-) -> Called
-    ensures { λ r. ⌜ Applies width height station (now (framebuffer .entry)) (now (history .entry)) (now (floats .entry)) (now (ints .entry)) r (now (framebuffer .exit)) (now (history .exit)) (now (floats .exit)) (now (ints .exit)) ⌝ }
+) -> Applied
+    ensures { λ r. ⌜ Applies width height station (now (framebuffer .entry)) (now (history .entry)) (now (floats .entry)) (now (ints .entry))
+        r (now (framebuffer .exit)) (now (history .exit)) (now (floats .exit)) (now (ints .exit)) ⌝ }
 {
     let refusal = stops(
         station,
@@ -74,8 +86,8 @@ pub fn apply(
         ints.len(),
     );
     if refusal != 0 {
-        return Called {
-            answer: Answer::Refused(refusal),
+        return Applied {
+            answer: FrameAnswer::Refused(refusal),
             station,
         };
     }
@@ -84,7 +96,7 @@ pub fn apply(
     let n = station.n;
     let records = station.records;
     let before = station.held;
-    let held = run_chain(
+    let run = run_chain(
         records,
         n,
         &mut framebuffer[..count],
@@ -95,9 +107,11 @@ pub fn apply(
         height,
         before,
     );
+    let held = run.held;
+    let clipped = run.clipped;
     let after = Station { records, n, held };
-    Called {
-        answer: Answer::Accepted,
+    Applied {
+        answer: FrameAnswer::Shown { clipped },
         station: after,
     }
 }

@@ -3,6 +3,7 @@
 ghost use mathlib.Core.Path.{_≡_};
 ghost use lib.ListN.{length, take};
 ghost use Rattle.passes.specs.Flow.{flow};
+ghost use Rattle.passes.specs.Painted.{painted};
 ghost use Rattle.chain.specs.Chain.{over, turn, chain};
 ghost use Rattle.chain.specs.Lent.{Lent, Ready, Readies};
 use super::station::Pass;
@@ -18,7 +19,13 @@ use passes::persistence;
 use passes::scanlines;
 use passes::vignette;
 
-// One pass. Returns what is held.
+// What a run leaves beside the frame and the history: what is held, and how many channels it clipped.
+pub(crate) struct Run {
+    pub(crate) held: u32,
+    pub(crate) clipped: u32,
+}
+
+// One pass.
 pub(crate) fn run_pass(
     pass: Pass,
     frame: &mut [u32],
@@ -28,21 +35,22 @@ pub(crate) fn run_pass(
     width: usize,
     height: usize,
     held: u32,
-) -> u32
+) -> Run
     requires { ⌜ Lent width height (now frame) (now floats) (now ints) ⌝ ∗ ⌜ Ready width height pass (length (now history)) ⌝ }
-    ensures { λ r. ⌜ flow (now (frame .exit)) r (now (history .exit)) ≡ over width height pass (flow (now (frame .entry)) held (now (history .entry))) ⌝ }
+    ensures { λ r. ⌜ flow (painted (now (frame .exit)) (r .clipped)) (r .held) (now (history .exit))
+        ≡ over width height pass (flow (painted (now (frame .entry)) 0) held (now (history .entry))) ⌝ }
 {
     match pass {
         Pass::Ntsc { strength, bleed } => {
-            ntsc::apply(frame, width, height, strength, bleed as usize);
-            held
+            let clipped = ntsc::apply(frame, width, height, strength, bleed as usize);
+            Run { held, clipped }
         }
         Pass::Bloom {
             threshold,
             strength,
             radius,
         } => {
-            bloom::apply(
+            let clipped = bloom::apply(
                 frame,
                 floats,
                 width,
@@ -51,26 +59,36 @@ pub(crate) fn run_pass(
                 strength,
                 radius as usize,
             );
-            held
+            Run { held, clipped }
         }
         Pass::AutoGradient {
             strength,
             vertical,
             horizontal,
         } => {
-            auto_gradient::apply(frame, width, height, strength, vertical, horizontal);
-            held
+            let clipped = auto_gradient::apply(
+                frame,
+                width,
+                height,
+                strength,
+                vertical,
+                horizontal,
+            );
+            Run { held, clipped }
         }
         Pass::Persistence { amount, depth } => {
-            persistence::apply(frame, history, ints, amount, depth, held)
+            let kept = persistence::apply(frame, history, ints, amount, depth, held);
+            let held = kept.held;
+            let clipped = kept.clipped;
+            Run { held, clipped }
         }
         Pass::Lut { preset, strength } => {
-            lut::apply(frame, preset, strength);
-            held
+            let clipped = lut::apply(frame, preset, strength);
+            Run { held, clipped }
         }
         Pass::Curvature { amount } => {
             curvature::apply(frame, ints, width, height, amount);
-            held
+            Run { held, clipped: 0 }
         }
         Pass::ColorCorrection {
             brightness,
@@ -78,25 +96,25 @@ pub(crate) fn run_pass(
             saturation,
             gamma: _,
         } => {
-            color_correction::apply(frame, brightness, contrast, saturation);
-            held
+            let clipped = color_correction::apply(frame, brightness, contrast, saturation);
+            Run { held, clipped }
         }
         Pass::Crt { strength } => {
             crt::apply(frame, width, height, strength);
-            held
+            Run { held, clipped: 0 }
         }
         Pass::Vignette { strength } => {
             vignette::apply(frame, floats, width, height, strength);
-            held
+            Run { held, clipped: 0 }
         }
         Pass::Scanlines { strength } => {
             scanlines::apply(frame, width, height, strength);
-            held
+            Run { held, clipped: 0 }
         }
     }
 }
 
-// A record: its pass, where it is on. Returns what is held.
+// A record: its pass, where it is on.
 pub(crate) fn run_record(
     rec: Record,
     frame: &mut [u32],
@@ -106,19 +124,20 @@ pub(crate) fn run_record(
     width: usize,
     height: usize,
     held: u32,
-) -> u32
+) -> Run
     requires { ⌜ Lent width height (now frame) (now floats) (now ints) ⌝ ∗ ⌜ Ready width height (rec .pass) (length (now history)) ⌝ }
-    ensures { λ r. ⌜ flow (now (frame .exit)) r (now (history .exit)) ≡ turn width height (flow (now (frame .entry)) held (now (history .entry))) rec ⌝ }
+    ensures { λ r. ⌜ flow (painted (now (frame .exit)) (r .clipped)) (r .held) (now (history .exit))
+        ≡ turn width height (flow (painted (now (frame .entry)) 0) held (now (history .entry))) rec ⌝ }
 {
     let on = rec.on;
     let pass = rec.pass;
     if on {
         return run_pass(pass, frame, history, floats, ints, width, height, held);
     }
-    held
+    Run { held, clipped: 0 }
 }
 
-// The first n records in their order. Returns what is held.
+// The first n records in their order.
 pub(crate) fn run_chain(
     records: [Record; 10],
     n: usize,
@@ -129,16 +148,20 @@ pub(crate) fn run_chain(
     width: usize,
     height: usize,
     held: u32,
-) -> u32
+) -> Run
     requires { ⌜ Lent width height (now frame) (now floats) (now ints) ⌝ ∗ ⌜ Readies width height n records (length (now history)) ⌝ }
-    ensures { λ r. ⌜ flow (now (frame .exit)) r (now (history .exit)) ≡ chain width height (take n records) (flow (now (frame .entry)) held (now (history .entry))) ⌝ }
+    ensures { λ r. ⌜ flow (painted (now (frame .exit)) (r .clipped)) (r .held) (now (history .exit))
+        ≡ chain width height (take n records) (flow (painted (now (frame .entry)) 0) held (now (history .entry))) ⌝ }
 {
     let mut held = held;
+    let mut clipped: u32 = 0;
     let mut i: usize = 0;
     while i < n {
         let r = records[i];
-        held = run_record(r, frame, history, floats, ints, width, height, held);
+        let run = run_record(r, frame, history, floats, ints, width, height, held);
+        held = run.held;
+        clipped += run.clipped;
         i += 1;
     }
-    held
+    Run { held, clipped }
 }

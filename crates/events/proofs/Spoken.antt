@@ -4,10 +4,12 @@ use mathlib.Core.Path.{_≡_, refl, sym, ap, subst, _∙_}
 use mathlib.Core.Bool.{Bool, true, false}
 use mathlib.Core.List.{List, [], _++_, append-nil}
 use lib.ListN.{drop}
-use Rattle.chain.specs.Answers.{reported, reportedStep}
+use Rattle.chain.specs.Answers.{reported, reportedFrame, reportedStep}
 use Rattle.chain.specs.Calls.{Reply, Framed, frameReply}
 use Rattle.chain.specs.declared.pipeline.Cycle.{Cycle}
 use Rattle.chain.specs.declared.pipeline.Cycle.the-variants as Cycle
+use Rattle.chain.specs.declared.pipeline.FrameAnswer.{FrameAnswer}
+use Rattle.chain.specs.declared.pipeline.FrameAnswer.the-variants as Frame
 use Rattle.chain.specs.declared.reader.Opened.{Opened}
 use Rattle.chain.specs.declared.station.Answer.{Answer}
 use Rattle.chain.specs.declared.station.Answer.the-variants.{Accepted, Refused}
@@ -38,11 +40,11 @@ new-preset a p e = ap (line L) (sym (append-nil (numberOf p))) ∙ ap (λ (b : C
 pub no-preset : (a : Cycle) (k : ℕ) → a ≡ Cycle.Refused k → refusalLine k ≡ spoken L (reportedStep a)
 no-preset a k e = ap (λ (b : Cycle). spoken L (reportedStep b)) (sym e)
 
-pub picture : (words : List ℕ) (a : Answer) → a ≡ Accepted → line F (pixelsOf words) ≡ pictured (reported a) words
-picture words a e = ap (λ (b : Answer). pictured (reported b) words) (sym e)
+pub picture : (words : List ℕ) (a : FrameAnswer) (n : ℕ) → a ≡ Frame.Shown n → line F (pixelsOf words) ≡ pictured (reportedFrame a) words
+picture words a n e = ap (λ (b : FrameAnswer). pictured (reportedFrame b) words) (sym e)
 
-pub no-picture : (words : List ℕ) (a : Answer) (k : ℕ) → a ≡ Refused k → refusalLine k ≡ pictured (reported a) words
-no-picture words a k e = ap (λ (b : Answer). pictured (reported b) words) (sym e)
+pub no-picture : (words : List ℕ) (a : FrameAnswer) (k : ℕ) → a ≡ Frame.Refused k → refusalLine k ≡ pictured (reportedFrame a) words
+no-picture words a k e = ap (λ (b : FrameAnswer). pictured (reportedFrame b) words) (sym e)
 
 -- ## What was played
 

@@ -3,7 +3,7 @@ ghost use mathlib.Core.Path.{_≡_};
 ghost use mathlib.Core.Bool.{true};
 ghost use Prim.Native.Nat.{_*_, _≤_};
 ghost use lib.ListN.{length};
-ghost use Rattle.chain.specs.Answers.{reported, reportedStep};
+ghost use Rattle.chain.specs.Answers.{reported, reportedFrame, reportedStep};
 ghost use Rattle.chain.specs.Calls.{resetReply, switchReply, stepReply, frameReply};
 ghost use Rattle.chain.specs.Card.{openOf};
 ghost use Rattle.events.specs.Events.{cardIn, Whole};
@@ -19,6 +19,7 @@ use super::text::letter_line;
 use super::text::number_line;
 use chain::pipeline;
 use chain::pipeline::Cycle;
+use chain::pipeline::FrameAnswer;
 use chain::reader;
 use chain::reader::Opened;
 use chain::station::Answer;
@@ -56,14 +57,14 @@ fn step_line(answer: Cycle, out: &mut [u8]) -> usize
     }
 }
 
-// The line of a frame.
-fn picture_line(answer: Answer, frame: &[u32], out: &mut [u8]) -> usize
+// The line of a frame. How many channels were clipped is not printed: document 01's lines have no place for it.
+fn picture_line(answer: FrameAnswer, frame: &[u32], out: &mut [u8]) -> usize
     requires { ⌜ (length (now frame) ≤ 1024) × (7170 ≤ length (now out)) ⌝ }
-    ensures { λ r. ⌜ Printed (pictured (reported answer) (now (frame .entry))) r (now (out .entry)) (now (out .exit)) ⌝ }
+    ensures { λ r. ⌜ Printed (pictured (reportedFrame answer) (now (frame .entry))) r (now (out .entry)) (now (out .exit)) ⌝ }
 {
     match answer {
-        Answer::Accepted => frame_line(out, frame),
-        Answer::Refused(k) => number_line(out, b'E', k),
+        FrameAnswer::Shown { clipped: _ } => frame_line(out, frame),
+        FrameAnswer::Refused(k) => number_line(out, b'E', k),
     }
 }
 
@@ -128,9 +129,9 @@ fn show(
     ensures { λ r. ⌜ Gives (shown (frameReply width height station (unpacked (height * width) (now (pixels .entry))) (now (history .entry)) 6144 1024)) r (now (words .exit)) (now (history .exit)) (now (out .entry)) (now (out .exit)) ⌝ }
 {
     unpack(words, pixels);
-    let called = pipeline::apply(station, words, width, height, history, floats, ints);
-    let answer = called.answer;
-    let after = called.station;
+    let applied = pipeline::apply(station, words, width, height, history, floats, ints);
+    let answer = applied.answer;
+    let after = applied.station;
     let length = picture_line(answer, words, out);
     Played {
         station: after,

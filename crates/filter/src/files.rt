@@ -30,16 +30,23 @@ pub struct Turn {
     pub more: bool,
 }
 
+// Writes the picture, of which so many channels were clipped.
+fn picture(i: usize, clipped: u32, tell: bool, file: &[u8]) -> bool {
+    let written = io::write_all(STDOUT_FILENO, file);
+    if !written {
+        os::fail(b"standard output");
+        return false;
+    }
+    if tell {
+        says::clipped(i, clipped);
+    }
+    true
+}
+
 // Writes the picture, or says why there is none.
-fn write(i: usize, outcome: Outcome, file: &[u8]) -> bool {
+fn write(i: usize, outcome: Outcome, tell: bool, file: &[u8]) -> bool {
     match outcome {
-        Outcome::Shown => {
-            let written = io::write_all(STDOUT_FILENO, file);
-            if !written {
-                os::fail(b"standard output");
-            }
-            written
-        }
+        Outcome::Shown { clipped } => picture(i, clipped, tell, file),
         Outcome::NoFrame(k) => {
             says::no_frame(i, k);
             false
@@ -51,10 +58,11 @@ fn write(i: usize, outcome: Outcome, file: &[u8]) -> bool {
     }
 }
 
-// Filters the frame in these bytes, which argument i named, and writes the picture.
+// Filters the frame in these bytes, which argument i named, and writes the picture. With `tell` it is said how many channels were clipped.
 pub fn show(
     station: Station,
     i: usize,
+    tell: bool,
     file: &mut [u8],
     words: &mut [u32; 61440],
     history: &mut [u32; 491520],
@@ -64,7 +72,7 @@ pub fn show(
     let filtered = frames::filter(station, file, words, history, floats, ints);
     let outcome = filtered.outcome;
     let after = filtered.station;
-    let more = write(i, outcome, file);
+    let more = write(i, outcome, tell, file);
     Turn {
         station: after,
         more,
@@ -75,6 +83,7 @@ pub fn show(
 pub fn play(
     station: Station,
     i: usize,
+    tell: bool,
     file: &mut [u8],
     words: &mut [u32; 61440],
     history: &mut [u32; 491520],
@@ -89,5 +98,14 @@ pub fn play(
         };
     }
     let n = loaded.length;
-    show(station, i, &mut file[..n], words, history, floats, ints)
+    show(
+        station,
+        i,
+        tell,
+        &mut file[..n],
+        words,
+        history,
+        floats,
+        ints,
+    )
 }

@@ -1,6 +1,9 @@
 // Program `filter`: runs frames through a card and writes the pictures. Each argument after the card names a file with one frame as binary PPM. The frames go
 // through one station one after another, so persistence sees them in a row. The pictures are written to standard output one after another, each the file of
-// its frame with other pixels. Every file is looked at before anything is written. What becomes of a file is decided by crate `frames`.
+// its frame with other pixels. Every file is looked at before anything is written. With the option --clipped it is said on standard error of each picture
+// how many channels were clipped. What becomes of a file is decided by crate `frames`.
+ghost use Prim.Native.Nat.{_≤_};
+
 mod memory; // the buffers that are lent
 mod files; // frames read, looked at and shown
 mod says; // why something is refused
@@ -14,13 +17,13 @@ use libc::STDERR_FILENO;
 fn usage() {
     io::write_all(
         STDERR_FILENO,
-        b"usage: filter CARD FRAME..   (a card as a file or in hexadecimal; frames as binary PPM, up to 256 by 240 pixels)\n",
+        b"usage: filter [--clipped] CARD FRAME..   (a card as a file or in hexadecimal; frames as binary PPM, up to 256 by 240 pixels)\n",
     );
 }
 
-// Whether every argument from the second on names a frame that can be taken.
-fn all_taken(count: usize, file: &mut [u8]) -> bool {
-    let mut i = 2;
+// Whether every argument from the first frame on names a frame that can be taken.
+fn all_taken(first: usize, count: usize, file: &mut [u8]) -> bool {
+    let mut i = first;
     while i < count {
         if files::taken(i, file) == 0 {
             return false;
@@ -31,18 +34,19 @@ fn all_taken(count: usize, file: &mut [u8]) -> bool {
 }
 
 // Shows the frames in a row, as long as they can be read and written.
-fn show_all(station: Station, count: usize, file: &mut [u8]) {
+fn show_all(station: Station, first: usize, count: usize, tell: bool, file: &mut [u8]) {
     let mut words = cli::memory::words();
     let mut history = memory::history();
     let mut floats = memory::floats();
     let mut ints = memory::ints();
     let mut now = station;
     let mut more = true;
-    let mut i = 2;
+    let mut i = first;
     while i < count && more {
         let turn = files::play(
             now,
             i,
+            tell,
             file,
             &mut words,
             &mut history,
@@ -56,14 +60,15 @@ fn show_all(station: Station, count: usize, file: &mut [u8]) {
 }
 
 // A single frame, in these bytes.
-fn show_one(station: Station, file: &mut [u8]) {
+fn show_one(station: Station, first: usize, tell: bool, file: &mut [u8]) {
     let mut words = cli::memory::words();
     let mut history = memory::history();
     let mut floats = memory::floats();
     let mut ints = memory::ints();
     files::show(
         station,
-        2,
+        first,
+        tell,
         file,
         &mut words,
         &mut history,
@@ -73,41 +78,57 @@ fn show_one(station: Station, file: &mut [u8]) {
 }
 
 // A single frame is read once, so it may come from a pipe. Several are read twice: all are looked at before the first picture is written.
-fn run(station: Station, count: usize) {
+fn run(station: Station, first: usize, count: usize, tell: bool)
+    requires { ⌜ first ≤ 3 ⌝ }
+{
     let mut file = cli::memory::file();
-    if count == 3 {
-        let n = files::taken(2, &mut file);
+    if count == first + 1 {
+        let n = files::taken(first, &mut file);
         if 0 < n {
-            show_one(station, &mut file[..n]);
+            show_one(station, first, tell, &mut file[..n]);
         }
         return;
     }
-    if all_taken(count, &mut file) {
-        show_all(station, count, &mut file);
+    if all_taken(first, count, &mut file) {
+        show_all(station, first, count, tell, &mut file);
     }
 }
 
-fn open(card: &[u8], count: usize) {
-    let opened = reader::open(card);
-    let answer = opened.answer;
-    let station = opened.station;
-    match answer {
-        Answer::Accepted => run(station, count),
-        Answer::Refused(k) => says::card(card, k),
-    }
-}
-
-fn main() {
-    let count = os::arg_count();
-    if count < 3 || input::is_option(1) {
+// The card at place `at` among the arguments, and the frames behind it.
+fn play(at: usize, count: usize, tell: bool)
+    requires { ⌜ at ≤ 2 ⌝ }
+{
+    if count < at + 2 || input::is_option(at) {
         usage();
         return;
     }
     let mut card = io::buffer();
-    let loaded = input::card(1, &mut card);
+    let loaded = input::card(at, &mut card);
     if !loaded.ok {
         return;
     }
     let n = loaded.length;
-    open(&card[..n], count);
+    let opened = reader::open(&card[..n]);
+    let answer = opened.answer;
+    let station = opened.station;
+    match answer {
+        Answer::Accepted => run(station, at + 1, count, tell),
+        Answer::Refused(k) => says::card(at, &card[..n], k),
+    }
+}
+
+// Whether the first argument is the option.
+fn tells() -> bool {
+    let mut name = io::buffer();
+    let n = os::arg(1, &mut name);
+    check::same(&name[..n], b"--clipped")
+}
+
+fn main() {
+    let count = os::arg_count();
+    if tells() {
+        play(2, count, true);
+    } else {
+        play(1, count, false);
+    }
 }

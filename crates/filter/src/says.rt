@@ -1,12 +1,12 @@
-// Why something is refused: one line on standard error, behind the argument that gave it.
+// Why something is refused, and how many channels of a picture were clipped: one line on standard error, behind the argument that gave it.
 use cli::says::name;
 use cli::says::text;
 use cli::words;
 use libc::STDERR_FILENO;
 
-// The card, which is the first argument.
-pub fn card(card: &[u8], number: u8) {
-    name(STDERR_FILENO, 1);
+// The card, which argument i gives.
+pub fn card(i: usize, card: &[u8], number: u8) {
+    name(STDERR_FILENO, i);
     words::refused(STDERR_FILENO, card, number);
 }
 
@@ -22,4 +22,11 @@ pub fn no_picture(i: usize, number: u8) {
     text(b"refused: ");
     io::print_decimal(STDERR_FILENO, number as u64);
     text(b"\n");
+}
+
+// A picture that was written.
+pub fn clipped(i: usize, number: u32) {
+    name(STDERR_FILENO, i);
+    io::print_decimal(STDERR_FILENO, number as u64);
+    text(b" clipped channels\n");
 }

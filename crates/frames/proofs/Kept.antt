@@ -33,9 +33,9 @@ unfolding filteredOf
 unshown-keeps s file words past floats ints small = go (parseOf (length words) file) refl
   where
     answered : (w h start : ℕ) (r : Framed) (a : Report) → parseOf (length words) file ≡ Parsed.Frame w h start
-        → frameReply w h s (unpacked (h * w) (drop start file)) past floats ints ≡ r → r .answer ≡ a → (outcomeOf a ≡ Shown → ⊥)
+        → frameReply w h s (unpacked (h * w) (drop start file)) past floats ints ≡ r → r .answer ≡ a → ((n : ℕ) → outcomeOf a ≡ Shown n → ⊥)
         → (take start file ++ packedBytes (r .words) ≡ file) × (r .station ≡ s) × (r .past ≡ past)
-    answered w h start r (acceptance ns) p e is unshown = absurd (unshown refl)
+    answered w h start r (acceptance ns) p e is unshown = absurd (unshown _ refl)
     answered w h start r (refusal k) p e is unshown =
         let kept : r ≡ framed (refusal k) s (unpacked (h * w) (drop start file)) past =
         sym e ∙ refused-keeps .1 w h s (unpacked (h * w) (drop start file)) past floats ints k (ap (λ (x : Framed). x .answer) e ∙ is) in
@@ -47,7 +47,7 @@ unshown-keeps s file words past floats ints small = go (parseOf (length words) f
 
     go : (p : Parsed) → parseOf (length words) file ≡ p →
         let r : Result = byParsed p s file words past floats ints in
-        (r .outcome ≡ Shown → ⊥) → (r .file ≡ file) × (r .station ≡ s) × (r .past ≡ past)
+        ((n : ℕ) → r .outcome ≡ Shown n → ⊥) → (r .file ≡ file) × (r .station ≡ s) × (r .past ≡ past)
     go (Parsed.Refused k) e unshown = (refl, refl, refl)
     go (Parsed.Frame w h start) e unshown =
         let r = frameReply w h s (unpacked (h * w) (drop start file)) past floats ints in

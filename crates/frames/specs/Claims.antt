@@ -13,4 +13,4 @@ abbrev pub UnshownKeeps : Type 0
 UnshownKeeps =
     (s : Station) (file words past : List ℕ) (floats ints : ℕ) → ((i : ℕ) → i < length file → getD file i 0 < 256) →
     let r : Result = filteredOf s file words past floats ints in
-    (r .outcome ≡ Shown → ⊥) → (r .file ≡ file) × (r .station ≡ s) × (r .past ≡ past)
+    ((clipped : ℕ) → r .outcome ≡ Shown clipped → ⊥) → (r .file ≡ file) × (r .station ≡ s) × (r .past ≡ past)

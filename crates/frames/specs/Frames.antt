@@ -4,7 +4,7 @@ use Prim.Native.Nat.{ℕ, _*_}
 use mathlib.Core.Path.{_≡_}
 use mathlib.Core.Bool.{Bool, cond}
 use mathlib.Core.List.{List, _++_}
-use lib.ListN.{length, take, drop}
+use lib.ListN.{length, getD, take, drop}
 use Rattle.raster.specs.Pixels.{unpacked, packedBytes}
 use lib.Dec.{eqb}
 use Rattle.raster.specs.Ppm.{pixelsCut, leftOver, parseOf}
@@ -16,10 +16,10 @@ use Rattle.frames.specs.declared.Outcome.{Outcome}
 use Rattle.frames.specs.declared.Outcome.the-variants.{Shown, NoFrame, Refused}
 use Rattle.frames.specs.declared.Filtered.{Filtered}
 
--- what a frame's answer is, in the code's words
+-- what a frame's answer is, in the code's words: acceptance reports one number, how many channels were clipped
 abbrev pub outcomeOf : Report → Outcome
 outcomeOf (refusal k) = Refused k
-outcomeOf (acceptance ns) = Shown
+outcomeOf (acceptance ns) = Shown (getD ns 0 0)
 
 -- the number of a refusal, 0 for none
 abbrev pub numberOf : Parsed → ℕ

@@ -4,7 +4,7 @@ ghost use Prim.Native.Nat.{_*_};
 ghost use lib.ListN.{length};
 ghost use Rattle.raster.specs.Pixels.{unpacked};
 ghost use Rattle.raster.specs.Ppm.{parseOf};
-ghost use Rattle.chain.specs.Answers.{reported};
+ghost use Rattle.chain.specs.Answers.{reportedFrame};
 ghost use Rattle.chain.specs.Calls.{frameReply};
 ghost use Rattle.frames.specs.Frames.{Room, Shows, Filters, filteredOf, outcomeOf, numberOf, faultOf};
 
@@ -12,7 +12,7 @@ pub mod area; // a rectangle in words
 pub mod judge; // the totals of rectangles of the frame that a file holds
 
 use chain::pipeline;
-use chain::station::Answer;
+use chain::pipeline::FrameAnswer;
 use chain::station::Station;
 use raster::pixels;
 use raster::ppm;
@@ -20,8 +20,8 @@ use raster::ppm::Parsed;
 
 // What became of a file.
 pub enum Outcome {
-    // It holds the picture.
-    Shown,
+    // It holds the picture, and so many channels were clipped.
+    Shown { clipped: u32 },
     // It is no frame that can be taken, by the number of raster::ppm.
     NoFrame(u8),
     // The station refused the frame, by the number of document 01's table.
@@ -33,12 +33,12 @@ pub struct Filtered {
     pub station: Station,
 }
 
-fn answered(answer: Answer) -> Outcome
-    ensures { λ r. ⌜ r ≡ outcomeOf (reported answer) ⌝ }
+fn answered(answer: FrameAnswer) -> Outcome
+    ensures { λ r. ⌜ r ≡ outcomeOf (reportedFrame answer) ⌝ }
 {
     match answer {
-        Answer::Accepted => Outcome::Shown,
-        Answer::Refused(k) => Outcome::Refused(k),
+        FrameAnswer::Shown { clipped } => Outcome::Shown { clipped },
+        FrameAnswer::Refused(k) => Outcome::Refused(k),
     }
 }
 
@@ -57,10 +57,10 @@ fn show(
     ensures { λ r. ⌜ Shows (frameReply width height station (unpacked (height * width) (now (pixels .entry))) (now (history .entry)) (length (now (floats .entry))) (length (now (ints .entry)))) r (now (pixels .exit)) (now (words .exit)) (now (history .exit)) ⌝ }
 {
     pixels::unpack(words, pixels);
-    let called = pipeline::apply(station, words, width, height, history, floats, ints);
+    let applied = pipeline::apply(station, words, width, height, history, floats, ints);
     pixels::pack(pixels, words);
-    let answer = called.answer;
-    let after = called.station;
+    let answer = applied.answer;
+    let after = applied.station;
     Filtered {
         outcome: answered(answer),
         station: after,

@@ -1,7 +1,7 @@
 -- Definitions: F32, Const, Steps, Root, NearestRoot, and Private for the contracts of private functions. Laws that
 -- callers cite: Order, Within, Bounds, Index, Signs, Values; of rounding and ranges: Sized, Least, Quotients, Squares,
--- Upto; how far a rounding moves: Units. Laws of loops that rewrite a slice: Rewrite. What calls refuse by, and its laws:
--- Refusals. Worked cases: Cases.
+-- Upto; how far a rounding moves: Units. Laws of loops that rewrite a slice: Rewrite; of sums: Sums. What calls refuse by, and
+-- its laws: Refusals. Worked cases: Cases.
 pub mod F32
 pub mod Const
 pub mod Steps
@@ -21,5 +21,6 @@ pub mod Squares
 pub mod Upto
 pub mod Units
 pub mod Rewrite
+pub mod Sums
 pub mod Refusals
 pub mod Cases

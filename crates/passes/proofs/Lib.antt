@@ -2,6 +2,7 @@
 mod Sums
 mod Offsets
 mod Chroma
+mod Collected
 mod Greys
 mod Planes
 mod Mirror

@@ -4,15 +4,15 @@ use Prim.Native.Nat.{ℕ}
 use mathlib.Core.List.{List}
 use lib.ListN.{length}
 use Rattle.num.specs.Const.{c0·0, c0·30, c0·45, c1·0, c14·0, c18·0, c255·0, c5·0}
-use Rattle.num.specs.Rewrite.{every}
 use Rattle.passes.specs.Arith.{Arith}
 use Rattle.passes.specs.Fold.{fold}
-use Rattle.passes.specs.Pixel.{luma709, packLimited, unpack}
+use Rattle.passes.specs.Painted.{Painted, fromLimited}
+use Rattle.passes.specs.Pixel.{luma709, unpack}
 use Rattle.passes.specs.Position.{position}
 use Rattle.passes.specs.Rows.{placed}
 
 module _ (A : Arith) where
-  open Arith A using (F, lit, whole, _⊕_, _⊖_, _⊗_, _⊘_, neg, abs, clamp, rgb, red, green, blue)
+  open Arith A using (F, lit, whole, _⊕_, _⊖_, _⊗_, _⊘_, neg, abs, clamp, Rgb, rgb, red, green, blue)
 
   infixl 6 _⊕_
   infixl 6 _⊖_
@@ -32,24 +32,27 @@ module _ (A : Arith) where
   unfoldable pub warm : ℕ → ℕ → F → F → F
   warm h y vertical a = neg (position A y h) ⊗ vertical ⊗ a
 
-  -- the brightness factor at column x of w, in a row of warmth t
-  unfoldable pub brightness : ℕ → ℕ → F → F → F → F
-  brightness w x t horizontal a = (lit c1·0 ⊕ t ⊗ lit c0·30) ⊗ (lit c1·0 ⊖ abs (position A x w) ⊗ horizontal ⊗ a)
+  -- how much of its light column x of w keeps
+  unfoldable pub fall : ℕ → F → F → ℕ → F
+  fall w horizontal a x = lit c1·0 ⊖ abs (position A x w) ⊗ horizontal ⊗ a
 
-  unfoldable pub shade : F → F → ℕ → ℕ
+  -- the brightness factor of a column that keeps so much, in a row of warmth t
+  unfoldable pub brightness : F → F → F
+  brightness t kept = (lit c1·0 ⊕ t ⊗ lit c0·30) ⊗ kept
+
+  unfoldable pub shade : F → F → ℕ → Rgb
   shade t factor p =
       let c = unpack A p in
-      packLimited A
-      (rgb (red c ⊗ factor ⊕ t ⊗ lit c18·0) (green c ⊗ factor ⊕ t ⊗ lit c5·0) (blue c ⊗ factor ⊖ t ⊗ lit c14·0))
+      rgb (red c ⊗ factor ⊕ t ⊗ lit c18·0) (green c ⊗ factor ⊕ t ⊗ lit c5·0) (blue c ⊗ factor ⊖ t ⊗ lit c14·0)
 
-  -- the word at column x and row y
-  abbrev pub at : ℕ → ℕ → F → F → F → ℕ → ℕ → ℕ → ℕ
-  at w h vertical horizontal a x y = let t = warm h y vertical a in shade t (brightness w x t horizontal a)
+  -- the colour at column x and row y of h; `falls` gives how much of its light each column keeps
+  abbrev pub at : ℕ → (ℕ → F) → F → F → ℕ → ℕ → ℕ → Rgb
+  at h falls vertical a x y = let t = warm h y vertical a in shade t (brightness t (falls x))
 
-  unfoldable pub shaded : ℕ → ℕ → F → F → F → List ℕ → List ℕ
-  shaded w h vertical horizontal a frame = every (placed w (at w h vertical horizontal a)) frame
+  unfoldable pub shaded : ℕ → ℕ → F → F → F → List ℕ → Painted
+  shaded w h vertical horizontal a frame = fromLimited A (placed w (at h (fall w horizontal a) vertical a)) frame
 
   -- the mean is taken over the frame as it comes, by one sum from left to right
-  unfoldable pub autoGradient : ℕ → ℕ → F → F → F → List ℕ → List ℕ
+  unfoldable pub autoGradient : ℕ → ℕ → F → F → F → List ℕ → Painted
   autoGradient w h strength vertical horizontal frame =
       shaded w h vertical horizontal (adaptive strength (length frame) (fold addLuma (lit c0·0) frame)) frame

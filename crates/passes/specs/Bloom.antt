@@ -4,10 +4,10 @@ use Prim.Native.Nat.{ℕ}
 use mathlib.Core.Bool.{cond}
 use mathlib.Core.List.{List}
 use Rattle.num.specs.Const.{c0·0, c1·0, c255·0}
-use Rattle.num.specs.Rewrite.{every}
 use Rattle.passes.specs.Arith.{Arith}
 use Rattle.passes.specs.Blur.{blurBy, weights, down}
-use Rattle.passes.specs.Pixel.{packLimited, unpack, scaled, channel, luma709}
+use Rattle.passes.specs.Painted.{Painted, fromLimited}
+use Rattle.passes.specs.Pixel.{unpack, scaled, channel, luma709}
 use Rattle.passes.specs.Rows.{placed}
 
 module _ (A : Arith) where
@@ -51,17 +51,15 @@ module _ (A : Arith) where
       rgb (down A h radius (plane 0) x y) (down A h radius (plane 1) x y) (down A h radius (plane 2) x y)
 
   -- the glow of a word laid over it
-  unfoldable pub composite : F → Rgb → ℕ → ℕ
+  unfoldable pub composite : F → Rgb → ℕ → Rgb
   composite strength glow p =
       let c = unpack A p in
-      packLimited A
-      (rgb (red c ⊕ red glow ⊗ strength) (green c ⊕ green glow ⊗ strength) (blue c ⊕ blue glow ⊗ strength))
+      rgb (red c ⊕ red glow ⊗ strength) (green c ⊕ green glow ⊗ strength) (blue c ⊕ blue glow ⊗ strength)
 
-  -- a frame and three planes that are blurred along rows
-  abbrev pub over : ℕ → ℕ → F → ℕ → (ℕ → ℕ → ℕ → F) → List ℕ → List ℕ
-  over w h strength radius plane frame =
-      every (placed w (λ x y. composite strength (vertical h radius plane x y))) frame
+  -- the colour at column x and row y, over three planes that are blurred along rows
+  abbrev pub over : ℕ → F → ℕ → (ℕ → ℕ → ℕ → F) → ℕ → ℕ → ℕ → Rgb
+  over h strength radius plane x y = composite strength (vertical h radius plane x y)
 
-  unfoldable pub bloom : ℕ → ℕ → ℕ → F → ℕ → List ℕ → List ℕ
+  unfoldable pub bloom : ℕ → ℕ → ℕ → F → ℕ → List ℕ → Painted
   bloom w h threshold strength radius frame =
-      over w h strength radius (horizontal w radius (whole threshold) frame) frame
+      fromLimited A (placed w (over h strength radius (horizontal w radius (whole threshold) frame))) frame

@@ -1,4 +1,4 @@
--- The cases of the passes: those that document 01 marks (●), and one for each treatment that it leaves to the Rust.
+-- The cases of the passes: those that document 01 marks (●), one for each treatment that it leaves to the Rust, and those of requests.
 -- Each list pairs what a definition gives with what it should give, and one proof by computation holds the whole list.
 -- Assumes nothing.
 use mathlib.Core.List.{List, [], _∷_}
@@ -6,12 +6,14 @@ use mathlib.Core.Path.{refl}
 use Prim.Native.Nat.{ℕ, zero, suc, _+_, _*_}
 use lib.Ieee.{ofBits, ofInt, add, sub, mul, div, neg, lt, le}
 use Rattle.num.specs.Cases.{Hold}
-use Rattle.num.specs.Const.{c0·0, c0·5, c1·0}
+use Rattle.num.specs.Const.{c0·0, c0·30, c0·5, c1·0}
 use Rattle.num.specs.Root.{rootOf}
 use Rattle.num.specs.Steps.{clampOf, minOf, maxOf, absOf, cutOf, roundOf}
 use Rattle.passes.specs as Text
 use Rattle.passes.specs.Fold.{fold}
 use Rattle.num.specs.Rewrite.{rewrite}
+use Rattle.num.specs.Sums.{sum}
+use Rattle.passes.specs.Painted.{Painted, painted, converted}
 use Rattle.passes.specs.Flow.{sized, sameHeld, Flow, flow}
 use Rattle.passes.specs.Plain.Scanlines as Scanlines
 use Rattle.passes.specs.Plain.Vignette as Vignette
@@ -32,10 +34,10 @@ numbered = 0xaa000001 ∷ 2 ∷ 3 ∷ 4 ∷ 0xbb000005 ∷ 6 ∷ 7 ∷ 8 ∷ 9 �
 
 -- persistence 0.5, depth 1, from frame to frame; the history is longer than its one place
 abbrev shown : Flow → ℕ → Flow
-shown x p = Persistence.persistence c0·5 1 (sized 1 1) (flow (p ∷ []) (x .held) (x .past))
+shown x p = Persistence.persistence c0·5 1 (sized 1 1) (flow (painted (p ∷ []) 0) (x .held) (x .past))
 
 abbrev first : Flow
-first = shown (flow [] 0 (7 ∷ 8 ∷ [])) 0xffffff
+first = shown (flow (painted [] 0) 0 (7 ∷ 8 ∷ [])) 0xffffff
 
 abbrev second : Flow
 second = shown first 0
@@ -53,12 +55,12 @@ marked =
     ∷ (Crt.crt 3 3 c1·0 grey, 0x868181 ∷ 0x959b95 ∷ 0x818186 ∷ 0xb0aaaa ∷ 0xc1c8c1 ∷ 0xaaaab0 ∷ 0x868181 ∷ 0x959b95 ∷ 0x818186 ∷ [])
     ∷ (Curvature.curvature 3 3 c0·5 numbered, 0 ∷ 0 ∷ 0 ∷ 0 ∷ 0xbb000005 ∷ 0 ∷ 0 ∷ 0 ∷ 0 ∷ [])
     ∷ (Curvature.curvature 3 3 c0·0 numbered, numbered)
-    ∷ (AutoGradient.autoGradient 1 1 c1·0 c1·0 c0·0 (0 ∷ []), 0x120500 ∷ [])
-    ∷ (first .frame, 0xffffff ∷ [])
-    ∷ (second .frame, 0x555555 ∷ [])
-    ∷ (third .frame, 0 ∷ [])
+    ∷ (AutoGradient.autoGradient 1 1 c1·0 c1·0 c0·0 (0 ∷ []) .words, 0x120500 ∷ [])
+    ∷ (first .frame .words, 0xffffff ∷ [])
+    ∷ (second .frame .words, 0x555555 ∷ [])
+    ∷ (third .frame .words, 0 ∷ [])
     ∷ (third .past, 0 ∷ 8 ∷ [])
-    ∷ (ColorCorrection.colorCorrection c1·0 c1·0 c1·0 (0 ∷ []), 0xffffff ∷ [])
+    ∷ (ColorCorrection.colorCorrection c1·0 c1·0 c1·0 (0 ∷ []) .words, 0xffffff ∷ [])
     ∷ []
 
 pub marked-hold : Hold marked
@@ -68,10 +70,10 @@ unfolding ofBits ofInt add sub mul div neg lt le clampOf minOf maxOf absOf cutOf
     Text.Vignette.vignette Text.Vignette.square Text.Vignette.factor Text.Crt.crt Text.Crt.beam Text.Crt.phosphor
     Text.Crt.offset Text.Crt.edge Text.Crt.shade Text.Curvature.curvature Text.Curvature.bend Text.Curvature.sample
     Text.Curvature.outside Text.AutoGradient.autoGradient Text.AutoGradient.shaded Text.AutoGradient.adaptive
-    Text.AutoGradient.addLuma Text.AutoGradient.warm Text.AutoGradient.brightness Text.AutoGradient.shade sameHeld
+    Text.AutoGradient.addLuma Text.AutoGradient.warm Text.AutoGradient.fall Text.AutoGradient.brightness Text.AutoGradient.shade sameHeld
     Text.Persistence.persistence Text.Persistence.decay Text.Persistence.total Text.Persistence.add Text.Persistence.mix
-    Text.Persistence.pixel Text.Persistence.blended Text.Persistence.blend Persistence.copies Persistence.refilled
-    Persistence.shifted Text.ColorCorrection.colorCorrection Text.ColorCorrection.pixel
+    converted Text.Persistence.blended Text.Persistence.blend Persistence.copies Persistence.refilled
+    Persistence.shifted Text.ColorCorrection.colorCorrection Text.ColorCorrection.colour
 marked-hold = refl
 
 -- a word for each three channels: together, and with the last word, all 256 of them
@@ -82,15 +84,50 @@ threes (suc k) = (k * 3 * 65536 + (k * 3 + 1) * 256 + (k * 3 + 2)) ∷ threes k
 -- equal frames at 0.5 (Still): at depth 1 every channel stays; at depth 2 red, green and blue of a word show one below
 abbrev pub equals : List (List ℕ × List ℕ)
 equals =
-    (Persistence.blend c0·5 1 (threes 85) (threes 85), threes 85)
-    ∷ (Persistence.blend c0·5 2 (0x1f3e7c ∷ 0x1f3e7c ∷ []) (0x1f3e7c ∷ []), 0x1e3d7b ∷ [])
+    (Persistence.blend c0·5 1 (threes 85) (threes 85) .words, threes 85)
+    ∷ (Persistence.blend c0·5 2 (0x1f3e7c ∷ 0x1f3e7c ∷ []) (0x1f3e7c ∷ []) .words, 0x1e3d7b ∷ [])
     ∷ []
 
 pub equals-hold : Hold equals
 unfolding threes ofBits ofInt add mul div lt clampOf cutOf rewrite Text.Pixel.unpack Text.Pixel.scaled Text.Pixel.channels Text.Pixel.pack
-    Text.Pixel.packLimited Text.Persistence.decay Text.Persistence.total Text.Persistence.add Text.Persistence.mix Text.Persistence.pixel
+    Text.Pixel.packLimited Text.Persistence.decay Text.Persistence.total Text.Persistence.add Text.Persistence.mix converted
     Text.Persistence.blended Text.Persistence.blend
 equals-hold = refl
+
+-- clipped channels (request P5), beside the words: strictly below 0 or strictly above the top end
+abbrev pub clipped : List (Painted × Painted)
+clipped =
+    -- colour, brightness 1: black comes to lie at 1 exactly, 010101 above it; brightness -1: white at 0 exactly, a green of FE below it
+    (ColorCorrection.colorCorrection c1·0 c1·0 c1·0 (0 ∷ 0x010101 ∷ []), painted (0xffffff ∷ 0xffffff ∷ []) 3)
+    ∷ (ColorCorrection.colorCorrection (neg c1·0) c1·0 c1·0 (0xffffff ∷ 0xfffeff ∷ []), painted (0 ∷ 0 ∷ []) 1)
+    -- LUT, high contrast: red 10
+    ∷ (Lut.lut 6 c1·0 (0xff102030 ∷ 0x406080 ∷ []), painted (0x00081c ∷ 0x305880 ∷ []) 1)
+    -- gradient on one black pixel: blue
+    ∷ (AutoGradient.autoGradient 1 1 c1·0 c1·0 c0·0 (0 ∷ []), painted (0x120500 ∷ []) 1)
+    -- bloom over white: with a glow, and with none
+    ∷ (Bloom.bloom 2 1 254 c1·0 1 (0xffffff ∷ 0 ∷ []), painted (0xffffff ∷ 0x555555 ∷ []) 3)
+    ∷ (Bloom.bloom 2 1 255 c1·0 1 (0xffffff ∷ 0 ∷ []), painted (0xffffff ∷ 0 ∷ []) 0)
+    -- NTSC: red's blue, and blue's red
+    ∷ (Ntsc.ntsc 3 c1·0 1 (0xff0000 ∷ 0x00ff00 ∷ 0x0000ff ∷ []), painted (0x913c00 ∷ 0x70b070 ∷ 0x002c81 ∷ []) 2)
+    -- persistence, depth 1, white over white: at 0.5 it comes to lie at 255 exactly; at 0.3 the weights add up to more than 1. A refill
+    -- clips nothing, and leaves what was clipped before
+    ∷ (Persistence.blend c0·5 1 (0xffffff ∷ []) (0xffffff ∷ []), painted (0xffffff ∷ []) 0)
+    ∷ (Persistence.blend c0·30 1 (0xffffff ∷ []) (0xffffff ∷ []), painted (0xffffff ∷ []) 3)
+    ∷ (Persistence.persistence c0·30 1 (sized 1 1) (flow (painted (0xffffff ∷ []) 5) 1 (0xffffff ∷ [])) .frame, painted (0xffffff ∷ []) 8)
+    ∷ (Persistence.persistence c0·30 1 (sized 1 1) (flow (painted (0xffffff ∷ []) 5) 2 (0xffffff ∷ [])) .frame, painted (0xffffff ∷ []) 5)
+    ∷ []
+
+pub clipped-hold : Hold clipped
+unfolding ofBits ofInt add sub mul div neg lt le clampOf absOf cutOf rewrite fold sum converted sameHeld
+    Text.Pixel.unpack Text.Pixel.unit Text.Pixel.pack Text.Pixel.packLimited Text.Pixel.packUnit Text.Pixel.clip Text.Pixel.clips
+    Text.Pixel.channel Text.Pixel.luma601 Text.Pixel.luma709 Text.Position.position Text.ColorCorrection.colorCorrection
+    Text.ColorCorrection.colour Text.Lut.lut Text.Lut.colour Text.Lut.transform Text.AutoGradient.autoGradient
+    Text.AutoGradient.shaded Text.AutoGradient.adaptive Text.AutoGradient.addLuma Text.AutoGradient.warm Text.AutoGradient.fall
+    Text.AutoGradient.brightness Text.AutoGradient.shade Text.Blur.weight Text.Blur.total Text.Bloom.bloom Text.Bloom.bright
+    Text.Bloom.composite Text.Ntsc.ntsc Text.Ntsc.pixel Text.Ntsc.chroma Text.Persistence.persistence Text.Persistence.decay
+    Text.Persistence.total Text.Persistence.add Text.Persistence.mix Text.Persistence.blended Text.Persistence.blend
+    Persistence.copies Persistence.refilled Persistence.shifted
+clipped-hold = refl
 
 -- three colours under each preset at strength 1.0, the first with its top byte set: Identity's steps run too
 abbrev colours : List ℕ
@@ -98,33 +135,33 @@ colours = 0xff102030 ∷ 0x406080 ∷ 0xc8a050 ∷ []
 
 abbrev pub presets : List (List ℕ × List ℕ)
 presets =
-    (Lut.lut 0 c1·0 colours, 0x102030 ∷ 0x406080 ∷ 0xc8a050 ∷ [])
-    ∷ (Lut.lut 1 c1·0 colours, 0x14202c ∷ 0x476075 ∷ 0xd5a149 ∷ [])
-    ∷ (Lut.lut 2 c1·0 colours, 0x0f1f35 ∷ 0x3c5f8a ∷ 0xbc9e57 ∷ [])
-    ∷ (Lut.lut 3 c1·0 colours, 0x121f28 ∷ 0x465f70 ∷ 0xc7a063 ∷ [])
-    ∷ (Lut.lut 4 c1·0 colours, 0 ∷ 0x1d3d23 ∷ 0x3b7a47 ∷ [])
-    ∷ (Lut.lut 5 c1·0 colours, 0x1b1004 ∷ 0x55340e ∷ 0x9a5e1a ∷ [])
-    ∷ (Lut.lut 6 c1·0 colours, 0x00081c ∷ 0x305880 ∷ 0xdaa844 ∷ [])
+    (Lut.lut 0 c1·0 colours .words, 0x102030 ∷ 0x406080 ∷ 0xc8a050 ∷ [])
+    ∷ (Lut.lut 1 c1·0 colours .words, 0x14202c ∷ 0x476075 ∷ 0xd5a149 ∷ [])
+    ∷ (Lut.lut 2 c1·0 colours .words, 0x0f1f35 ∷ 0x3c5f8a ∷ 0xbc9e57 ∷ [])
+    ∷ (Lut.lut 3 c1·0 colours .words, 0x121f28 ∷ 0x465f70 ∷ 0xc7a063 ∷ [])
+    ∷ (Lut.lut 4 c1·0 colours .words, 0 ∷ 0x1d3d23 ∷ 0x3b7a47 ∷ [])
+    ∷ (Lut.lut 5 c1·0 colours .words, 0x1b1004 ∷ 0x55340e ∷ 0x9a5e1a ∷ [])
+    ∷ (Lut.lut 6 c1·0 colours .words, 0x00081c ∷ 0x305880 ∷ 0xdaa844 ∷ [])
     ∷ []
 
 pub presets-hold : Hold presets
 unfolding ofBits ofInt add sub mul div clampOf cutOf roundOf rewrite Text.Pixel.unpack Text.Pixel.unit Text.Pixel.pack
-    Text.Pixel.packUnit Text.Pixel.luma601 Text.Lut.lut Text.Lut.pixel Text.Lut.transform
+    Text.Pixel.packUnit Text.Pixel.luma601 Text.Lut.lut Text.Lut.colour Text.Lut.transform converted
 presets-hold = refl
 
 -- NTSC, bleed 1, at strength 1.0 on three colours and at 0.0 on three greys, 3 by 1; bloom, strength 1.0, radius 1, 2
 -- by 2, at thresholds 0, 254 and 255
 abbrev pub blurs : List (List ℕ × List ℕ)
 blurs =
-    (Ntsc.ntsc 3 c1·0 1 (0xff0000 ∷ 0x00ff00 ∷ 0x0000ff ∷ []), 0x913c00 ∷ 0x70b070 ∷ 0x002c81 ∷ [])
-    ∷ (Ntsc.ntsc 3 c0·0 1 (0x808080 ∷ 0x111111 ∷ 0xffffff ∷ []), 0x807f80 ∷ 0x111011 ∷ 0xfffeff ∷ [])
-    ∷ (Bloom.bloom 2 2 0 c1·0 1 (0x102030 ∷ 0 ∷ 0 ∷ 0x400000 ∷ []), 0x112132 ∷ 0x010001 ∷ 0x010001 ∷ 0x410000 ∷ [])
-    ∷ (Bloom.bloom 2 2 254 c1·0 1 (0xffffff ∷ 0 ∷ 0 ∷ 0 ∷ []), 0xffffff ∷ 0x383838 ∷ 0x383838 ∷ 0x1c1c1c ∷ [])
-    ∷ (Bloom.bloom 2 2 255 c1·0 1 (0xffffff ∷ 0 ∷ 0 ∷ 0xfffffff ∷ []), 0xffffff ∷ 0 ∷ 0 ∷ 0xffffff ∷ [])
+    (Ntsc.ntsc 3 c1·0 1 (0xff0000 ∷ 0x00ff00 ∷ 0x0000ff ∷ []) .words, 0x913c00 ∷ 0x70b070 ∷ 0x002c81 ∷ [])
+    ∷ (Ntsc.ntsc 3 c0·0 1 (0x808080 ∷ 0x111111 ∷ 0xffffff ∷ []) .words, 0x807f80 ∷ 0x111011 ∷ 0xfffeff ∷ [])
+    ∷ (Bloom.bloom 2 2 0 c1·0 1 (0x102030 ∷ 0 ∷ 0 ∷ 0x400000 ∷ []) .words, 0x112132 ∷ 0x010001 ∷ 0x010001 ∷ 0x410000 ∷ [])
+    ∷ (Bloom.bloom 2 2 254 c1·0 1 (0xffffff ∷ 0 ∷ 0 ∷ 0 ∷ []) .words, 0xffffff ∷ 0x383838 ∷ 0x383838 ∷ 0x1c1c1c ∷ [])
+    ∷ (Bloom.bloom 2 2 255 c1·0 1 (0xffffff ∷ 0 ∷ 0 ∷ 0xfffffff ∷ []) .words, 0xffffff ∷ 0 ∷ 0 ∷ 0xffffff ∷ [])
     ∷ []
 
 pub blurs-hold : Hold blurs
 unfolding ofBits ofInt add sub mul div neg lt le clampOf cutOf rewrite Text.Pixel.unpack Text.Pixel.pack
     Text.Pixel.packLimited Text.Pixel.channel Text.Pixel.luma601 Text.Pixel.luma709 Text.Blur.weight Text.Blur.total
-    Text.Ntsc.ntsc Text.Ntsc.pixel Text.Ntsc.chroma Text.Bloom.bloom Text.Bloom.bright Text.Bloom.composite
+    Text.Ntsc.ntsc Text.Ntsc.pixel Text.Ntsc.chroma Text.Bloom.bloom Text.Bloom.bright Text.Bloom.composite converted
 blurs-hold = refl

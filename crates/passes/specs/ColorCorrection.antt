@@ -3,9 +3,9 @@
 use Prim.Native.Nat.{ℕ}
 use mathlib.Core.List.{List}
 use Rattle.num.specs.Const.{c0·5}
-use Rattle.num.specs.Rewrite.{every}
 use Rattle.passes.specs.Arith.{Arith}
-use Rattle.passes.specs.Pixel.{luma709, packUnit, unit, channels}
+use Rattle.passes.specs.Painted.{Painted, fromUnit}
+use Rattle.passes.specs.Pixel.{luma709, unit, channels}
 
 module _ (A : Arith) where
   open Arith A using (F, lit, _⊕_, _⊖_, _⊗_, Rgb)
@@ -23,9 +23,8 @@ module _ (A : Arith) where
       let luminance = luma709 A c in
       channels A (λ x. luminance ⊕ (x ⊖ luminance) ⊗ saturation) c
 
-  unfoldable pub pixel : F → F → F → ℕ → ℕ
-  pixel brightness contrast saturation p =
-      packUnit A (saturate saturation (channels A (level brightness contrast) (unit A p)))
+  unfoldable pub colour : F → F → F → ℕ → Rgb
+  colour brightness contrast saturation p = saturate saturation (channels A (level brightness contrast) (unit A p))
 
-  unfoldable pub colorCorrection : F → F → F → List ℕ → List ℕ
-  colorCorrection brightness contrast saturation frame = every (λ i. pixel brightness contrast saturation) frame
+  unfoldable pub colorCorrection : F → F → F → List ℕ → Painted
+  colorCorrection brightness contrast saturation frame = fromUnit A (λ i. colour brightness contrast saturation) frame

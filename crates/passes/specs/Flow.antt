@@ -1,8 +1,10 @@
--- What goes through the chain from frame to frame: the frame's words, what the history holds, and the lent history. Assumes nothing.
+-- What goes through the chain from frame to frame: the frame as it is painted so far, what the history holds, and the lent
+-- history. Assumes nothing.
 use Prim.Native.Nat.{ℕ, _*_}
 use mathlib.Core.Bool.{Bool}
 use mathlib.Core.List.{List}
 use lib.Dec.{leb, eqb}
+use Rattle.passes.specs.Painted.{Painted}
 
 -- ## What the history holds: the count, in words, of its frames, or nothing
 
@@ -31,9 +33,9 @@ fineHeld held = leb held 1048576
 
 -- the older frame j stands at word j * area held of `past`, newest first
 pub record Flow : Type 0 where
-  pub frame : List ℕ
+  pub frame : Painted
   pub held : Held
   pub past : List ℕ
 
-abbrev pub flow : List ℕ → Held → List ℕ → Flow
+abbrev pub flow : Painted → Held → List ℕ → Flow
 flow frame held past = record { frame = frame; held = held; past = past }

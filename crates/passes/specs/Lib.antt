@@ -1,11 +1,12 @@
 -- Laws of loops over a frame: Rows, Fold (num has Rewrite). What a pass may do with numbers: Arith. The passes, each
--- named as its Rust file, and what several share (Pixel, Position, Blur), over any arithmetic; Plain has them at
--- binary32. Those that only private functions cite: Private. No pass meets what document 01 leaves undefined: Range,
+-- named as its Rust file, and what several share (Pixel, Painted, Position, Blur), over any arithmetic; Plain has them
+-- at binary32. Those that only private functions cite: Private. No pass meets what document 01 leaves undefined: Range,
 -- Inside, Casts.
 pub mod Rows
 pub mod Fold
 pub mod Arith
 pub mod Pixel
+pub mod Painted
 pub mod Position
 pub mod Blur
 pub mod Scanlines

@@ -5,9 +5,9 @@ use mathlib.Core.List.{List}
 use Rattle.num.specs.Const.{c0·01, c0·015, c0·16, c0·35, c0·42, c0·5, c0·58, c0·72, c0·82, c0·88, c0·92, c0·94, c0·95}
 use Rattle.num.specs.Const.{c0·96, c0·99}
 use Rattle.num.specs.Const.{c1·0, c1·01, c1·03, c1·05, c1·06, c1·25, c3·0}
-use Rattle.num.specs.Rewrite.{every}
 use Rattle.passes.specs.Arith.{Arith}
-use Rattle.passes.specs.Pixel.{luma601, packUnit, channels, unit}
+use Rattle.passes.specs.Painted.{Painted, fromUnit}
+use Rattle.passes.specs.Pixel.{luma601, channels, unit}
 
 module _ (A : Arith) where
   open Arith A using (F, lit, _⊕_, _⊖_, _⊗_, _⊘_, round, Rgb, rgb, red, green, blue)
@@ -56,12 +56,11 @@ module _ (A : Arith) where
   abbrev pub blend : F → F → F → F
   blend x y strength = x ⊕ (y ⊖ x) ⊗ strength
 
-  unfoldable pub pixel : ℕ → F → ℕ → ℕ
-  pixel preset strength p =
+  unfoldable pub colour : ℕ → F → ℕ → Rgb
+  colour preset strength p =
       let c = unit A p in
       let t = transform preset c in
-      packUnit A
-      (rgb (blend (red c) (red t) strength) (blend (green c) (green t) strength) (blend (blue c) (blue t) strength))
+      rgb (blend (red c) (red t) strength) (blend (green c) (green t) strength) (blend (blue c) (blue t) strength)
 
-  unfoldable pub lut : ℕ → F → List ℕ → List ℕ
-  lut preset strength frame = every (λ i. pixel preset strength) frame
+  unfoldable pub lut : ℕ → F → List ℕ → Painted
+  lut preset strength frame = fromUnit A (λ i. colour preset strength) frame

@@ -4,10 +4,10 @@ use Prim.Native.Nat.{ℕ, zero, suc}
 use mathlib.Core.List.{List}
 use Rattle.num.specs.Const.{c0·10001, c0·14713, c0·28886, c0·39465, c0·436, c0·51499, c0·58060, c0·615, c1·13983}
 use Rattle.num.specs.Const.{c2·03211}
-use Rattle.num.specs.Rewrite.{every}
 use Rattle.passes.specs.Arith.{Arith}
 use Rattle.passes.specs.Blur.{blurBy, weights}
-use Rattle.passes.specs.Pixel.{packLimited, unpack, luma601}
+use Rattle.passes.specs.Painted.{Painted, fromLimited}
+use Rattle.passes.specs.Pixel.{unpack, luma601}
 use Rattle.passes.specs.Rows.{placed}
 
 module _ (A : Arith) where
@@ -34,19 +34,19 @@ module _ (A : Arith) where
   colour y u v =
       rgb (y ⊕ lit c1·13983 ⊗ v) (y ⊖ lit c0·39465 ⊗ u ⊖ lit c0·58060 ⊗ v) (y ⊕ lit c2·03211 ⊗ u)
 
-  -- a word with its blurred chroma
-  unfoldable pub pixel : F → F → F → ℕ → ℕ
+  -- a word's colour with its blurred chroma
+  unfoldable pub pixel : F → F → F → ℕ → Rgb
   pixel strength blurredU blurredV p =
       let c = unpack A p in
       let u = blend strength (chroma 0 c) blurredU in
       let v = blend strength (chroma 1 c) blurredV in
-      packLimited A (colour (luma601 A c) u v)
+      colour (luma601 A c) u v
 
-  -- the word at column x and row y; `sums` gives the sum of the weights at each column
-  abbrev pub at : (ℕ → F) → ℕ → F → ℕ → List ℕ → ℕ → ℕ → ℕ → ℕ
+  -- the colour at column x and row y; `sums` gives the sum of the weights at each column
+  abbrev pub at : (ℕ → F) → ℕ → F → ℕ → List ℕ → ℕ → ℕ → ℕ → Rgb
   at sums w strength bleed frame x y =
       pixel strength (blurBy A sums (λ i. sample 0 frame w i y) w bleed x)
       (blurBy A sums (λ i. sample 1 frame w i y) w bleed x)
 
-  unfoldable pub ntsc : ℕ → F → ℕ → List ℕ → List ℕ
-  ntsc w strength bleed frame = every (placed w (at (weights A w bleed) w strength bleed frame)) frame
+  unfoldable pub ntsc : ℕ → F → ℕ → List ℕ → Painted
+  ntsc w strength bleed frame = fromLimited A (placed w (at (weights A w bleed) w strength bleed frame)) frame

@@ -5,10 +5,10 @@ use mathlib.Core.Bool.{cond}
 use mathlib.Core.List.{List, [], _++_}
 use lib.ListN.{length, take, drop}
 use Rattle.num.specs.Const.{c0·55, c1·0}
-use Rattle.num.specs.Rewrite.{every}
 use Rattle.passes.specs.Arith.{Arith}
 use Rattle.passes.specs.Flow.{Held, sameHeld, Flow, flow}
-use Rattle.passes.specs.Pixel.{packLimited, scaled, unpack}
+use Rattle.passes.specs.Painted.{Painted, fromLimited, onto}
+use Rattle.passes.specs.Pixel.{scaled, unpack}
 
 -- ## The history
 
@@ -60,19 +60,16 @@ module _ (A : Arith) where
   mix w ws past n i p zero = scaled A w (unpack A p)
   mix w ws past n i p (suc j) = add (mix w ws past n i p j) (ws j) (cell n past i j)
 
-  unfoldable pub pixel : F → (ℕ → F) → ℕ → List ℕ → (n i p : ℕ) → ℕ
-  pixel w ws k past n i p = packLimited A (mix w ws past n i p k)
+  unfoldable pub blended : F → (ℕ → F) → ℕ → List ℕ → List ℕ → Painted
+  blended w ws k past frame = fromLimited A (λ i p. mix w ws past (length frame) i p k) frame
 
-  unfoldable pub blended : F → (ℕ → F) → ℕ → List ℕ → List ℕ → List ℕ
-  blended w ws k past frame = every (pixel w ws k past (length frame)) frame
-
-  unfoldable pub blend : F → ℕ → (past frame : List ℕ) → List ℕ
+  unfoldable pub blend : F → ℕ → (past frame : List ℕ) → Painted
   blend amount k past frame = let t = total amount k in blended (lit c1·0 ⊘ t) (weight amount t) k past frame
 
-  -- of depth k, for a frame of that size; where the history holds frames of another it is begun anew, and the frame
-  -- stays as it is
+  -- of depth k, for a frame of that size; where the history holds frames of another it is begun anew, the frame stays as
+  -- it is, and nothing is clipped
   unfoldable pub persistence : F → ℕ → Held → Flow → Flow
   persistence amount k size x =
       cond (sameHeld (x .held) size)
-      (flow (blend amount k (x .past) (x .frame)) size (shifted k (x .frame) (x .past)))
-      (flow (x .frame) size (refilled k (x .frame) (x .past)))
+      (flow (onto (blend amount k (x .past)) (x .frame)) size (shifted k (x .frame .words) (x .past)))
+      (flow (x .frame) size (refilled k (x .frame .words) (x .past)))

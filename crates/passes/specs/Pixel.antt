@@ -1,11 +1,13 @@
--- A pixel word 0xRRGGBB and its three channels; the ways from channels back to a word.
+-- A pixel word 0xRRGGBB and its three channels; the ways from channels back to a word, and which channels they clip.
 -- A is the arithmetic (Arith.antt): binary32 in the product. Definitions only.
-use Prim.Native.Nat.{ℕ, zero, suc, _/_, _%_}
+use Prim.Native.Nat.{ℕ, zero, suc, _+_, _/_, _%_}
+use mathlib.Core.Bool.{cond}
+use lib.Ieee.{Float}
 use Rattle.num.specs.Const.{c0·0, c0·0722, c0·114, c0·2126, c0·299, c0·587, c0·7152, c1·0, c255·0}
 use Rattle.passes.specs.Arith.{Arith}
 
 module _ (A : Arith) where
-  open Arith A using (F, lit, whole, _⊕_, _⊗_, _⊘_, clamp, round, cut, Rgb, rgb, red, green, blue, word)
+  open Arith A using (F, lit, whole, _⊕_, _⊗_, _⊘_, clamp, round, cut, Rgb, rgb, red, green, blue, below, word)
 
   infixl 6 _⊕_
   infixl 7 _⊗_
@@ -46,6 +48,14 @@ module _ (A : Arith) where
   -- the final conversion from 0..1: limited, times 255, then cut
   unfoldable pub packUnit : Rgb → ℕ
   packUnit c = pack (channels (λ x. clamp x (lit c0·0) (lit c1·0) ⊗ lit c255·0) c)
+
+  -- whether a final conversion clips a channel: 1 where it lies strictly below 0 or strictly above the top end, else 0
+  unfoldable pub clip : Float → F → ℕ
+  clip top x = cond (below x (lit c0·0)) 1 (cond (below (lit top) x) 1 0)
+
+  -- how many of a colour's channels it clips
+  unfoldable pub clips : Float → Rgb → ℕ
+  clips top c = clip top (red c) + clip top (green c) + clip top (blue c)
 
   -- a word's channels times a factor
   unfoldable pub dim : F → ℕ → ℕ

@@ -3,11 +3,14 @@ ghost use mathlib.Core.Path.{_≡_};
 ghost use Prim.Native.Nat.{_+_, _*_, _/_, _%_, _≤_, _<_};
 ghost use lib.ListN.{length, getD, drop};
 ghost use Rattle.passes.specs.Plain.Pixel.{rgb};
-ghost use Rattle.num.specs.Rewrite.{every, fill};
-ghost use Rattle.passes.specs.Rows.{Frame, sampled};
+ghost use Rattle.num.specs.Rewrite.{fill};
+ghost use Rattle.passes.specs.Rows.{Frame, placed, sampled};
 ghost use Rattle.passes.specs.Plain.Blur.{at, blurBy, ratio};
 ghost use Rattle.passes.specs.Plain.Bloom as Bloom;
+ghost use Rattle.passes.specs.Painted.{painted};
+ghost use Rattle.passes.specs.Private.{markLimited, everyLimited};
 use crate::blur;
+use crate::marks;
 use crate::pixel;
 use crate::pixel::Rgb;
 
@@ -114,10 +117,10 @@ fn horizontal(
 
 // A word with its glow.
 fn composite(p: u32, glow: Rgb, strength: f32) -> u32
-    ensures { λ r. ⌜ r ≡ Bloom.composite strength glow p ⌝ }
+    ensures { λ r. ⌜ r ≡ markLimited (Bloom.composite strength glow p) ⌝ }
 {
     let c = pixel::unpack(p);
-    pixel::pack_limited(Rgb {
+    marks::limited(Rgb {
         r: c.r + glow.r * strength,
         g: c.g + glow.g * strength,
         b: c.b + glow.b * strength,
@@ -127,7 +130,9 @@ fn composite(p: u32, glow: Rgb, strength: f32) -> u32
 // A row with its glow: the three channels' sums over its columns, and its sum of weights.
 fn composite_row(row: &mut [u32], sums: &[f32], w: f32, strength: f32)
     requires { ⌜ length (now sums) ≡ 3 * length (now row) ⌝ }
-    ensures { λ _. ⌜ now (row .exit) ≡ every (λ x. Bloom.composite strength (rgb (ratio (at (now (sums .entry)) x) w) (ratio (at (now (sums .entry)) (length (now (row .entry)) + x)) w) (ratio (at (now (sums .entry)) (2 * length (now (row .entry)) + x)) w))) (now (row .entry)) ⌝ }
+    ensures { λ _. ⌜ now (row .exit) ≡ everyLimited (λ x. Bloom.composite strength
+        (rgb (ratio (at (now (sums .entry)) x) w) (ratio (at (now (sums .entry)) (length (now (row .entry)) + x)) w)
+        (ratio (at (now (sums .entry)) (2 * length (now (row .entry)) + x)) w))) (now (row .entry)) ⌝ }
 {
     let n = row.len();
     let mut x = 0usize;
@@ -153,7 +158,8 @@ fn composite_rows(
     radius: usize,
 )
     requires { ⌜ (radius ≤ 64) × (length (now planes) ≡ height * (3 * width)) × (length (now sums) ≡ 3 * width) ⌝ ∗ ⌜ Frame width height (now frame) ⌝ }
-    ensures { λ _. ⌜ now (frame .exit) ≡ Bloom.over width height strength radius (Bloom.stored (now (planes .entry)) width) (now (frame .entry)) ⌝ }
+    ensures { λ _. ⌜ now (frame .exit)
+        ≡ everyLimited (placed width (Bloom.over height strength radius (Bloom.stored (now (planes .entry)) width))) (now (frame .entry)) ⌝ }
 {
     let mut y = 0;
     let mut at = 0;
@@ -167,7 +173,7 @@ fn composite_rows(
     }
 }
 
-// The scratch past three times the frame's words stays.
+// Returns how many channels were clipped. The scratch past three times the frame's words stays.
 pub fn apply(
     frame: &mut [u32],
     scratch: &mut [f32],
@@ -176,9 +182,10 @@ pub fn apply(
     threshold: u8,
     strength: f32,
     radius: usize,
-)
+) -> u32
     requires { ⌜ Frame width height (now frame) ⌝ ∗ ⌜ (radius ≤ 64) × (3 * length (now frame) ≤ length (now scratch)) ⌝ }
-    ensures { λ _. ⌜ (now (frame .exit) ≡ Bloom.bloom width height threshold strength radius (now (frame .entry))) × (drop (3 * length (now (frame .entry))) (now (scratch .exit)) ≡ drop (3 * length (now (frame .entry))) (now (scratch .entry))) ⌝ }
+    ensures { λ r. ⌜ (painted (now (frame .exit)) r ≡ Bloom.bloom width height threshold strength radius (now (frame .entry)))
+        × (drop (3 * length (now (frame .entry))) (now (scratch .exit)) ≡ drop (3 * length (now (frame .entry))) (now (scratch .entry))) ⌝ }
 {
     let n = 3 * frame.len();
     let w = blur::weight_line(width, radius);
@@ -203,4 +210,5 @@ pub fn apply(
         strength,
         radius,
     );
+    marks::collect(frame)
 }

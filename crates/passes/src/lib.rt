@@ -6,6 +6,7 @@ pub mod color_correction;
 pub mod crt;
 pub mod curvature;
 pub mod lut;
+pub mod marks;
 pub mod ntsc;
 pub mod persistence;
 pub mod pixel;

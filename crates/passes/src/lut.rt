@@ -4,7 +4,9 @@ ghost use Prim.Native.Nat.{_*_, _≤_};
 ghost use lib.ListN.{length, getD};
 ghost use Rattle.num.specs.Rewrite.{every, fill};
 ghost use Rattle.passes.specs.Plain.Lut as Lut;
-ghost use Rattle.passes.specs.Private.{picked};
+ghost use Rattle.passes.specs.Painted.{painted};
+ghost use Rattle.passes.specs.Private.{Greys, entry, everyUnit, picked};
+use crate::marks;
 use crate::pixel;
 use crate::pixel::Rgb;
 
@@ -55,81 +57,136 @@ fn transform(preset: u8, c: Rgb) -> Rgb
     }
 }
 
-fn pixel(p: u32, preset: u8, strength: f32) -> u32
-    ensures { λ r. ⌜ r ≡ Lut.pixel preset strength p ⌝ }
+fn colour(p: u32, preset: u8, strength: f32) -> Rgb
+    ensures { λ r. ⌜ r ≡ Lut.colour preset strength p ⌝ }
 {
     let c = pixel::unit(p);
     let t = transform(preset, c);
-    pixel::pack_unit(Rgb {
+    Rgb {
         r: c.r + (t.r - c.r) * strength,
         g: c.g + (t.g - c.g) * strength,
         b: c.b + (t.b - c.b) * strength,
-    })
+    }
 }
 
-// What the greys become, by their channel: word k is 0x010101 * k.
-fn greys(table: &mut [u32], preset: u8, strength: f32)
+// One channel of a colour at its place in a word, marked: three of them add up to the marked word.
+fn entry(which: usize, c: Rgb) -> u32
+    ensures { λ r. ⌜ r ≡ entry which c ⌝ }
+{
+    match which {
+        0 => num::whole::cut_unit(c.r) * 65536 + marks::clip(c.r, 1.0) * 16777216,
+        1 => num::whole::cut_unit(c.g) * 256 + marks::clip(c.g, 1.0) * 16777216,
+        _ => num::whole::cut_unit(c.b) + marks::clip(c.b, 1.0) * 16777216,
+    }
+}
+
+// What one channel of the greys becomes, by its value: word k is that of 0x010101 * k.
+fn greys(table: &mut [u32], which: usize, preset: u8, strength: f32)
     requires { ⌜ length (now table) ≤ 256 ⌝ }
-    ensures { λ _. ⌜ now (table .exit) ≡ fill (λ k. Lut.pixel preset strength (k * 65793)) (now (table .entry)) ⌝ }
+    ensures { λ _. ⌜ now (table .exit) ≡ fill (λ k. entry which (Lut.colour preset strength (k * 65793))) (now (table .entry)) ⌝ }
 {
     let mut k = 0;
     while k < table.len() {
-        table[k] = pixel(k as u32 * 65793, preset, strength);
+        table[k] = entry(which, colour(k as u32 * 65793, preset, strength));
         k += 1;
     }
 }
 
-// Each channel from the table's word for its value.
-fn picked(table: &[u32], p: u32) -> u32
-    requires { ⌜ 256 ≡ length (now table) ⌝ }
-    ensures { λ r. ⌜ r ≡ picked (λ k. getD (now (table .entry)) k 0) p ⌝ }
-{
-    table[(p / 65536 % 256) as usize] / 65536 % 256 * 65536
-        + table[(p / 256 % 256) as usize] / 256 % 256 * 256
-        + table[(p % 256) as usize] % 256
-}
-
-fn by_greys(frame: &mut [u32], table: &[u32])
-    requires { ⌜ 256 ≡ length (now table) ⌝ }
-    ensures { λ _. ⌜ now (frame .exit) ≡ every (λ i. picked (λ k. getD (now (table .entry)) k 0)) (now (frame .entry)) ⌝ }
-{
-    let mut i = 0;
-    while i < frame.len() {
-        frame[i] = picked(table, frame[i]);
-        i += 1;
-    }
-}
-
-fn by_pixels(frame: &mut [u32], preset: u8, strength: f32)
-    ensures { λ _. ⌜ now (frame .exit) ≡ Lut.lut preset strength (now (frame .entry)) ⌝ }
-{
-    let mut i = 0;
-    while i < frame.len() {
-        frame[i] = pixel(frame[i], preset, strength);
-        i += 1;
-    }
-}
-
-// Room for the table.
-fn table() -> [u32; 256]
+// Room for a table.
+fn room() -> [u32; 256]
     ensures { λ r. ⌜ 256 ≡ length r ⌝ }
 {
     [0; 256]
 }
 
-// Where a channel becomes what it does by its own value alone, the 256 greys say all. The other three presets are numbers where
-// they are passed on, so that each has a loop with its own treatment alone.
-pub fn apply(frame: &mut [u32], preset: u8, strength: f32)
-    ensures { λ _. ⌜ now (frame .exit) ≡ Lut.lut preset strength (now (frame .entry)) ⌝ }
+fn table(which: usize, preset: u8, strength: f32) -> [u32; 256]
+    ensures { λ r. ⌜ Greys which preset strength r ⌝ }
+{
+    let mut words = room();
+    greys(&mut words, which, preset, strength);
+    words
+}
+
+// The sum of the tables' words for a word's channels. It does not wrap where the tables are those of the greys.
+fn picked(reds: &[u32], greens: &[u32], blues: &[u32], p: u32) -> u32
+    requires { ⌜ (256 ≡ length (now reds)) × (256 ≡ length (now greens)) × (256 ≡ length (now blues)) ⌝ }
+    ensures { λ r. ⌜ r ≡ picked (λ k. getD (now (reds .entry)) k 0) (λ k. getD (now (greens .entry)) k 0)
+        (λ k. getD (now (blues .entry)) k 0) p ⌝ }
+{
+    let red = reds[(p / 65536 % 256) as usize];
+    let green = greens[(p / 256 % 256) as usize];
+    let blue = blues[(p % 256) as usize];
+    std::num::wrapping_add_u32(std::num::wrapping_add_u32(red, green), blue)
+}
+
+fn by_greys(frame: &mut [u32], reds: &[u32], greens: &[u32], blues: &[u32])
+    requires { ⌜ (256 ≡ length (now reds)) × (256 ≡ length (now greens)) × (256 ≡ length (now blues)) ⌝ }
+    ensures { λ _. ⌜ now (frame .exit) ≡ every (λ i. picked (λ k. getD (now (reds .entry)) k 0) (λ k. getD (now (greens .entry)) k 0)
+        (λ k. getD (now (blues .entry)) k 0)) (now (frame .entry)) ⌝ }
+{
+    let mut i = 0;
+    while i < frame.len() {
+        frame[i] = picked(reds, greens, blues, frame[i]);
+        i += 1;
+    }
+}
+
+// The three presets that mix channels, each in a loop of its own. The preset is a number there, so that the loop has its own treatment
+// alone and becomes vector code.
+fn by_composite(frame: &mut [u32], strength: f32)
+    ensures { λ _. ⌜ now (frame .exit) ≡ everyUnit (λ i. Lut.colour 3 strength) (now (frame .entry)) ⌝ }
+{
+    let mut i = 0;
+    while i < frame.len() {
+        frame[i] = marks::unit(colour(frame[i], 3, strength));
+        i += 1;
+    }
+}
+
+// The same.
+fn by_game_boy(frame: &mut [u32], strength: f32)
+    ensures { λ _. ⌜ now (frame .exit) ≡ everyUnit (λ i. Lut.colour 4 strength) (now (frame .entry)) ⌝ }
+{
+    let mut i = 0;
+    while i < frame.len() {
+        frame[i] = marks::unit(colour(frame[i], 4, strength));
+        i += 1;
+    }
+}
+
+// The same.
+fn by_amber(frame: &mut [u32], strength: f32)
+    ensures { λ _. ⌜ now (frame .exit) ≡ everyUnit (λ i. Lut.colour 5 strength) (now (frame .entry)) ⌝ }
+{
+    let mut i = 0;
+    while i < frame.len() {
+        frame[i] = marks::unit(colour(frame[i], 5, strength));
+        i += 1;
+    }
+}
+
+// Where a channel becomes what it does by its own value alone, the 256 greys say all.
+fn paint(frame: &mut [u32], preset: u8, strength: f32)
+    ensures { λ _. ⌜ now (frame .exit) ≡ everyUnit (λ i. Lut.colour preset strength) (now (frame .entry)) ⌝ }
 {
     match preset {
-        3 => by_pixels(frame, 3, strength),
-        4 => by_pixels(frame, 4, strength),
-        5 => by_pixels(frame, 5, strength),
+        3 => by_composite(frame, strength),
+        4 => by_game_boy(frame, strength),
+        5 => by_amber(frame, strength),
         _ => {
-            let mut words = table();
-            greys(&mut words, preset, strength);
-            by_greys(frame, &words);
+            let reds = table(0, preset, strength);
+            let greens = table(1, preset, strength);
+            let blues = table(2, preset, strength);
+            by_greys(frame, &reds, &greens, &blues);
         }
     }
+}
+
+// Returns how many channels were clipped.
+pub fn apply(frame: &mut [u32], preset: u8, strength: f32) -> u32
+    requires { ⌜ length (now frame) ≤ 1048576 ⌝ }
+    ensures { λ r. ⌜ painted (now (frame .exit)) r ≡ Lut.lut preset strength (now (frame .entry)) ⌝ }
+{
+    paint(frame, preset, strength);
+    marks::collect(frame)
 }

@@ -3,11 +3,14 @@ ghost use mathlib.Core.Path.{_≡_};
 ghost use Prim.Native.Nat.{_≤_, _<_};
 ghost use lib.ListN.{length, getD};
 ghost use Rattle.passes.specs.Plain.Pixel.{unpack};
-ghost use Rattle.num.specs.Rewrite.{every, fill};
+ghost use Rattle.num.specs.Rewrite.{fill};
 ghost use Rattle.passes.specs.Rows.{Frame, placed};
 ghost use Rattle.passes.specs.Plain.Blur.{at, blurBy};
 ghost use Rattle.passes.specs.Plain.Ntsc as Ntsc;
+ghost use Rattle.passes.specs.Painted.{painted};
+ghost use Rattle.passes.specs.Private.{markLimited, everyLimited};
 use crate::blur;
+use crate::marks;
 use crate::pixel;
 use crate::pixel::Rgb;
 
@@ -35,7 +38,7 @@ fn chroma_line(out: &mut [f32], row: &[u32], which: u8)
 
 // A word with its blurred chroma.
 fn pixel(p: u32, bu: f32, bv: f32, strength: f32) -> u32
-    ensures { λ r. ⌜ r ≡ Ntsc.pixel strength bu bv p ⌝ }
+    ensures { λ r. ⌜ r ≡ markLimited (Ntsc.pixel strength bu bv p) ⌝ }
 {
     let c = pixel::unpack(p);
     let y = pixel::luma601(c);
@@ -43,7 +46,7 @@ fn pixel(p: u32, bu: f32, bv: f32, strength: f32) -> u32
     let original_v = chroma(1, c);
     let u = original_u + (bu - original_u) * strength;
     let v = original_v + (bv - original_v) * strength;
-    pixel::pack_limited(Rgb {
+    marks::limited(Rgb {
         r: y + 1.13983 * v,
         g: y - 0.39465 * u - 0.58060 * v,
         b: y + 2.03211 * u,
@@ -53,7 +56,7 @@ fn pixel(p: u32, bu: f32, bv: f32, strength: f32) -> u32
 // A row with its blurred components.
 fn blend_row(row: &mut [u32], u: &[f32], v: &[f32], strength: f32)
     requires { ⌜ (length (now u) ≡ length (now row)) × (length (now v) ≡ length (now row)) ⌝ }
-    ensures { λ _. ⌜ now (row .exit) ≡ every (λ x. Ntsc.pixel strength (at (now (u .entry)) x) (at (now (v .entry)) x)) (now (row .entry)) ⌝ }
+    ensures { λ _. ⌜ now (row .exit) ≡ everyLimited (λ x. Ntsc.pixel strength (at (now (u .entry)) x) (at (now (v .entry)) x)) (now (row .entry)) ⌝ }
 {
     let mut x = 0usize;
     while x < row.len() {
@@ -73,7 +76,10 @@ fn row(
     strength: f32,
 )
     requires { ⌜ (bleed ≤ 64) × (length (now line) ≡ length (now row)) × (length (now u) ≡ length (now row)) × (length (now v) ≡ length (now row)) × (length (now w) ≡ length (now row)) ⌝ }
-    ensures { λ _. ⌜ now (row .exit) ≡ every (λ x. Ntsc.pixel strength (blurBy (at (now (w .entry))) (λ i. Ntsc.chroma 0 (unpack (getD (now (row .entry)) i 0))) (length (now (row .entry))) bleed x) (blurBy (at (now (w .entry))) (λ i. Ntsc.chroma 1 (unpack (getD (now (row .entry)) i 0))) (length (now (row .entry))) bleed x)) (now (row .entry)) ⌝ }
+    ensures { λ _. ⌜ now (row .exit) ≡ everyLimited (λ x. Ntsc.pixel strength
+        (blurBy (at (now (w .entry))) (λ i. Ntsc.chroma 0 (unpack (getD (now (row .entry)) i 0))) (length (now (row .entry))) bleed x)
+        (blurBy (at (now (w .entry))) (λ i. Ntsc.chroma 1 (unpack (getD (now (row .entry)) i 0))) (length (now (row .entry))) bleed x))
+        (now (row .entry)) ⌝ }
 {
     chroma_line(line, row, 0);
     blur::blur_line(u, line, w, bleed);
@@ -94,7 +100,8 @@ fn rows(
     strength: f32,
 )
     requires { ⌜ (bleed ≤ 64) × (length (now line) ≡ width) × (length (now u) ≡ width) × (length (now v) ≡ width) × (length (now w) ≡ width) ⌝ ∗ ⌜ Frame width height (now frame) ⌝ }
-    ensures { λ _. ⌜ now (frame .exit) ≡ every (placed width (Ntsc.at (at (now (w .entry))) width strength bleed (now (frame .entry)))) (now (frame .entry)) ⌝ }
+    ensures { λ _. ⌜ now (frame .exit)
+        ≡ everyLimited (placed width (Ntsc.at (at (now (w .entry))) width strength bleed (now (frame .entry)))) (now (frame .entry)) ⌝ }
 {
     let mut y = 0;
     let mut at = 0;
@@ -106,9 +113,10 @@ fn rows(
     }
 }
 
-pub fn apply(frame: &mut [u32], width: usize, height: usize, strength: f32, bleed: usize)
+// Returns how many channels were clipped.
+pub fn apply(frame: &mut [u32], width: usize, height: usize, strength: f32, bleed: usize) -> u32
     requires { ⌜ Frame width height (now frame) ⌝ ∗ ⌜ bleed ≤ 64 ⌝ }
-    ensures { λ _. ⌜ now (frame .exit) ≡ Ntsc.ntsc width strength bleed (now (frame .entry)) ⌝ }
+    ensures { λ r. ⌜ painted (now (frame .exit)) r ≡ Ntsc.ntsc width strength bleed (now (frame .entry)) ⌝ }
 {
     let mut line = blur::line();
     let mut u = blur::line();
@@ -125,4 +133,5 @@ pub fn apply(frame: &mut [u32], width: usize, height: usize, strength: f32, blee
         bleed,
         strength,
     );
+    marks::collect(frame)
 }

@@ -9,9 +9,11 @@ ghost use Rattle.num.specs.Rewrite.{rewrite, every, fill};
 ghost use Rattle.passes.specs.Plain.Blur.{at, Begins};
 ghost use Rattle.passes.specs.Flow.{flow};
 ghost use Rattle.passes.specs.Plain.Persistence as Persistence;
-ghost use Rattle.passes.specs.Plain.Pixel.{channel, packLimited, rgb, unpack};
-ghost use Rattle.passes.specs.Private.{rowShift};
+ghost use Rattle.passes.specs.Plain.Pixel.{channel, rgb, unpack};
+ghost use Rattle.passes.specs.Painted.{painted};
+ghost use Rattle.passes.specs.Private.{markLimited, blendedWord, rowShift};
 use crate::blur;
+use crate::marks;
 use crate::pixel;
 use crate::pixel::Rgb;
 use crate::rows;
@@ -115,11 +117,12 @@ fn channel_line(
 // The words of three lines of channels.
 fn finish_row(row: &mut [u32], r: &[f32], g: &[f32], b: &[f32])
     requires { ⌜ (length (now row) ≤ length (now r)) × (length (now row) ≤ length (now g)) × (length (now row) ≤ length (now b)) ⌝ }
-    ensures { λ _. ⌜ now (row .exit) ≡ fill (λ x. packLimited (rgb (at (now (r .entry)) x) (at (now (g .entry)) x) (at (now (b .entry)) x))) (now (row .entry)) ⌝ }
+    ensures { λ _. ⌜ now (row .exit)
+        ≡ fill (λ x. markLimited (rgb (at (now (r .entry)) x) (at (now (g .entry)) x) (at (now (b .entry)) x))) (now (row .entry)) ⌝ }
 {
     let mut i = 0usize;
     while i < row.len() {
-        row[i] = pixel::pack_limited(Rgb {
+        row[i] = marks::limited(Rgb {
             r: r[i],
             g: g[i],
             b: b[i],
@@ -131,7 +134,8 @@ fn finish_row(row: &mut [u32], r: &[f32], g: &[f32], b: &[f32])
 // A row that begins at word `at` of a frame of n, by way of a line for each channel.
 fn blend_row(row: &mut [u32], at: usize, n: usize, w: f32, ws: &[f32], history: &[u32])
     requires { ⌜ (length (now row) ≤ 1024) × (at + length (now row) ≤ n) × (length (now ws) * n ≤ length (now history)) ⌝ }
-    ensures { λ _. ⌜ now (row .exit) ≡ every (λ x. Persistence.pixel w (λ j. getD (now (ws .entry)) j nan) (length (now (ws .entry))) (now (history .entry)) n (at + x)) (now (row .entry)) ⌝ }
+    ensures { λ _. ⌜ now (row .exit) ≡ every (λ x. blendedWord w (λ j. getD (now (ws .entry)) j nan) (length (now (ws .entry)))
+        (now (history .entry)) n (at + x)) (now (row .entry)) ⌝ }
 {
     let r = channel_line(row, at, n, w, ws, history, 0);
     let g = channel_line(row, at, n, w, ws, history, 1);
@@ -203,7 +207,9 @@ fn row_line() -> [u32; 1024]
 // A row that begins at word `at` of a frame of n becomes the picture's, and the history gets it as it came.
 fn follow_row(row: &mut [u32], history: &mut [u32], at: usize, n: usize, w: f32, ws: &[f32])
     requires { ⌜ (length (now row) ≤ 1024) × (at + length (now row) ≤ n) × (length (now ws) * n ≤ length (now history)) ⌝ }
-    ensures { λ _. ⌜ (now (row .exit) ≡ every (λ x. Persistence.pixel w (λ j. getD (now (ws .entry)) j nan) (length (now (ws .entry))) (now (history .entry)) n (at + x)) (now (row .entry))) × (now (history .exit) ≡ rewrite (length (now (ws .entry)) * n) (rowShift n at (now (row .entry)) (now (history .entry))) (now (history .entry))) ⌝ }
+    ensures { λ _. ⌜ (now (row .exit) ≡ every (λ x. blendedWord w (λ j. getD (now (ws .entry)) j nan) (length (now (ws .entry)))
+        (now (history .entry)) n (at + x)) (now (row .entry)))
+        × (now (history .exit) ≡ rewrite (length (now (ws .entry)) * n) (rowShift n at (now (row .entry)) (now (history .entry))) (now (history .entry))) ⌝ }
 {
     let count = row.len();
     let mut carry = row_line();
@@ -215,7 +221,9 @@ fn follow_row(row: &mut [u32], history: &mut [u32], at: usize, n: usize, w: f32,
 // The frame by rows that the lines have room for, whatever its width.
 fn follow_rows(frame: &mut [u32], history: &mut [u32], w: f32, ws: &[f32])
     requires { ⌜ length (now ws) * length (now frame) ≤ length (now history) ⌝ }
-    ensures { λ _. ⌜ (now (frame .exit) ≡ Persistence.blended w (λ j. getD (now (ws .entry)) j nan) (length (now (ws .entry))) (now (history .entry)) (now (frame .entry))) × (now (history .exit) ≡ Persistence.shifted (length (now (ws .entry))) (now (frame .entry)) (now (history .entry))) ⌝ }
+    ensures { λ _. ⌜ (now (frame .exit) ≡ every (blendedWord w (λ j. getD (now (ws .entry)) j nan) (length (now (ws .entry)))
+        (now (history .entry)) (length (now (frame .entry)))) (now (frame .entry)))
+        × (now (history .exit) ≡ Persistence.shifted (length (now (ws .entry))) (now (frame .entry)) (now (history .entry))) ⌝ }
 {
     let n = frame.len();
     let mut at = 0;
@@ -233,18 +241,26 @@ fn line() -> [f32; 8]
     [0.0; 8]
 }
 
-// A frame of the held length: it becomes the picture, and the history gets it as it came.
-fn follow(frame: &mut [u32], history: &mut [u32], amount: f32, depth: usize)
-    requires { ⌜ (depth ≤ 8) × (depth * length (now frame) ≤ length (now history)) ⌝ }
-    ensures { λ _. ⌜ (now (frame .exit) ≡ Persistence.blend amount depth (now (history .entry)) (now (frame .entry))) × (now (history .exit) ≡ Persistence.shifted depth (now (frame .entry)) (now (history .entry))) ⌝ }
+// A frame of the held length: it becomes the picture, and the history gets it as it came. Returns how many channels were clipped.
+fn follow(frame: &mut [u32], history: &mut [u32], amount: f32, depth: usize) -> u32
+    requires { ⌜ (depth ≤ 8) × (depth * length (now frame) ≤ length (now history)) × (length (now frame) ≤ 1048576) ⌝ }
+    ensures { λ r. ⌜ (painted (now (frame .exit)) r ≡ Persistence.blend amount depth (now (history .entry)) (now (frame .entry)))
+        × (now (history .exit) ≡ Persistence.shifted depth (now (frame .entry)) (now (history .entry))) ⌝ }
 {
     let sum = total(amount, depth);
     let mut ws = line();
     weights(&mut ws[..depth], amount, sum);
     follow_rows(frame, history, 1.0 / sum, &ws[..depth]);
+    marks::collect(frame)
 }
 
-// Returns the new `held`. Words of the history past depth * count stay. Nothing is written to the scratch.
+// What the history then holds, and how many channels were clipped.
+pub struct Kept {
+    pub held: u32,
+    pub clipped: u32,
+}
+
+// A refill clips nothing. Words of the history past depth * count stay. Nothing is written to the scratch.
 pub fn apply(
     frame: &mut [u32],
     history: &mut [u32],
@@ -252,15 +268,21 @@ pub fn apply(
     amount: f32,
     depth: u8,
     held: u32,
-) -> u32
-    requires { ⌜ (depth ≤ 8) × (depth * length (now frame) ≤ length (now history)) × (length (now frame) ≤ length (now scratch)) × (length (now frame) ≤ 1048576) ⌝ }
-    ensures { λ r. ⌜ (flow (now (frame .exit)) r (now (history .exit)) ≡ Persistence.persistence amount depth (length (now (frame .entry))) (flow (now (frame .entry)) held (now (history .entry)))) × (drop (length (now (frame .entry))) (now (scratch .exit)) ≡ drop (length (now (frame .entry))) (now (scratch .entry))) ⌝ }
+) -> Kept
+    requires { ⌜ (depth ≤ 8) × (depth * length (now frame) ≤ length (now history)) × (length (now frame) ≤ length (now scratch))
+        × (length (now frame) ≤ 1048576) ⌝ }
+    ensures { λ r. ⌜ (flow (painted (now (frame .exit)) (r .clipped)) (r .held) (now (history .exit))
+        ≡ Persistence.persistence amount depth (length (now (frame .entry))) (flow (painted (now (frame .entry)) 0) held (now (history .entry))))
+        × (drop (length (now (frame .entry))) (now (scratch .exit)) ≡ drop (length (now (frame .entry))) (now (scratch .entry))) ⌝ }
 {
     let count = frame.len();
     if held == count as u32 {
-        follow(frame, history, amount, depth as usize);
-        return held;
+        let clipped = follow(frame, history, amount, depth as usize);
+        return Kept { held, clipped };
     }
     refill(history, frame, depth as usize);
-    count as u32
+    Kept {
+        held: count as u32,
+        clipped: 0,
+    }
 }

@@ -1,11 +1,12 @@
-// Exports of the passes, each with the contract of the pass itself.
+// Exports of the passes, each with the contract of the pass itself. Those that clip channels answer how many.
 ghost use mathlib.Core.Path.{_≡_};
 ghost use Prim.Native.Nat.{_*_, _≤_, _<_};
-ghost use lib.ListN.{length, drop};
+ghost use lib.ListN.{length, getD, drop};
 ghost use Rattle.passes.specs.Plain.Bloom as Bloom;
 ghost use Rattle.passes.specs.Plain.Crt as Crt;
 ghost use Rattle.passes.specs.Plain.Curvature as Curvature;
 ghost use Rattle.passes.specs.Flow.{flow};
+ghost use Rattle.passes.specs.Painted.{painted};
 ghost use Rattle.passes.specs.Plain.Ntsc as Ntsc;
 ghost use Rattle.passes.specs.Plain.Persistence as Persistence;
 ghost use Rattle.passes.specs.Rows.{Frame};
@@ -23,11 +24,11 @@ pub extern "C" fn probe_auto_gradient(
     strength: f32,
     vertical: f32,
     horizontal: f32,
-)
+) -> u32
     requires { ⌜ Frame width height (now frame) ⌝ }
-    ensures { λ _. ⌜ now (frame .exit) ≡ AutoGradient.autoGradient width height strength vertical horizontal (now (frame .entry)) ⌝ }
+    ensures { λ r. ⌜ painted (now (frame .exit)) r ≡ AutoGradient.autoGradient width height strength vertical horizontal (now (frame .entry)) ⌝ }
 {
-    passes::auto_gradient::apply(frame, width, height, strength, vertical, horizontal);
+    passes::auto_gradient::apply(frame, width, height, strength, vertical, horizontal)
 }
 
 #[no_mangle]
@@ -39,11 +40,12 @@ pub extern "C" fn probe_bloom(
     threshold: u8,
     strength: f32,
     radius: usize,
-)
+) -> u32
     requires { ⌜ Frame width height (now frame) ⌝ ∗ ⌜ (radius ≤ 64) × (3 * length (now frame) ≤ length (now scratch)) ⌝ }
-    ensures { λ _. ⌜ (now (frame .exit) ≡ Bloom.bloom width height threshold strength radius (now (frame .entry))) × (drop (3 * length (now (frame .entry))) (now (scratch .exit)) ≡ drop (3 * length (now (frame .entry))) (now (scratch .entry))) ⌝ }
+    ensures { λ r. ⌜ (painted (now (frame .exit)) r ≡ Bloom.bloom width height threshold strength radius (now (frame .entry)))
+        × (drop (3 * length (now (frame .entry))) (now (scratch .exit)) ≡ drop (3 * length (now (frame .entry))) (now (scratch .entry))) ⌝ }
 {
-    passes::bloom::apply(frame, scratch, width, height, threshold, strength, radius);
+    passes::bloom::apply(frame, scratch, width, height, threshold, strength, radius)
 }
 
 #[no_mangle]
@@ -52,10 +54,11 @@ pub extern "C" fn probe_color_correction(
     brightness: f32,
     contrast: f32,
     saturation: f32,
-)
-    ensures { λ _. ⌜ now (frame .exit) ≡ ColorCorrection.colorCorrection brightness contrast saturation (now (frame .entry)) ⌝ }
+) -> u32
+    requires { ⌜ length (now frame) ≤ 1048576 ⌝ }
+    ensures { λ r. ⌜ painted (now (frame .exit)) r ≡ ColorCorrection.colorCorrection brightness contrast saturation (now (frame .entry)) ⌝ }
 {
-    passes::color_correction::apply(frame, brightness, contrast, saturation);
+    passes::color_correction::apply(frame, brightness, contrast, saturation)
 }
 
 #[no_mangle]
@@ -81,10 +84,11 @@ pub extern "C" fn probe_curvature(
 }
 
 #[no_mangle]
-pub extern "C" fn probe_lut(frame: &mut [u32], preset: u8, strength: f32)
-    ensures { λ _. ⌜ now (frame .exit) ≡ Lut.lut preset strength (now (frame .entry)) ⌝ }
+pub extern "C" fn probe_lut(frame: &mut [u32], preset: u8, strength: f32) -> u32
+    requires { ⌜ length (now frame) ≤ 1048576 ⌝ }
+    ensures { λ r. ⌜ painted (now (frame .exit)) r ≡ Lut.lut preset strength (now (frame .entry)) ⌝ }
 {
-    passes::lut::apply(frame, preset, strength);
+    passes::lut::apply(frame, preset, strength)
 }
 
 #[no_mangle]
@@ -94,13 +98,14 @@ pub extern "C" fn probe_ntsc(
     height: usize,
     strength: f32,
     bleed: usize,
-)
+) -> u32
     requires { ⌜ Frame width height (now frame) ⌝ ∗ ⌜ bleed ≤ 64 ⌝ }
-    ensures { λ _. ⌜ now (frame .exit) ≡ Ntsc.ntsc width strength bleed (now (frame .entry)) ⌝ }
+    ensures { λ r. ⌜ painted (now (frame .exit)) r ≡ Ntsc.ntsc width strength bleed (now (frame .entry)) ⌝ }
 {
-    passes::ntsc::apply(frame, width, height, strength, bleed);
+    passes::ntsc::apply(frame, width, height, strength, bleed)
 }
 
+// Answers what is held, and puts the number of clipped channels into `clipped`.
 #[no_mangle]
 pub extern "C" fn probe_persistence(
     frame: &mut [u32],
@@ -109,11 +114,17 @@ pub extern "C" fn probe_persistence(
     amount: f32,
     depth: u8,
     held: u32,
+    clipped: &mut [u32; 1],
 ) -> u32
-    requires { ⌜ (depth ≤ 8) × (depth * length (now frame) ≤ length (now history)) × (length (now frame) ≤ length (now scratch)) × (length (now frame) ≤ 1048576) ⌝ }
-    ensures { λ r. ⌜ (flow (now (frame .exit)) r (now (history .exit)) ≡ Persistence.persistence amount depth (length (now (frame .entry))) (flow (now (frame .entry)) held (now (history .entry)))) × (drop (length (now (frame .entry))) (now (scratch .exit)) ≡ drop (length (now (frame .entry))) (now (scratch .entry))) ⌝ }
+    requires { ⌜ (depth ≤ 8) × (depth * length (now frame) ≤ length (now history)) × (length (now frame) ≤ length (now scratch))
+        × (length (now frame) ≤ 1048576) ⌝ }
+    ensures { λ r. ⌜ (flow (painted (now (frame .exit)) (getD (now (clipped .exit)) 0 0)) r (now (history .exit))
+        ≡ Persistence.persistence amount depth (length (now (frame .entry))) (flow (painted (now (frame .entry)) 0) held (now (history .entry))))
+        × (drop (length (now (frame .entry))) (now (scratch .exit)) ≡ drop (length (now (frame .entry))) (now (scratch .entry))) ⌝ }
 {
-    passes::persistence::apply(frame, history, scratch, amount, depth, held)
+    let kept = passes::persistence::apply(frame, history, scratch, amount, depth, held);
+    *clipped = [kept.clipped];
+    kept.held
 }
 
 #[no_mangle]

@@ -8,6 +8,7 @@ use super::room::Room;
 use super::runs;
 use super::settings;
 use super::table::{Frame, Pass, PASSES};
+use crate::clipped;
 use crate::steps::{Mode, THREADS};
 use crate::tally::{FrameTally, Total};
 
@@ -70,7 +71,13 @@ fn frame(pass: &Pass, case: &Case, room: &mut Room, tally: &mut FrameTally, at: 
     let given = picture.draw(width, height);
 
     let mut original = given.clone();
-    (pass.original)(setting).apply(&mut original, width, height);
+    pass.original(setting).apply(&mut original, width, height);
+    let mut copy = given.clone();
+    let clipped = clipped::counted(|| pass.counting(setting).apply(&mut copy, width, height));
+    assert!(
+        copy == original,
+        "the copy that counts paints another picture"
+    );
 
     let mut ours = given.clone();
     let frame = Frame {
@@ -79,13 +86,14 @@ fn frame(pass: &Pass, case: &Case, room: &mut Room, tally: &mut FrameTally, at: 
         height,
     };
     let lent = room.lend(given.len(), picture.seed);
-    (pass.ours)(&settings::limited(pass.fields, setting), frame, lent);
+    let here = (pass.ours)(&settings::limited(pass.fields, setting), frame, lent);
 
     let what = || {
         let setting = settings::shown(pass.fields, setting);
         format!("{width}x{height}, {setting}, frame {picture}")
     };
     tally.check(at, &given, &ours, &original, what);
+    tally.check_clipped(at, here, clipped, what);
     if let Some(place) = room.written_past(given.len()) {
         tally.differ(at, || format!("{}: {place} of the scratch written", what()));
     }

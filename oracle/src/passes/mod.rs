@@ -1,8 +1,16 @@
-//! The passes beside the original's, whose files are compiled where they lie.
+//! The passes beside the original's, whose files are compiled where they lie, and once more as a copy that counts.
 
+pub mod both;
 mod cases;
 pub mod chain;
 pub mod compare;
+// Written by oracle/build.sh: a module for each file of the copy, whose final clamps count.
+#[allow(dead_code)]
+#[path = "../../../target/oracle/counted.rs"]
+#[rustfmt::skip]
+pub mod counted;
+pub mod counting;
+pub mod effects;
 pub mod frames;
 // Written by oracle/build.sh: a module for each of the original's files.
 #[allow(dead_code)]

@@ -4,12 +4,15 @@
 use std::collections::VecDeque;
 
 use super::cases;
+use super::counted::effect::PostProcessEffect as _;
+use super::counted::persistence::Persistence as Counting;
 use super::frames::Picture;
-use super::original::effect::PostProcessEffect;
+use super::original::effect::PostProcessEffect as _;
 use super::original::persistence::Persistence;
 use super::room::{Lent, Room};
 use super::settings::{self, Setting};
 use super::table::{Frame, Pass};
+use crate::clipped;
 use crate::random::Random;
 use crate::steps::Mode;
 use crate::tally::FrameTally;
@@ -66,6 +69,7 @@ pub fn of(pass: &Pass, mode: Mode) -> Vec<Run> {
 /// One effect on both sides, from frame to frame.
 struct Memory {
     original: Persistence,
+    counting: Counting,
     /// What is lent to the pass here, and comes back from it.
     history: Vec<u32>,
     held: u32,
@@ -76,8 +80,10 @@ impl Memory {
     fn new(run: &Run, depth: usize, random: &mut Random) -> Self {
         let most = depth * run.longest * run.longest;
         let history: Vec<u32> = (0..most + PAST).map(|_| random.word()).collect();
+        let (amount, frames) = (run.setting.float(0), run.setting.whole(1));
         Memory {
-            original: Persistence::new(run.setting.float(0), run.setting.whole(1)),
+            original: Persistence::new(amount, frames),
+            counting: Counting::new(amount, frames),
             held: 0,
             model: Model {
                 buffer: history.clone(),
@@ -89,6 +95,7 @@ impl Memory {
 
     fn reset(&mut self) {
         self.original.reset();
+        self.counting.reset();
         self.forget();
     }
 
@@ -97,6 +104,20 @@ impl Memory {
             self.forget();
         }
         self.original.set_enabled(on);
+        self.counting.set_enabled(on);
+    }
+
+    /// The original's picture of a frame, and how many channels were clipped.
+    fn shown(&self, given: &[u32], width: usize, height: usize) -> (Vec<u32>, u32) {
+        let mut original = given.to_vec();
+        self.original.apply(&mut original, width, height);
+        let mut copy = given.to_vec();
+        let clipped = clipped::counted(|| self.counting.apply(&mut copy, width, height));
+        assert!(
+            copy == original,
+            "the copy that counts paints another picture"
+        );
+        (original, clipped)
     }
 
     /// Nothing is held, and no word changes.
@@ -173,10 +194,10 @@ pub fn compare(pass: &Pass, run: &Run, room: &mut Room, tally: &mut FrameTally, 
         let picture = Picture::random(random);
         let given = picture.draw(width, height);
         let count = given.len();
-        let mut original = given.clone();
-        memory.original.apply(&mut original, width, height);
+        let (original, clipped) = memory.shown(&given, width, height);
 
         let mut ours = given.clone();
+        let mut here = 0;
         let on = memory.original.enabled();
         if on {
             memory.model.take(&given, depth);
@@ -193,7 +214,7 @@ pub fn compare(pass: &Pass, run: &Run, room: &mut Room, tally: &mut FrameTally, 
                 held: &mut memory.held,
                 ..room.lend(count, picture.seed)
             };
-            (pass.ours)(&limited, frame, lent);
+            here = (pass.ours)(&limited, frame, lent);
         }
 
         let what = || {
@@ -204,6 +225,7 @@ pub fn compare(pass: &Pass, run: &Run, room: &mut Room, tally: &mut FrameTally, 
             )
         };
         tally.check(at, &given, &ours, &original, what);
+        tally.check_clipped(at, here, clipped, what);
         if on && memory.held as usize != count {
             let held = memory.held;
             tally.differ(at, || format!("{}: {held} is held, not {count}", what()));

@@ -24,6 +24,10 @@ impl Setting {
     pub fn byte(&self, field: usize) -> u8 {
         self.values[field] as u8
     }
+
+    pub fn values(&self) -> &[f32] {
+        &self.values
+    }
 }
 
 /// One setting of a pass.

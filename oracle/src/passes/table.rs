@@ -1,20 +1,10 @@
-//! The passes under comparison, a row for each: its settings, how the original's effect is built
-//! from them, and how the pass here is called with them.
+//! The passes under comparison, a row for each: its settings, and how the pass here is called with them.
 
-use super::chain;
-use super::original::auto_gradient::AutoGradient;
-use super::original::bloom::Bloom;
-use super::original::color_correction::ColorCorrection;
-use super::original::crt::Crt;
-use super::original::curvature::Curvature;
+use super::counted::effect::PostProcessEffect as Counting;
 use super::original::effect::PostProcessEffect;
-use super::original::lut::{Lut, LutPreset};
-use super::original::ntsc::Ntsc;
-use super::original::persistence::Persistence;
-use super::original::scanlines::Scanlines;
-use super::original::vignette::Vignette;
 use super::room::{Lent, Needs, FRAME_ONLY};
 use super::settings::{clamped, radius, Field, Setting};
+use super::{counting, effects};
 use crate::probe;
 
 pub struct Pass {
@@ -22,10 +12,10 @@ pub struct Pass {
     pub name: &'static str,
     pub fields: &'static [Field],
     pub needs: Needs,
-    /// The original's effect, built by its `new` and switched on.
-    pub original: fn(&Setting) -> Box<dyn PostProcessEffect>,
-    /// A call of the pass here, with the setting as it is once limited.
-    pub ours: fn(&Setting, Frame, Lent),
+    /// Document 01's number.
+    pub kind: u32,
+    /// A call of the pass here, with the setting as it is once limited. Gives how many channels were clipped.
+    pub ours: fn(&Setting, Frame, Lent) -> u32,
     /// Nanoseconds that both sides together take for a word, very roughly: how many frames a budget
     /// of time allows.
     pub cost: fn(&Setting) -> usize,
@@ -42,6 +32,21 @@ pub struct Frame<'a> {
     pub height: usize,
 }
 
+impl Pass {
+    /// The original's effect, built by its `new` and switched on.
+    pub fn original(&self, setting: &Setting) -> Box<dyn PostProcessEffect> {
+        effects::effect(self.kind, setting.values())
+    }
+
+    /// The same effect of the copy that counts.
+    pub fn counting(&self, setting: &Setting) -> Box<dyn Counting> {
+        counting::effects::effect(self.kind, setting.values())
+    }
+}
+
+/// What a pass without a final clamp clips.
+const UNCLIPPED: u32 = 0;
+
 pub static PASSES: &[Pass] = &[
     Pass {
         name: "auto_gradient",
@@ -51,7 +56,7 @@ pub static PASSES: &[Pass] = &[
             clamped("horizontal", 1.0),
         ],
         needs: FRAME_ONLY,
-        original: |s| Box::new(AutoGradient::new(s.float(0), s.float(1), s.float(2))),
+        kind: 3,
         ours: |s, f, _| {
             probe::auto_gradient(
                 f.words,
@@ -82,7 +87,7 @@ pub static PASSES: &[Pass] = &[
             floats: 3,
             ..FRAME_ONLY
         },
-        original: |s| Box::new(Bloom::new(s.byte(0), s.float(1), s.whole(2))),
+        kind: 2,
         ours: |s, f, lent| {
             probe::bloom(
                 f.words,
@@ -119,15 +124,7 @@ pub static PASSES: &[Pass] = &[
             },
         ],
         needs: FRAME_ONLY,
-        original: |s| {
-            let gamma = 1.0;
-            Box::new(ColorCorrection::new(
-                s.float(0),
-                s.float(1),
-                s.float(2),
-                gamma,
-            ))
-        },
+        kind: 7,
         ours: |s, f, _| probe::color_correction(f.words, s.float(0), s.float(1), s.float(2)),
         cost: |_| 45,
         measured: &[&[0.05, 1.1, 1.2]],
@@ -137,12 +134,11 @@ pub static PASSES: &[Pass] = &[
         name: "crt",
         fields: &[clamped("strength", 1.0)],
         needs: FRAME_ONLY,
-        original: |s| {
-            let mut effect = Crt::new(s.float(0));
-            effect.set_enabled(true);
-            Box::new(effect)
+        kind: 8,
+        ours: |s, f, _| {
+            probe::crt(f.words, f.width, f.height, s.float(0));
+            UNCLIPPED
         },
-        ours: |s, f, _| probe::crt(f.words, f.width, f.height, s.float(0)),
         cost: |_| 30,
         measured: &[&[0.75]],
         limit: |_| 1.0,
@@ -154,8 +150,11 @@ pub static PASSES: &[Pass] = &[
             words: 1,
             ..FRAME_ONLY
         },
-        original: |s| Box::new(Curvature::new(s.float(0))),
-        ours: |s, f, lent| probe::curvature(f.words, lent.words, f.width, f.height, s.float(0)),
+        kind: 6,
+        ours: |s, f, lent| {
+            probe::curvature(f.words, lent.words, f.width, f.height, s.float(0));
+            UNCLIPPED
+        },
         cost: |_| 30,
         measured: &[&[0.1]],
         limit: |_| 1.0,
@@ -172,7 +171,7 @@ pub static PASSES: &[Pass] = &[
             clamped("strength", 1.0),
         ],
         needs: FRAME_ONLY,
-        original: |s| Box::new(Lut::new(PRESETS[s.whole(0)], s.float(1))),
+        kind: 5,
         ours: |s, f, _| probe::lut(f.words, s.byte(0), s.float(1)),
         cost: |_| 20,
         measured: &[
@@ -190,7 +189,7 @@ pub static PASSES: &[Pass] = &[
         name: "ntsc",
         fields: &[clamped("strength", 1.0), radius("bleed")],
         needs: FRAME_ONLY,
-        original: |s| Box::new(Ntsc::new(s.float(0), s.whole(1))),
+        kind: 1,
         ours: |s, f, _| probe::ntsc(f.words, f.width, f.height, s.float(0), s.whole(1)),
         cost: |s| 30 + 4 * (2 * s.whole(1) + 1),
         measured: &[&[0.75, 4.0], &[0.75, 64.0]],
@@ -212,11 +211,13 @@ pub static PASSES: &[Pass] = &[
             history: 8,
             ..FRAME_ONLY
         },
-        original: |s| Box::new(Persistence::new(s.float(0), s.whole(1))),
+        kind: 4,
         ours: |s, f, lent| {
             let (amount, depth) = (s.float(0), s.byte(1));
-            *lent.held =
-                probe::persistence(f.words, lent.history, lent.words, amount, depth, *lent.held)
+            let (held, clipped) =
+                probe::persistence(f.words, lent.history, lent.words, amount, depth, *lent.held);
+            *lent.held = held;
+            clipped
         },
         cost: |s| 10 + 4 * s.whole(1),
         measured: &[&[0.35, 3.0], &[0.35, 8.0]],
@@ -226,8 +227,11 @@ pub static PASSES: &[Pass] = &[
         name: "scanlines",
         fields: &[clamped("strength", 1.0)],
         needs: FRAME_ONLY,
-        original: |s| Box::new(Scanlines::new(s.float(0))),
-        ours: |s, f, _| probe::scanlines(f.words, f.width, f.height, s.float(0)),
+        kind: 10,
+        ours: |s, f, _| {
+            probe::scanlines(f.words, f.width, f.height, s.float(0));
+            UNCLIPPED
+        },
         cost: |_| 10,
         measured: &[&[0.35]],
         limit: |_| 1.0,
@@ -239,8 +243,11 @@ pub static PASSES: &[Pass] = &[
             floats: 1,
             ..FRAME_ONLY
         },
-        original: |s| Box::new(Vignette::new(s.float(0))),
-        ours: |s, f, lent| probe::vignette(f.words, lent.floats, f.width, f.height, s.float(0)),
+        kind: 9,
+        ours: |s, f, lent| {
+            probe::vignette(f.words, lent.floats, f.width, f.height, s.float(0));
+            UNCLIPPED
+        },
         cost: |_| 30,
         measured: &[&[0.35]],
         limit: |_| 1.0,
@@ -249,7 +256,7 @@ pub static PASSES: &[Pass] = &[
 
 /// The row of document 01's kind.
 pub fn of_kind(kind: u32) -> &'static Pass {
-    let found = PASSES.iter().find(|pass| pass.name == chain::name(kind));
+    let found = PASSES.iter().find(|pass| pass.kind == kind);
     found.expect("every kind has a row")
 }
 
@@ -261,14 +268,3 @@ fn blur_limit(radius: usize) -> f64 {
         0.2
     }
 }
-
-/// In the order of the enum: a card holds the place.
-pub const PRESETS: [LutPreset; 7] = [
-    LutPreset::Identity,
-    LutPreset::WarmCrt,
-    LutPreset::CoolCrt,
-    LutPreset::Composite,
-    LutPreset::GameBoy,
-    LutPreset::Amber,
-    LutPreset::HighContrast,
-];

@@ -160,6 +160,8 @@ mod of_run {
         Full,
         /// A frame that came through a pipe.
         Piped,
+        /// The clipped channels of a picture were told: none, and some.
+        Clipped(bool),
         Help,
         CardMissing,
         CardRefused,
@@ -192,6 +194,8 @@ mod of_run {
             OfRun::Plain,
             OfRun::Full,
             OfRun::Piped,
+            OfRun::Clipped(false),
+            OfRun::Clipped(true),
             OfRun::Help,
             OfRun::CardMissing,
             OfRun::CardRefused,

@@ -152,7 +152,10 @@ mod files {
     /// What the program writes.
     fn written(run: &Run, folder: &Folder) -> io::Result<Said> {
         let names = run.files.iter().map(|file| file.name.as_str());
-        let arguments: Vec<&str> = iter::once(run.card.argument.as_str())
+        let option = run.tells.then_some("--clipped");
+        let arguments: Vec<&str> = option
+            .into_iter()
+            .chain(iter::once(run.card.argument.as_str()))
             .chain(names)
             .collect();
         let frames = run.files.iter().filter_map(|file| {
@@ -169,8 +172,11 @@ mod files {
             Err(_) => format!("{:?}", file.name),
         });
         let files: Vec<String> = files.collect();
-        let card = run.card.shown();
-        format!("seed {seed:#018x}, card {card}, files {}", files.join(", "))
+        let (card, tells) = (run.card.shown(), run.tells);
+        format!(
+            "seed {seed:#018x}, --clipped {tells}, card {card}, files {}",
+            files.join(", ")
+        )
     }
 }
 

@@ -10,6 +10,8 @@ use crate::random::Random;
 use crate::runs;
 
 pub struct Run {
+    /// Whether the clipped channels of each picture are told.
+    pub tells: bool,
     pub card: Given,
     pub files: Vec<File>,
 }
@@ -60,8 +62,10 @@ pub fn run(seed: u64) -> Run {
     } else {
         card(pixels, random)
     };
+    let card = cards::given(&card, random);
     Run {
-        card: cards::given(&card, random),
+        tells: random.one_in(2),
+        card,
         files,
     }
 }

@@ -8,20 +8,21 @@ use super::ppm::{self, Frame};
 use super::process::{Said, PIPE};
 use crate::cards::paper;
 use crate::met::Met;
-use crate::passes::chain::{built, PERSISTENCE};
+use crate::passes::both::Both;
+use crate::passes::chain::PERSISTENCE;
 
-const USAGE: &str = "usage: filter CARD FRAME..   \
+const USAGE: &str = "usage: filter [--clipped] CARD FRAME..   \
     (a card as a file or in hexadecimal; frames as binary PPM, up to 256 by 240 pixels)";
 
 /// What is written, and how many pixels the frames have, each of them.
 pub fn run(run: &Run, met: &mut Met<OfRun>) -> (Said, Vec<usize>) {
     match played(run, met) {
-        Ok((output, counts)) => (Said::output(output), counts),
+        Ok(both) => both,
         Err(refusal) => (refusal, Vec::new()),
     }
 }
 
-fn played(run: &Run, met: &mut Met<OfRun>) -> Result<(Vec<u8>, Vec<usize>), Said> {
+fn played(run: &Run, met: &mut Met<OfRun>) -> Result<(Said, Vec<usize>), Said> {
     if run.card.is_option() {
         met.note(OfRun::Help);
         return Err(Said::error(USAGE));
@@ -59,17 +60,22 @@ fn played(run: &Run, met: &mut Met<OfRun>) -> Result<(Vec<u8>, Vec<usize>), Said
 
     let remembers = |r: &paper::Record| r.kind == PERSISTENCE && r.on;
     let remembers = opened.records.iter().any(remembers);
-    let pipeline = built(&opened.records);
+    let pipeline = Both::built(&opened.records);
     let mut written = Vec::new();
+    let mut told = String::new();
     let mut counts = Vec::new();
     let mut held = None;
-    for (frame, bytes) in files {
+    for ((frame, bytes), file) in files.into_iter().zip(&run.files) {
         note(&frame, bytes, held, remembers, met);
         held = Some((frame.width, frame.height));
         let (header, pixels) = bytes.split_at(frame.start);
         let word = |rgb: &[u8]| u32::from_be_bytes([0, rgb[0], rgb[1], rgb[2]]);
         let mut words: Vec<u32> = pixels.chunks(3).map(word).collect();
-        pipeline.apply(&mut words, frame.width, frame.height);
+        let clipped = pipeline.apply(&mut words, frame.width, frame.height);
+        if run.tells {
+            told.push_str(&format!("{}: {clipped} clipped channels\n", file.name));
+            met.note(OfRun::Clipped(clipped > 0));
+        }
         written.extend_from_slice(header);
         for word in &words {
             written.extend_from_slice(&word.to_be_bytes()[1..]);
@@ -80,7 +86,11 @@ fn played(run: &Run, met: &mut Met<OfRun>) -> Result<(Vec<u8>, Vec<usize>), Said
     if run.files[0].name == PIPE {
         met.note(OfRun::Piped);
     }
-    Ok((written, counts))
+    let said = Said {
+        output: written,
+        error: told.into_bytes(),
+    };
+    Ok((said, counts))
 }
 
 /// What happens at a frame. `held` is the size of the one before it.

@@ -208,6 +208,9 @@ fn shared_list(
             ));
         }
         differed |= here.picture != there.picture;
+        if here.answer != there.answer {
+            met.note(Point::ClippedDiffers);
+        }
         course.went(&before, &call, here.answer, met);
     }
     if !course.agreed {
@@ -238,7 +241,8 @@ impl Own {
                     self.station.take(frame.size.0 * frame.size.1);
                     tally.frame(picture.len());
                 }
-                (here, asked)
+                // The clipped channels depend on the history: the runs hold them to the original's.
+                (here, asked.map(|()| here.unwrap_or_default()))
             }
             Call::Reset => (bridge::reset(&mut self.state), self.station.reset()),
             Call::Switch(kind, on) => {

@@ -23,6 +23,8 @@ pub enum Case {
     Refill,
     Blend,
     BlendTurned,
+    /// An accepted frame of which no channel was clipped, and one of which some were.
+    Clipped(bool),
     /// A frame that is lent not a word more than it needs.
     Exact,
     /// An accepted frame of this width and height.
@@ -68,6 +70,8 @@ impl Listed for Case {
         Case::Refill,
         Case::Blend,
         Case::BlendTurned,
+        Case::Clipped(false),
+        Case::Clipped(true),
         Case::Exact,
         Case::Size(1, 1),
         Case::Size(1024, 1),
@@ -142,6 +146,8 @@ pub enum Point {
     RefusedBefore,
     /// A frame of another count before the point.
     RefillBefore,
+    /// Another number of clipped channels before the point.
+    ClippedDiffers,
 }
 
 impl Listed for Point {
@@ -156,5 +162,6 @@ impl Listed for Point {
         Point::HeldDiffers,
         Point::RefusedBefore,
         Point::RefillBefore,
+        Point::ClippedDiffers,
     ];
 }

@@ -4,15 +4,16 @@
 
 use super::station::{Lengths, Station};
 use crate::bridge::{Answer, State};
-use crate::passes::chain::{built, name, preset, PERSISTENCE};
-use crate::passes::original::pipeline::PostProcessPipeline;
+use crate::passes::both::Both;
+use crate::passes::chain::{name, preset, PERSISTENCE};
+use crate::passes::effects::built;
 
 pub struct Machine {
     /// None where the bytes are no good station's.
     station: Option<Station>,
     /// The bytes that it was given.
     given: State,
-    pipeline: PostProcessPipeline,
+    pipeline: Both,
     pub history: Vec<u32>,
 }
 
@@ -37,26 +38,25 @@ impl Machine {
         self.station.as_ref().map_or(self.given, Station::state)
     }
 
-    /// A frame: the picture takes the place of the first words.
+    /// A frame: the picture takes the place of the first words. The answer is how many channels were clipped.
     pub fn frame(&mut self, words: &mut [u32], size: (usize, usize), lent: &Lengths) -> Answer {
         let (width, height) = size;
         let station = self.station.as_mut().ok_or(13u32)?;
-        let answer = station.frame(width, height, lent)?;
+        station.frame(width, height, lent)?;
         let words = &mut words[..width * height];
         if station.remembers() {
             let incoming = before_persistence(station, words, size);
             remember(station, &mut self.history, &incoming);
             station.take(incoming.len());
         }
-        self.pipeline.apply(words, width, height);
-        Ok(answer)
+        Ok(self.pipeline.apply(words, width, height))
     }
 
     /// The original's pipeline cannot reach a reset: its effects are built anew.
     pub fn reset(&mut self) -> Answer {
         let station = self.station.as_mut().ok_or(13u32)?;
         let answer = station.reset()?;
-        self.pipeline = built(station.records());
+        self.pipeline = Both::built(station.records());
         Ok(answer)
     }
 
@@ -72,7 +72,7 @@ impl Machine {
         let station = self.station.as_mut().ok_or(13u32)?;
         station.step()?;
         self.pipeline.cycle_lut();
-        Ok(preset(&self.pipeline))
+        Ok(preset(self.pipeline.original()))
     }
 
     pub fn write(&self, buffer: &mut [u8]) -> Answer {
@@ -117,8 +117,8 @@ fn remember(station: &Station, history: &mut [u32], incoming: &[u32]) {
 
 /// The original's pipeline of a station, with what is held given to its persistence frame by frame, oldest
 /// first, while all else is off.
-fn refilled(station: &Station, history: &[u32]) -> PostProcessPipeline {
-    let mut pipeline = built(station.records());
+fn refilled(station: &Station, history: &[u32]) -> Both {
+    let mut pipeline = Both::built(station.records());
     let (held, depth) = (station.held as usize, station.depth().unwrap_or_default());
     // More than the buffer has room for meets no frame: the next one fills all places.
     if held == 0 || depth * held > history.len() {

@@ -117,7 +117,10 @@ impl Sides {
     /// Tells the list of cases what this was.
     fn note(&mut self, call: &Call, before: Option<&Station>, asked: Answer, met: &mut Met<Case>) {
         match (call, asked, before) {
-            (Call::Frame(frame), Ok(_), Some(before)) => self.note_taken(frame, before, met),
+            (Call::Frame(frame), Ok(clipped), Some(before)) => {
+                met.note(Case::Clipped(clipped > 0));
+                self.note_taken(frame, before, met);
+            }
             (Call::Frame(frame), Err(number), _) => {
                 met.note(Case::Frame(number));
                 if let Some(fault) = before.and_then(|before| fault(before, frame)) {

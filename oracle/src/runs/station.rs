@@ -85,8 +85,8 @@ impl Station {
         }
     }
 
-    /// The answer to a frame, by the paper's table.
-    pub fn frame(&self, width: usize, height: usize, lent: &Lengths) -> Answer {
+    /// Why a frame is refused, by the paper's table. What an accepted one reports is no station's to say.
+    pub fn frame(&self, width: usize, height: usize, lent: &Lengths) -> Result<(), u32> {
         let fine = |side: usize| (1..=1024).contains(&side);
         if !fine(width) || !fine(height) {
             return Err(8);
@@ -102,7 +102,7 @@ impl Station {
         } else if lent.floats < 6 * count || lent.ints < count {
             Err(11)
         } else {
-            Ok(0)
+            Ok(())
         }
     }
 

@@ -6,7 +6,8 @@
 use super::cases::Case;
 use crate::cards::paper::{self, Record, Value};
 use crate::met::Met;
-use crate::passes::chain::{built, name, preset, LUT, PERSISTENCE};
+use crate::passes::chain::{name, preset, LUT, PERSISTENCE};
+use crate::passes::effects::built;
 use crate::passes::original::pipeline::PostProcessPipeline;
 
 /// What is printed for an input. `met` is told what happened.

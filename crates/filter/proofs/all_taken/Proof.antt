@@ -7,10 +7,10 @@ use Rattle.filter.proofs.all_taken.Statement.{statement}
 use Rattle.filter.proofs.all_taken.Tie as tie
 
 abbrev Inv-loop : tie.InvT-loop
-Inv-loop count file₀ i₀ file i = length file ≡ length file₀
+Inv-loop first count file₀ i₀ file i = length file ≡ length file₀
 
 abbrev μ-loop : tie.MeasureT-loop
-μ-loop count file₀ i₀ file i = count - i
+μ-loop first count file₀ i₀ file i = count - i
 
 -- a turn keeps the buffer's length
 kept : (c : tie.After-taken Inv-loop μ-loop) → length (c .taken .last .1 .0) ≡ length (c .before .before .before .before .before .args .file .now)

@@ -7,15 +7,15 @@ use Rattle.filter.proofs.show_all.Statement.{statement}
 use Rattle.filter.proofs.show_all.Tie as tie
 
 abbrev Inv-loop : tie.InvT-loop
-Inv-loop count file₀ words₀ history₀ floats₀ ints₀ now₀ more₀ i₀ file words history floats ints now more i = length file ≡ length file₀
+Inv-loop first count tell file₀ words₀ history₀ floats₀ ints₀ now₀ more₀ i₀ file words history floats ints now more i = length file ≡ length file₀
 
 abbrev μ-loop : tie.MeasureT-loop
-μ-loop count file₀ words₀ history₀ floats₀ ints₀ now₀ more₀ i₀ file words history floats ints now more i = count - i
+μ-loop first count tell file₀ words₀ history₀ floats₀ ints₀ now₀ more₀ i₀ file words history floats ints now more i = count - i
 
 loop-again : tie.Need-loop-again Inv-loop μ-loop
 loop-again c =
     let p = c .before .before .before in
-    p .play .kept .1 .1 .0 ∙ p .before .before .before .before .before .before .before .before .loop .inv
+    p .play .kept .1 .1 .1 .0 ∙ p .before .before .before .before .before .before .before .before .loop .inv
 
 pub show-all-spec : {M : Type 1} → statement M
 show-all-spec =

@@ -4,7 +4,7 @@ use Prim.Native.Nat.{ℕ, _*_}
 use mathlib.Core.Path.{_≡_, ap, sym, _∙_}
 use native.Mathlib.Omega.{arith}
 use lib.ListN.{length}
-use Rattle.chain.specs.Answers.{reported}
+use Rattle.chain.specs.Answers.{reportedFrame}
 use Rattle.chain.specs.Calls.{framed}
 use Rattle.raster.specs.Pixels.{unpacked}
 use Rattle.frames.proofs.Parts.{shows}
@@ -34,7 +34,7 @@ returns : tie.Need-returns
 returns c =
     let p = c .before .before .before .before in
     let a = p .before .before .before .before .before .before .before .before .before .before .before in
-    shows _ _ _ _ _ _ _ _ (framed (reported (a .apply .result .answer)) (a .apply .result .station) (a .apply .last .1 .0) (a .apply .last .1 .1 .1 .1 .0)) _ _ _
+    shows _ _ _ _ _ _ _ _ (framed (reportedFrame (a .apply .result .answer)) (a .apply .result .station) (a .apply .last .1 .0) (a .apply .last .1 .1 .1 .1 .0)) _ _ _
     (pixels a) (a .apply .ensures .replies) (c .answered .ensures) (p .pack .ensures) (omega (arith, words-kept a, start a .pre .pixels-room))
 
 pub show-spec : {M : Type 1} → statement M

@@ -13,13 +13,14 @@ use Rattle.num.specs.Const.{c0·30, c0·45, c14·0, c18·0, c255·0, c5·0}
 use Rattle.num.specs.Sized.{Exact, exact-sum}
 use Rattle.num.specs.Within.{within}
 use Rattle.passes.specs.Arith.{Arith, Agrees, plain}
-use Rattle.passes.specs.AutoGradient.{addLuma, adaptive, warm, brightness, shade, shaded, autoGradient}
+use Rattle.passes.specs.AutoGradient.{addLuma, adaptive, warm, fall, brightness, shade, shaded, autoGradient}
 use Rattle.passes.specs.Fold.{fold}
-use Rattle.passes.specs.Inside.Shared.{loose, unpacked, packed-three, luma709-in, position-in}
+use Rattle.passes.specs.Inside.Shared.{loose, unpacked, limited-three, luma709-in, position-in}
+use Rattle.passes.specs.Painted.{placed-same}
 use Rattle.passes.specs.Range.{Has, signed, lit, lit⁺, lit-big, whole-big, wide, plus, plus-exact, minus, times}
 use Rattle.passes.specs.Range.{over-one, negated, abs, times⁺}
 use Rattle.passes.specs.Range.{zero⁺, one⁺, one-less, clamp-one}
-use Rattle.passes.specs.Rows.{Frame, placed-ext, row-ends, frame-small}
+use Rattle.passes.specs.Rows.{Frame, row-ends, frame-small}
 
 module _ {A : Arith} (G : Agrees A) where
   summed : (n i : ℕ) (xs : List ℕ) → i + length xs ≡ n → n ≤ 1048576 → {a : A .F} {z : Float} → Has G (i * 1024) a z
@@ -38,9 +39,9 @@ module _ {A : Arith} (G : Agrees A) where
       → T (within 1 strength) → T (within 1 vertical) → T (within 1 horizontal)
       → autoGradient A w h (A .lit strength) (A .lit vertical) (A .lit horizontal) frame
       ≡ autoGradient plain w h strength vertical horizontal frame
-  unfolding autoGradient shaded adaptive addLuma warm brightness shade within ofBits
+  unfolding autoGradient shaded adaptive addLuma warm fall brightness shade within ofBits
   auto-gradient-inside w h strength vertical horizontal frame f s v t =
-      placed-ext w h frame _ _ (f .area) (λ x y p l m.
+      placed-same _ _ _ _ frame w h _ _ (f .area) (λ x y p l m.
       let c = loose (unpacked G p) in
       let n = length frame in
       let small : n ≤ 1048576 = frame-small f in
@@ -52,8 +53,8 @@ module _ {A : Arith} (G : Agrees A) where
       let a = times⁺ (lit⁺ 1 strength s) (one-less (times⁺ (clamp-one mean) (lit⁺ 1 c0·45 tt) tt)) tt in
       let warmth =
       times (times (negated (position-in G h y (f .high) m)) (signed (lit⁺ 1 vertical v)) tt) (signed a) tt in
-      let fall = times (times (abs (position-in G w x (f .wide) l)) (signed (lit⁺ 1 horizontal t)) tt) (signed a) tt in
-      let bright = times (plus (signed one⁺) (times warmth (lit 1 c0·30 tt) tt) tt) (minus (signed one⁺) fall tt) tt in
-      packed-three (plus (times (c .red) bright tt) (times warmth (lit 18 c18·0 tt) tt) tt)
+      let less = times (times (abs (position-in G w x (f .wide) l)) (signed (lit⁺ 1 horizontal t)) tt) (signed a) tt in
+      let bright = times (plus (signed one⁺) (times warmth (lit 1 c0·30 tt) tt) tt) (minus (signed one⁺) less tt) tt in
+      limited-three (plus (times (c .red) bright tt) (times warmth (lit 18 c18·0 tt) tt) tt)
       (plus (times (c .green) bright tt) (times warmth (lit 5 c5·0 tt) tt) tt)
       (minus (times (c .blue) bright tt) (times warmth (lit 14 c14·0 tt) tt) tt))

@@ -23,12 +23,13 @@ use Rattle.passes.specs.Arith.{Arith, Agrees, plain}
 use Rattle.passes.specs.Bloom as Bloom
 use Rattle.passes.specs.Blur.{blurAt}
 use Rattle.passes.specs.Inside.Blur.{blur-in}
-use Rattle.passes.specs.Inside.Shared.{Tint, tint, loose, unpacked, scaled-in, channel-in, packed-three}
+use Rattle.passes.specs.Inside.Shared.{Tint, tint, loose, unpacked, scaled-in, channel-in, limited-three}
 use Rattle.passes.specs.Inside.Shared.{luma709-in, cell-same}
 use Rattle.passes.specs.Pixel.{unpack, luma709, scaled}
+use Rattle.passes.specs.Painted.{placed-same}
 use Rattle.passes.specs.Range.{Has, Plus, Big, signed, lit⁺, whole⁺, wide, difference, plus, minus, times}
 use Rattle.passes.specs.Range.{over-one, zero⁺, top⁺, clamp-one}
-use Rattle.passes.specs.Rows.{Frame, placed-ext}
+use Rattle.passes.specs.Rows.{Frame}
 
 -- ---- no luma is above 255
 
@@ -108,10 +109,10 @@ module _ {A : Arith} (G : Agrees A) where
       ≡ Bloom.bloom plain w h threshold strength radius frame
   unfolding Bloom.bloom Bloom.composite
   bloom-inside w h threshold strength radius frame f l s m =
-      placed-ext w h frame _ _ (f .area) (λ x y p i j.
+      placed-same _ _ _ _ frame w h _ _ (f .area) (λ x y p i j.
       let c = loose (unpacked G p) in
       let v = tint (blurred 0 x y i j) (blurred 1 x y i j) (blurred 2 x y i j) in
-      packed-three (glow (c .red) (v .red)) (glow (c .green) (v .green)) (glow (c .blue) (v .blue)))
+      limited-three (glow (c .red) (v .red)) (glow (c .green) (v .green)) (glow (c .blue) (v .blue)))
     where
       across : (which x y : ℕ) → x < w → y < h
           → Has G 32895 (Bloom.horizontal A w radius (A .whole threshold) frame which x y)

@@ -5,15 +5,14 @@ use mathlib.Core.Path.{_≡_}
 use mathlib.Core.List.{List}
 use Prim.Native.Nat.{ℕ}
 use lib.Dec.{T}
-use lib.ListN.{length}
 use lib.Ieee.{Float, ofBits}
 use Rattle.num.specs.Const.{c0·5}
-use Rattle.num.specs.Rewrite.{rewrite-ext}
 use Rattle.num.specs.Within.{within}
 use Rattle.passes.specs.Arith.{Arith, Agrees, plain}
 use Rattle.passes.specs.ColorCorrection as ColorCorrection
-use Rattle.passes.specs.Inside.Shared.{Tint, tint, united, packed-unit, luma709-in}
-use Rattle.passes.specs.Pixel.{packUnit, luma709}
+use Rattle.passes.specs.Inside.Shared.{Tint, tint, united, unit-same, luma709-in}
+use Rattle.passes.specs.Painted.{converted-same}
+use Rattle.passes.specs.Pixel.{luma709}
 use Rattle.passes.specs.Range.{sized, Has, Plus, signed, lit, lit⁺, plus, minus, times}
 use Rattle.passes.specs.declared.pixel.Rgb.{Rgb}
 
@@ -26,11 +25,11 @@ module _ {A : Arith} (G : Agrees A) where
       → T (sized 1 brightness) → T (within 4 contrast) → T (within 4 saturation)
       → ColorCorrection.colorCorrection A (A .lit brightness) (A .lit contrast) (A .lit saturation) frame
       ≡ ColorCorrection.colorCorrection plain brightness contrast saturation frame
-  unfolding ColorCorrection.colorCorrection ColorCorrection.pixel ofBits
+  unfolding ColorCorrection.colorCorrection ColorCorrection.colour ofBits
   color-correction-inside brightness contrast saturation frame b c s =
-      rewrite-ext (length frame) _ _ frame (λ i p l.
+      converted-same _ _ _ _ frame _ _ (λ i p l.
       let u = united G p in
-      saturated (tint (level (u .red)) (level (u .green)) (level (u .blue))))
+      unit-same (saturated (tint (level (u .red)) (level (u .green)) (level (u .blue)))))
     where
       level : {a : A .F} {x : Float} → Plus G 255 a x
           → Has G 1029 (ColorCorrection.level A (A .lit brightness) (A .lit contrast) a)
@@ -40,9 +39,8 @@ module _ {A : Arith} (G : Agrees A) where
           (signed (lit⁺ 4 contrast c)) tt) (lit 1 c0·5 tt) tt
 
       saturated : {c : A .Rgb} {d : Rgb} → Tint G 1029 c d
-          → packUnit A (ColorCorrection.saturate A (A .lit saturation) c)
-          ≡ packUnit plain (ColorCorrection.saturate plain saturation d)
-      saturated {c} {d} h = packed-unit (tint (part (h .red)) (part (h .green)) (part (h .blue)))
+          → Tint G 19551 (ColorCorrection.saturate A (A .lit saturation) c) (ColorCorrection.saturate plain saturation d)
+      saturated {c} {d} h = tint (part (h .red)) (part (h .green)) (part (h .blue))
         where
           part : {a : A .F} {x : Float} → Has G 1029 a x
               → Has G 19551 (about A (A .lit saturation) (luma709 A c) a) (about plain saturation (luma709 plain d) x)

@@ -5,17 +5,16 @@ use mathlib.Core.Path.{_≡_}
 use mathlib.Core.List.{List}
 use Prim.Native.Nat.{ℕ, zero, suc}
 use lib.Dec.{T, lit≤}
-use lib.ListN.{length}
 use lib.Ieee.{Float, ofBits}
 use Rattle.num.specs.Const.{c0·01, c0·015, c0·16, c0·35, c0·42, c0·5, c0·58, c0·72, c0·82, c0·88, c0·92, c0·94, c0·95}
 use Rattle.num.specs.Const.{c0·96, c0·99}
 use Rattle.num.specs.Const.{c1·0, c1·01, c1·03, c1·05, c1·06, c1·25, c3·0}
-use Rattle.num.specs.Rewrite.{rewrite-ext}
 use Rattle.num.specs.Sized.{exact}
 use Rattle.num.specs.Within.{within}
 use Rattle.passes.specs.Arith.{Arith, Agrees, plain}
-use Rattle.passes.specs.Inside.Shared.{Tint, Tint⁺, tint, united, packed-unit, luma601-in}
-use Rattle.passes.specs.Lut.{transform, blend, pixel, lut}
+use Rattle.passes.specs.Inside.Shared.{Tint, Tint⁺, tint, united, unit-same, luma601-in}
+use Rattle.passes.specs.Lut.{transform, blend, colour, lut}
+use Rattle.passes.specs.Painted.{converted-same}
 use Rattle.passes.specs.Pixel.{luma601}
 use Rattle.passes.specs.Range.{Has, Plus, signed, lit, lit⁺, lit-big, wide, plus, minus, times, over, round}
 use Rattle.passes.specs.declared.pixel.Rgb.{Rgb}
@@ -73,12 +72,12 @@ module _ {A : Arith} (G : Agrees A) where
 
   pub lut-inside : (preset : ℕ) (strength : Float) (frame : List ℕ) → T (within 1 strength)
       → lut A preset (A .lit strength) frame ≡ lut plain preset strength frame
-  unfolding lut pixel
+  unfolding lut colour
   lut-inside preset strength frame s =
-      rewrite-ext (length frame) _ _ frame (λ i p l.
+      converted-same _ _ _ _ frame _ _ (λ i p l.
       let c = united G p in
       let t = transformed preset c in
-      packed-unit (tint (mixed (c .red) (t .red)) (mixed (c .green) (t .green)) (mixed (c .blue) (t .blue))))
+      unit-same (tint (mixed (c .red) (t .red)) (mixed (c .green) (t .green)) (mixed (c .blue) (t .blue))))
     where
       mixed : {a b : A .F} {x y : Float} → Plus G 255 a x → Has G 4096 b y
           → Has G 4606 (blend A a b (A .lit strength)) (blend plain x y strength)

@@ -12,10 +12,11 @@ use Rattle.num.specs.Within.{within}
 use Rattle.passes.specs.Arith.{Arith, Agrees, plain}
 use Rattle.passes.specs.Blur.{blurAt}
 use Rattle.passes.specs.Inside.Blur.{blur-in}
-use Rattle.passes.specs.Inside.Shared.{Tint, loose, unpacked, packed-three, luma601-in, cell-same}
+use Rattle.passes.specs.Inside.Shared.{Tint, loose, unpacked, limited-three, luma601-in, cell-same}
 use Rattle.passes.specs.Ntsc as Ntsc
+use Rattle.passes.specs.Painted.{placed-same}
 use Rattle.passes.specs.Range.{Has, signed, lit, lit⁺, plus, minus, times, negated}
-use Rattle.passes.specs.Rows.{Frame, placed-ext}
+use Rattle.passes.specs.Rows.{Frame}
 use Rattle.passes.specs.declared.pixel.Rgb.{Rgb}
 
 module _ {A : Arith} (G : Agrees A) where
@@ -34,12 +35,12 @@ module _ {A : Arith} (G : Agrees A) where
       → Ntsc.ntsc A w (A .lit strength) bleed frame ≡ Ntsc.ntsc plain w strength bleed frame
   unfolding Ntsc.ntsc Ntsc.pixel ofBits
   ntsc-inside w h strength bleed frame f s l =
-      placed-ext w h frame _ _ (f .area) (λ x y p i j.
+      placed-same _ _ _ _ frame w h _ _ (f .area) (λ x y p i j.
       let c = unpacked G p in
       let luma = signed (luma601-in c) in
       let u = blend (chroma-in 0 (loose c)) (blurred 0 x y i j) in
       let v = blend (chroma-in 1 (loose c)) (blurred 1 x y i j) in
-      packed-three (plus luma (times (lit 2 c1·13983 tt) v tt) tt)
+      limited-three (plus luma (times (lit 2 c1·13983 tt) v tt) tt)
       (minus (minus luma (times (lit 1 c0·39465 tt) u tt) tt) (times (lit 1 c0·58060 tt) v tt) tt)
       (plus luma (times (lit 3 c2·03211 tt) u tt) tt))
     where

@@ -14,14 +14,14 @@ use lib.ListN.{length, getD}
 use lib.Ieee.{Float, ofBits}
 use Rattle.num.specs.Const.{c0·55, c1·0}
 use Rattle.num.specs.F32.{_⊘_}
-use Rattle.num.specs.Rewrite.{rewrite-ext}
 use Rattle.num.specs.Least.{Least, more-least}
 use Rattle.num.specs.Sized.{exact}
 use Rattle.num.specs.Within.{within}
 use Rattle.passes.specs.Arith.{Arith, Agrees, plain}
 use Rattle.passes.specs.Flow.{Held, sameHeld, Flow, flow}
-use Rattle.passes.specs.Inside.Shared.{Tint, tint, loose, unpacked, scaled-in, packed-limited}
-use Rattle.passes.specs.Persistence.{decay, total, weight, add, mix, pixel, blended, blend, shifted, refilled}
+use Rattle.passes.specs.Inside.Shared.{Tint, tint, loose, unpacked, scaled-in, limited-same}
+use Rattle.passes.specs.Painted.{Painted, painted, converted-same}
+use Rattle.passes.specs.Persistence.{decay, total, weight, add, mix, blended, blend, shifted, refilled}
 use Rattle.passes.specs.Persistence.{persistence}
 use Rattle.passes.specs.Range.{Plus, Big, signed, lit⁺, plus, plus⁺, times⁺, over⁺, one⁺}
 use Rattle.passes.specs.Rows.{row-ends}
@@ -83,12 +83,13 @@ module _ {A : Arith} (G : Agrees A) where
           (added j (getD past (j * n + i) 0) (omega arith) (mix-in past n i p j l (omega arith) r))
 
   pub persistence-inside : (amount : Float) (k : ℕ) (size : Held) (x : Flow) → T (within 1 amount) → k ≤ 8
-      → k * length (x .frame) ≤ length (x .past)
+      → k * length (x .frame .words) ≤ length (x .past)
       → persistence A (A .lit amount) k size x ≡ persistence plain amount k size x
-  unfolding persistence blend blended pixel
+  unfolding persistence blend blended
   persistence-inside amount k size x s few room =
-      let n = length (x .frame) in
-      ap (λ (l : List ℕ). cond (sameHeld (x .held) size) (flow l size (shifted k (x .frame) (x .past)))
-      (flow (x .frame) size (refilled k (x .frame) (x .past))))
-      (rewrite-ext n _ _ (x .frame)
-      (λ i p l. packed-limited (mix-in amount s k few (x .past) n i p k l (le-refl k) room)))
+      let words = x .frame .words in
+      ap (λ (y : Painted). cond (sameHeld (x .held) size)
+      (flow (painted (y .words) (x .frame .clipped + y .clipped)) size (shifted k words (x .past)))
+      (flow (x .frame) size (refilled k words (x .past))))
+      (converted-same _ _ _ _ words _ _
+      (λ i p l. limited-same (mix-in amount s k few (x .past) (length words) i p k l (le-refl k) room)))

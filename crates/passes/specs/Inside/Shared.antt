@@ -1,11 +1,11 @@
 -- What the arguments of several passes share: three channels with their bounds (`Tint`: each from -n to n, `Tint⁺`:
 -- each from 0 to n), the ways to a word, lumas, positions along a side, and words that are in the frame. Assumes
 -- nothing.
-use mathlib.Core.Path.{_≡_, refl, sym, subst}
+use mathlib.Core.Path.{_≡_, refl, sym, ap₂, subst}
 use mathlib.Core.List.{List}
 use Prim.Native.Nat.{ℕ, zero, suc, _+_, _-_, _*_, _/_, _%_, _≤_, _<_, max}
 use native.Mathlib.Omega.{arith}
-use mathlib.Core.Bool.{Bool, true, false, _&&_, _||_, true≢false}
+use mathlib.Core.Bool.{Bool, true, false, _&&_, _||_, cond, true≢false}
 use lib.Dec.{T, leb, lit≤}
 use lib.ListN.{length, getD}
 use lib.Ieee.{Float, ofBits}
@@ -15,11 +15,11 @@ use Rattle.num.specs.Bounds.{widen, cut-within}
 use Rattle.num.specs.Steps.{clampOf, cutOf}
 use Rattle.num.specs.Within.{within}
 use Rattle.passes.specs.Arith.{Arith, Agrees, plain}
-use Rattle.passes.specs.Pixel.{scaled, channel, pack, packNearest, packLimited, packUnit, unpack, unit, dim}
+use Rattle.passes.specs.Pixel.{scaled, channel, pack, packNearest, packLimited, packUnit, clip, clips, unpack, unit, dim}
 use Rattle.passes.specs.Pixel.{luma601, luma709}
 use Rattle.passes.specs.Position.{position}
 use Rattle.passes.specs.Range.{Has, Plus, signed, lit, lit⁺, lit-big, whole⁺, share⁺, plus, minus, times, plus⁺}
-use Rattle.passes.specs.Range.{times⁺, over⁺, round⁺, one⁺, top⁺}
+use Rattle.passes.specs.Range.{times⁺, over⁺, round⁺, zero⁺, one⁺, top⁺}
 use Rattle.passes.specs.Range.{clamp-one, clamp-top}
 use Rattle.passes.specs.Rows.{Frame, row-ends}
 use Rattle.passes.specs.declared.pixel.Rgb.{Rgb}
@@ -45,6 +45,10 @@ pub record Tint⁺ {A : Arith} (G : Agrees A) (n : ℕ) (c : A .Rgb) (d : Rgb) :
   pub red : Plus G n (A .red c) (d .r)
   pub green : Plus G n (A .green c) (d .g)
   pub blue : Plus G n (A .blue c) (d .b)
+
+-- the final conversion from 0..255 makes the same of them: the word, and the number of clipped channels
+abbrev pub Limited : (A : Arith) → A .Rgb → Rgb → Type 0
+Limited A c d = (packLimited A c ≡ packLimited plain d) × (clips A c255·0 c ≡ clips plain c255·0 d)
 
 module _ {A : Arith} {G : Agrees A} where
   moved : {n : ℕ} {a b : A .F} {x : Float} → b ≡ a → Has G n a x → Has G n b x
@@ -94,29 +98,48 @@ module _ {A : Arith} {G : Agrees A} where
   unfolding pack
   packed h = joined (h .red) (h .green) (h .blue)
 
-  pub packed-limited : {n : ℕ} {c : A .Rgb} {d : Rgb} → Tint G n c d → packLimited A c ≡ packLimited plain d
-  unfolding packLimited
-  packed-limited h = packed (tint⁺ (clamp-top (h .red)) (clamp-top (h .green)) (clamp-top (h .blue)))
+  pub packed-nearest : {c : A .Rgb} {d : Rgb} → Tint⁺ G 255 c d → packNearest A c ≡ packNearest plain d
+  unfolding packNearest
+  packed-nearest h = packed (tint⁺ (round⁺ (h .red) tt) (round⁺ (h .green) tt) (round⁺ (h .blue) tt))
+
+  -- ---- the final conversions: the same word, and as many clipped channels
+
+  clip-same : (k : ℕ) (top : Float) → Plus G k (A .lit top) top → {n : ℕ} {a : A .F} {x : Float} → Has G n a x
+      → clip A top a ≡ clip plain top x
+  unfolding clip
+  clip-same k top t h =
+      let z : Plus G 0 (A .lit c0·0) c0·0 = zero⁺ in
+      ap₂ (λ (p q : Bool). cond p 1 (cond q 1 0)) (G .below (h .is) (z .is)) (G .below (t .is) (h .is))
+
+  clips-same : (k : ℕ) (top : Float) → Plus G k (A .lit top) top → {n m l : ℕ} {c : A .Rgb} {d : Rgb}
+      → Has G n (A .red c) (d .r) → Has G m (A .green c) (d .g) → Has G l (A .blue c) (d .b)
+      → clips A top c ≡ clips plain top d
+  unfolding clips
+  clips-same k top t r g b = ap₂ _+_ (ap₂ _+_ (clip-same k top t r) (clip-same k top t g)) (clip-same k top t b)
 
   -- channels of different bounds
-  pub packed-three : {n m l : ℕ} {a b c : A .F} {x y z : Float} → Has G n a x → Has G m b y → Has G l c z
-      → packLimited A (A .rgb a b c) ≡ packLimited plain (plain .rgb x y z)
+  limited : {n m l : ℕ} {c : A .Rgb} {d : Rgb}
+      → Has G n (A .red c) (d .r) → Has G m (A .green c) (d .g) → Has G l (A .blue c) (d .b) → Limited A c d
   unfolding packLimited
-  packed-three {n} {m} {l} {a} {b} {c} h g k =
-      packed (tint⁺ (clamp-top (moved (G .red a b c) h)) (clamp-top (moved (G .green a b c) g))
-      (clamp-top (moved (G .blue a b c) k)))
+  limited h g k = (packed (tint⁺ (clamp-top h) (clamp-top g) (clamp-top k)), clips-same 255 c255·0 top⁺ h g k)
 
-  pub packed-unit : {n : ℕ} {c : A .Rgb} {d : Rgb} → Tint G n c d → packUnit A c ≡ packUnit plain d
+  pub limited-three : {n m l : ℕ} {a b c : A .F} {x y z : Float} → Has G n a x → Has G m b y → Has G l c z
+      → Limited A (A .rgb a b c) (plain .rgb x y z)
+  limited-three {n} {m} {l} {a} {b} {c} h g k =
+      limited (moved (G .red a b c) h) (moved (G .green a b c) g) (moved (G .blue a b c) k)
+
+  pub limited-same : {n : ℕ} {c : A .Rgb} {d : Rgb} → Tint G n c d → Limited A c d
+  limited-same h = limited (h .red) (h .green) (h .blue)
+
+  pub unit-same : {n : ℕ} {c : A .Rgb} {d : Rgb} → Tint G n c d
+      → (packUnit A c ≡ packUnit plain d) × (clips A c1·0 c ≡ clips plain c1·0 d)
   unfolding packUnit
-  packed-unit h = packed (tint⁺ (full (h .red)) (full (h .green)) (full (h .blue)))
+  unit-same h =
+      (packed (tint⁺ (full (h .red)) (full (h .green)) (full (h .blue))), clips-same 1 c1·0 one⁺ (h .red) (h .green) (h .blue))
     where
       full : {n : ℕ} {a : A .F} {x : Float} → Has G n a x
           → Plus G 255 (A ._⊗_ (A .clamp a (A .lit c0·0) (A .lit c1·0)) (A .lit c255·0)) (clampOf x c0·0 c1·0 ⊗ c255·0)
       full h = times⁺ (clamp-one h) top⁺ tt
-
-  pub packed-nearest : {c : A .Rgb} {d : Rgb} → Tint⁺ G 255 c d → packNearest A c ≡ packNearest plain d
-  unfolding packNearest
-  packed-nearest h = packed (tint⁺ (round⁺ (h .red) tt) (round⁺ (h .green) tt) (round⁺ (h .blue) tt))
 
   -- ---- lumas
 

@@ -4,6 +4,8 @@ use mathlib.Core.List.{List}
 use lib.Ieee.{Float}
 use Rattle.passes.specs as Text
 use Rattle.passes.specs.Arith.{plain}
+use Rattle.passes.specs.Painted.{Painted}
+use Rattle.passes.specs.declared.pixel.Rgb.{Rgb}
 
 abbrev pub addLuma : Float → ℕ → Float
 addLuma = Text.AutoGradient.addLuma plain
@@ -14,17 +16,20 @@ adaptive = Text.AutoGradient.adaptive plain
 abbrev pub warm : ℕ → ℕ → Float → Float → Float
 warm = Text.AutoGradient.warm plain
 
-abbrev pub brightness : ℕ → ℕ → Float → Float → Float → Float
+abbrev pub fall : ℕ → Float → Float → ℕ → Float
+fall = Text.AutoGradient.fall plain
+
+abbrev pub brightness : Float → Float → Float
 brightness = Text.AutoGradient.brightness plain
 
-abbrev pub shade : Float → Float → ℕ → ℕ
+abbrev pub shade : Float → Float → ℕ → Rgb
 shade = Text.AutoGradient.shade plain
 
-abbrev pub at : ℕ → ℕ → Float → Float → Float → ℕ → ℕ → ℕ → ℕ
+abbrev pub at : ℕ → (ℕ → Float) → Float → Float → ℕ → ℕ → ℕ → Rgb
 at = Text.AutoGradient.at plain
 
-abbrev pub shaded : ℕ → ℕ → Float → Float → Float → List ℕ → List ℕ
+abbrev pub shaded : ℕ → ℕ → Float → Float → Float → List ℕ → Painted
 shaded = Text.AutoGradient.shaded plain
 
-abbrev pub autoGradient : ℕ → ℕ → Float → Float → Float → List ℕ → List ℕ
+abbrev pub autoGradient : ℕ → ℕ → Float → Float → Float → List ℕ → Painted
 autoGradient = Text.AutoGradient.autoGradient plain

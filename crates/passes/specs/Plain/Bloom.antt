@@ -4,6 +4,7 @@ use mathlib.Core.List.{List}
 use lib.Ieee.{Float}
 use Rattle.passes.specs as Text
 use Rattle.passes.specs.Arith.{plain}
+use Rattle.passes.specs.Painted.{Painted}
 use Rattle.passes.specs.Plain.Blur.{cell}
 use Rattle.passes.specs.declared.pixel.Rgb.{Rgb}
 
@@ -28,13 +29,13 @@ horizontal = Text.Bloom.horizontal plain
 abbrev pub vertical : ℕ → ℕ → (ℕ → ℕ → ℕ → Float) → ℕ → ℕ → Rgb
 vertical = Text.Bloom.vertical plain
 
-abbrev pub composite : Float → Rgb → ℕ → ℕ
+abbrev pub composite : Float → Rgb → ℕ → Rgb
 composite = Text.Bloom.composite plain
 
-abbrev pub over : ℕ → ℕ → Float → ℕ → (ℕ → ℕ → ℕ → Float) → List ℕ → List ℕ
+abbrev pub over : ℕ → Float → ℕ → (ℕ → ℕ → ℕ → Float) → ℕ → ℕ → ℕ → Rgb
 over = Text.Bloom.over plain
 
-abbrev pub bloom : ℕ → ℕ → ℕ → Float → ℕ → List ℕ → List ℕ
+abbrev pub bloom : ℕ → ℕ → ℕ → Float → ℕ → List ℕ → Painted
 bloom = Text.Bloom.bloom plain
 
 -- ---- the planes as they are stored: row y has its red samples, then its green ones, then its blue ones

@@ -4,12 +4,14 @@ use mathlib.Core.List.{List}
 use lib.Ieee.{Float}
 use Rattle.passes.specs as Text
 use Rattle.passes.specs.Arith.{plain}
+use Rattle.passes.specs.Painted.{Painted}
+use Rattle.passes.specs.declared.pixel.Rgb.{Rgb}
 
 abbrev pub level : Float → Float → Float → Float
 level = Text.ColorCorrection.level plain
 
-abbrev pub pixel : Float → Float → Float → ℕ → ℕ
-pixel = Text.ColorCorrection.pixel plain
+abbrev pub colour : Float → Float → Float → ℕ → Rgb
+colour = Text.ColorCorrection.colour plain
 
-abbrev pub colorCorrection : Float → Float → Float → List ℕ → List ℕ
+abbrev pub colorCorrection : Float → Float → Float → List ℕ → Painted
 colorCorrection = Text.ColorCorrection.colorCorrection plain

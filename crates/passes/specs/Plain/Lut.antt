@@ -4,6 +4,7 @@ use mathlib.Core.List.{List}
 use lib.Ieee.{Float}
 use Rattle.passes.specs as Text
 use Rattle.passes.specs.Arith.{plain}
+use Rattle.passes.specs.Painted.{Painted}
 use Rattle.passes.specs.declared.pixel.Rgb.{Rgb}
 
 abbrev pub transform : ℕ → Rgb → Rgb
@@ -12,8 +13,8 @@ transform = Text.Lut.transform plain
 abbrev pub blend : Float → Float → Float → Float
 blend = Text.Lut.blend plain
 
-abbrev pub pixel : ℕ → Float → ℕ → ℕ
-pixel = Text.Lut.pixel plain
+abbrev pub colour : ℕ → Float → ℕ → Rgb
+colour = Text.Lut.colour plain
 
-abbrev pub lut : ℕ → Float → List ℕ → List ℕ
+abbrev pub lut : ℕ → Float → List ℕ → Painted
 lut = Text.Lut.lut plain

@@ -4,6 +4,7 @@ use mathlib.Core.List.{List}
 use lib.Ieee.{Float}
 use Rattle.passes.specs as Text
 use Rattle.passes.specs.Arith.{plain}
+use Rattle.passes.specs.Painted.{Painted}
 use Rattle.passes.specs.declared.pixel.Rgb.{Rgb}
 
 abbrev pub chroma : ℕ → Rgb → Float
@@ -12,11 +13,11 @@ chroma = Text.Ntsc.chroma plain
 abbrev pub sample : ℕ → List ℕ → ℕ → ℕ → ℕ → Float
 sample = Text.Ntsc.sample plain
 
-abbrev pub pixel : Float → Float → Float → ℕ → ℕ
+abbrev pub pixel : Float → Float → Float → ℕ → Rgb
 pixel = Text.Ntsc.pixel plain
 
-abbrev pub at : (ℕ → Float) → ℕ → Float → ℕ → List ℕ → ℕ → ℕ → ℕ → ℕ
+abbrev pub at : (ℕ → Float) → ℕ → Float → ℕ → List ℕ → ℕ → ℕ → ℕ → Rgb
 at = Text.Ntsc.at plain
 
-abbrev pub ntsc : ℕ → Float → ℕ → List ℕ → List ℕ
+abbrev pub ntsc : ℕ → Float → ℕ → List ℕ → Painted
 ntsc = Text.Ntsc.ntsc plain

@@ -4,6 +4,7 @@ use mathlib.Core.List.{List}
 use lib.Ieee.{Float}
 use Rattle.passes.specs as Text
 use Rattle.passes.specs.Arith.{plain}
+use Rattle.passes.specs.Painted.{Painted}
 use Rattle.passes.specs.Flow.{Held, Flow}
 use Rattle.passes.specs.declared.pixel.Rgb.{Rgb}
 unfoldable pub use Rattle.passes.specs.Persistence.{copies, refilled, shifted}
@@ -23,13 +24,10 @@ add = Text.Persistence.add plain
 abbrev pub mix : Float → (ℕ → Float) → List ℕ → (n i p : ℕ) → ℕ → Rgb
 mix = Text.Persistence.mix plain
 
-abbrev pub pixel : Float → (ℕ → Float) → ℕ → List ℕ → (n i p : ℕ) → ℕ
-pixel = Text.Persistence.pixel plain
-
-abbrev pub blended : Float → (ℕ → Float) → ℕ → List ℕ → List ℕ → List ℕ
+abbrev pub blended : Float → (ℕ → Float) → ℕ → List ℕ → List ℕ → Painted
 blended = Text.Persistence.blended plain
 
-abbrev pub blend : Float → ℕ → (past frame : List ℕ) → List ℕ
+abbrev pub blend : Float → ℕ → (past frame : List ℕ) → Painted
 blend = Text.Persistence.blend plain
 
 abbrev pub persistence : Float → ℕ → Held → Flow → Flow

@@ -32,6 +32,12 @@ packLimited = Text.Pixel.packLimited plain
 abbrev pub packUnit : Rgb → ℕ
 packUnit = Text.Pixel.packUnit plain
 
+abbrev pub clip : Float → Float → ℕ
+clip = Text.Pixel.clip plain
+
+abbrev pub clips : Float → Rgb → ℕ
+clips = Text.Pixel.clips plain
+
 abbrev pub dim : Float → ℕ → ℕ
 dim = Text.Pixel.dim plain
 

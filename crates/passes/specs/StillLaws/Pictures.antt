@@ -17,9 +17,10 @@ use Rattle.num.specs.F32.{_⊘_}
 use Rattle.num.specs.Rewrite.{getD-rewrite}
 use Rattle.passes.specs as Text
 use Rattle.passes.specs.Flow.{Held, sameHeld, Flow, flow}
-use Rattle.passes.specs.Plain.Persistence.{total, weight, pixel, blend, copies, refilled, shifted, persistence}
+use Rattle.passes.specs.Painted.{Painted, converted, onto}
+use Rattle.passes.specs.Plain.Persistence.{total, weight, mix, blend, copies, refilled, shifted, persistence}
 use Rattle.passes.specs.Plain.Pixel.{packLimited}
-use Rattle.passes.specs.PersistenceLaws.{blend-length, blend-take}
+use Rattle.passes.specs.PersistenceLaws.{blend-paints, blend-take}
 use Rattle.passes.specs.Still.{StillWord, Still}
 use Rattle.passes.specs.StillLaws.Words.{mix-equal, packed-still}
 use Rattle.passes.specs.StillLaws.Counts.{channel-still}
@@ -33,8 +34,8 @@ still-itself frame = (refl, λ i l. (inl refl, inl refl, inl refl))
 module _ (amount : Float) (own : HasValue amount false (num amount) (den amount)) (most : num amount ≤ den amount) (k : ℕ) (few : k ≤ 8) where
   word-still : (past : List ℕ) (n i p : ℕ) → ((j : ℕ) → j < k → getD past (j * n + i) 0 ≡ p) →
       let t = total amount k in
-      StillWord p (pixel (c1·0 ⊘ t) (weight amount t) k past n i p)
-  unfolding Text.Persistence.pixel Text.Pixel.packLimited Text.Pixel.pack
+      StillWord p (packLimited (mix (c1·0 ⊘ t) (weight amount t) past n i p k))
+  unfolding Text.Pixel.packLimited Text.Pixel.pack
   word-still past n i p same =
       let t = total amount k in
       subst (λ (c : Rgb). StillWord p (packLimited c)) (sym (mix-equal (c1·0 ⊘ t) (weight amount t) past n i p k same))
@@ -43,32 +44,34 @@ module _ (amount : Float) (own : HasValue amount false (num amount) (den amount)
 
   blend-still : (past frame : List ℕ)
       → ((i j : ℕ) → i < length frame → j < k → getD past (j * length frame + i) 0 ≡ getD frame i 0)
-      → Still frame (blend amount k past frame)
-  unfolding Text.Persistence.blend Text.Persistence.blended
+      → Still frame (blend amount k past frame .words)
+  unfolding Text.Persistence.blend Text.Persistence.blended converted
   blend-still past frame same = (
-    blend-length amount k past frame,
+    blend-paints amount k past frame .long,
     λ i l. subst (λ (q : ℕ). StillWord (getD frame i 0) q) (sym (getD-rewrite (length frame) _ frame i 0 l l))
         (word-still past (length frame) i (getD frame i 0) (λ j h. same i j l h)),
   )
 
-  full-still : (past frame : List ℕ) → Full k frame past → Still frame (blend amount k past frame)
+  full-still : (past frame : List ℕ) → Full k frame past → Still frame (blend amount k past frame .words)
   full-still past frame full =
-      subst (Still frame) (ap (λ (l : List ℕ). blend amount k l frame) (sym full) ∙ blend-take amount k past frame)
+      subst (λ (y : Painted). Still frame (y .words)) (ap (λ (l : List ℕ). blend amount k l frame) (sym full) ∙ blend-take amount k past frame)
       (blend-still (copies k frame) frame (λ i j l h. copies-word k frame i j l h))
 
   -- over a history that holds the frame alone, if anything of that size, it gives a picture that stands still, and
   -- leaves such a history
-  pub persistence-still : (size : Held) (x : Flow) → k * length (x .frame) ≤ length (x .past)
-      → (x .held ≡ size → Full k (x .frame) (x .past))
-      → Still (x .frame) (persistence amount k size x .frame) × Full k (x .frame) (persistence amount k size x .past)
+  pub persistence-still : (size : Held) (x : Flow) →
+      let words = x .frame .words in
+      k * length words ≤ length (x .past) → (x .held ≡ size → Full k words (x .past))
+      → Still words (persistence amount k size x .frame .words) × Full k words (persistence amount k size x .past)
   unfolding Text.Persistence.persistence sameHeld
   persistence-still size x room full = go (eqb (x .held) size) refl
     where
       go : (b : Bool) → eqb (x .held) size ≡ b →
-          let met = flow (blend amount k (x .past) (x .frame)) size (shifted k (x .frame) (x .past)) in
-          let y = cond b met (flow (x .frame) size (refilled k (x .frame) (x .past))) in
-          Still (x .frame) (y .frame) × Full k (x .frame) (y .past)
+          let words = x .frame .words in
+          let met = flow (onto (blend amount k (x .past)) (x .frame)) size (shifted k words (x .past)) in
+          let y = cond b met (flow (x .frame) size (refilled k words (x .past))) in
+          Still words (y .frame .words) × Full k words (y .past)
       go true e =
           let all = full (eqb-true (x .held) size e) in
-          (full-still (x .past) (x .frame) all, full-shifted k (x .frame) (x .past) room all)
-      go false e = (still-itself (x .frame), full-refilled k (x .frame) (x .past))
+          (full-still (x .past) (x .frame .words) all, full-shifted k (x .frame .words) (x .past) room all)
+      go false e = (still-itself (x .frame .words), full-refilled k (x .frame .words) (x .past))

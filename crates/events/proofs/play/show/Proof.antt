@@ -4,7 +4,7 @@ use Prim.Native.Nat.{ℕ, _*_}
 use mathlib.Core.Path.{_≡_, ap, _∙_}
 use native.Mathlib.Omega.{arith}
 use lib.ListN.{length}
-use Rattle.chain.specs.Answers.{reported}
+use Rattle.chain.specs.Answers.{reportedFrame}
 use Rattle.chain.specs.Calls.{framed}
 use Rattle.raster.specs.Pixels.{unpacked}
 use Rattle.events.proofs.Spoken.{shows, same-reply}
@@ -34,7 +34,7 @@ returns : tie.Need-returns
 returns c =
     let p = c .before .before in
     let a = p .before .before .before .before .before .before .before .before .before .before .before .before in
-    shows (framed (reported (a .apply .result .answer)) (a .apply .result .station) (a .apply .last .1 .0) (a .apply .last .1 .1 .1 .1 .0)) _ _ _ _
+    shows (framed (reportedFrame (a .apply .result .answer)) (a .apply .result .station) (a .apply .last .1 .0) (a .apply .last .1 .1 .1 .1 .0)) _ _ _ _
     (a .apply .ensures .replies ∙ same-reply _ _ _ _ _ _ _ _ (pixels a) (start a .pre .floats-room) (start a .pre .ints-room)) (p .picture-line .ensures)
 
 pub show-spec : {M : Type 1} → statement M

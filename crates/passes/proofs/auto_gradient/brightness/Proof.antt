@@ -1,5 +1,4 @@
 -- `passes::auto_gradient::brightness` meets its contract. Assumes nothing.
-use borrow.Author.Needs.{needs}
 use Rattle.passes.specs as Text
 use Rattle.passes.proofs.auto_gradient.brightness.Statement.{statement}
 use Rattle.passes.proofs.auto_gradient.brightness.Tie as tie
@@ -9,4 +8,4 @@ unfolding Text.AutoGradient.brightness
 returns c = cc
 
 pub brightness-spec : {M : Type 1} → statement M
-brightness-spec = tie.close (tie.spec (λ c κs. search needs) (λ c κs. tt) returns)
+brightness-spec = tie.close (tie.spec returns)

@@ -1,17 +1,20 @@
 -- `passes::auto_gradient::rows` meets its contract: row by row. Assumes nothing.
 use Prim.Native.Nat.{_-_}
+use mathlib.Core.Path.{ap, sym, _∙_}
 use native.Mathlib.Omega.{arith}
-use Rattle.passes.specs as Text
-use Rattle.passes.specs.Rows.{Rowed, no-rows, row-in, row-length, row-done, rows-all}
-use Rattle.passes.specs.Plain.AutoGradient.{at}
+use lib.Ieee.{Float}
+use Rattle.passes.specs.Rows.{Rowed, no-rows, row-in, row-length, row-by, rows-all}
+use Rattle.passes.specs.Plain.AutoGradient.{at, brightness, shade}
+use Rattle.passes.specs.Plain.Blur as Blur
+use Rattle.passes.specs.Private.{markLimited}
 use Rattle.passes.proofs.auto_gradient.rows.Statement.{statement}
 use Rattle.passes.proofs.auto_gradient.rows.Tie as tie
 
 abbrev Inv-loop : tie.InvT-loop
-Inv-loop fb₀ w h v z a y₀ at₀ fb y k = Rowed w h y k (at w h v z a) fb₀ fb
+Inv-loop fb₀ kept w h v a y₀ at₀ fb y k = Rowed w h y k (λ x y p. markLimited (at h (Blur.at kept) v a x y p)) fb₀ fb
 
 abbrev μ-loop : tie.MeasureT-loop
-μ-loop fb₀ w h v z a y₀ at₀ fb y k = h - y
+μ-loop fb₀ kept w h v a y₀ at₀ fb y k = h - y
 
 add-end : tie.Need-add-end Inv-loop μ-loop
 add-end c = omega (arith, row-in (c .before .loop .inv) (c .loop-test .taken))
@@ -22,22 +25,26 @@ mul-row c = omega (arith, row-in (c .before .loop .inv) (c .loop-test .taken))
 part-row-end : tie.Need-part-row-end Inv-loop μ-loop
 part-row-end c = omega (arith, row-in (c .before .loop .inv) (c .loop-test .taken))
 
+warm-requires : tie.Need-warm-requires Inv-loop μ-loop
+warm-requires c κs =
+    let high = c .before .before .before .before .before .pre .0 .high in
+    (omega (arith, c .before .loop-test .taken), high)
+
 row-requires : tie.Need-row-requires Inv-loop μ-loop
 row-requires c κs =
-    let in-loop = c .before in
-    (omega arith, omega arith, omega arith, row-length (in-loop .before .loop .inv) (in-loop .loop-test .taken))
+    let in-loop = c .before .before in
+    in-loop .before .before .before .before .pre .1 ∙ sym (row-length (in-loop .before .loop .inv) (in-loop .loop-test .taken))
 
 loop-again : tie.Need-loop-again Inv-loop μ-loop
 loop-again c =
-    let in-loop = c .before .before .before .before in
-    row-done (in-loop .before .loop .inv) _ (in-loop .loop-test .taken) (c .before .before .row .ensures)
-
-returns : tie.Need-returns Inv-loop μ-loop
-unfolding Text.AutoGradient.shaded
-returns c = rows-all (c .before .loop .inv) (c .loop-test .left)
+    let r = c .before .before in
+    let in-loop = r .before .before .before in
+    let a = in-loop .before .before .before .before .args in
+    row-by (in-loop .before .loop .inv) _ _ (in-loop .loop-test .taken)
+    (λ x p q. ap (λ (t : Float). markLimited (shade t (brightness t (Blur.at (a .kept .now) x)) p)) (r .before .warm .ensures)) (r .row .ensures)
 
 pub rows-spec : {M : Type 1} → statement M
 rows-spec =
     tie.close
-    (tie.spec Inv-loop μ-loop (λ c. no-rows _ (c .before .pre .area)) add-end mul-row (λ c. omega arith) (λ c. omega arith) part-row-end row-requires
-    (λ c. omega arith) (λ c. omega arith) loop-again (λ c. omega arith) returns)
+    (tie.spec Inv-loop μ-loop (λ c. no-rows _ (c .before .before .pre .0 .area)) add-end mul-row (λ c. omega arith) (λ c. omega arith) part-row-end warm-requires
+    row-requires (λ c. omega arith) (λ c. omega arith) loop-again (λ c. c .before .loop .inv .so-far .kept) (λ c. rows-all (c .before .loop .inv) (c .loop-test .left)))

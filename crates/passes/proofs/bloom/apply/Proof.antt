@@ -10,11 +10,14 @@ use lib.Ieee.{Float}
 use borrow.Author.Needs.{needs}
 use Rattle.num.specs.F32.{whole}
 use Rattle.passes.specs as Text
-use Rattle.passes.specs.Rows.{placed-ext}
+use Rattle.passes.specs.Rows.{frame-small, placed, placed-ext}
 use Rattle.passes.specs.Plain.Blur.{at, weights, down}
 use Rattle.passes.specs.Plain.Bloom.{composite, vertical, stored, sample, horizontal, horizontalBy}
 use Rattle.passes.proofs.Offsets.{front, weight-at, blur-by, blur-same}
+use Rattle.passes.specs.Private.{markLimited}
+use Rattle.passes.specs.declared.pixel.Rgb.{Rgb}
 use Rattle.passes.proofs.Planes.{same-composite, down-is}
+use Rattle.passes.proofs.Collected.{collected-limited}
 use Rattle.passes.proofs.bloom.apply.Statement.{statement}
 use Rattle.passes.proofs.bloom.apply.Tie as tie
 
@@ -84,17 +87,27 @@ composite-rows-requires c κs =
     let k = lines h in
     ((start k .pre .1 .0, ap length (shared h) ∙ written h ∙ planes-sized k, sums-long k), start k .pre .0)
 
+collect-requires : tie.Need-collect-requires
+collect-requires c κs =
+    let r = c .before .before .before .before in
+    let h = r .before .before .before .before .before .before .before in
+    omega (arith, r .composite-rows .kept .0, frame-small (start (lines h) .pre .0))
+
 returns : tie.Need-returns
 unfolding Text.Bloom.bloom
 returns c =
-    let r = c .before .before .before in
+    let g = c .before .before in
+    let r = g .before .before .before .before .before in
     let h = r .before .before .before .before .before .before .before in
     let s = start (lines h) in
-    let a = s .args in (
-      r .composite-rows .ensures
-          ∙ placed-ext (a .width) (a .height) (a .frame .now) (λ x y. composite (a .strength) (vertical (a .height) (a .radius) (stored (lent h) (a .width)) x y))
-          (λ x y. composite (a .strength) (vertical (a .height) (a .radius) (horizontal (a .width) (a .radius) (whole (a .threshold)) (a .frame .now)) x y)) (s .pre .0 .area)
-          (λ x y p l m. same-composite (a .strength) p (glows h 0 x y (omega arith) l) (glows h 1 x y (omega arith) l) (glows h 2 x y (omega arith) l)),
+    let a = s .args in
+    let glowing : ℕ → ℕ → ℕ → Rgb = λ x y. composite (a .strength) (vertical (a .height) (a .radius) (horizontal (a .width) (a .radius) (whole (a .threshold)) (a .frame .now)) x y) in (
+      collected-limited (placed (a .width) glowing) _ _
+          (r .composite-rows .ensures
+          ∙ placed-ext (a .width) (a .height) (a .frame .now) (λ x y p. markLimited (composite (a .strength) (vertical (a .height) (a .radius) (stored (lent h) (a .width)) x y) p))
+          (λ x y p. markLimited (glowing x y p)) (s .pre .0 .area)
+          (λ x y p l m. ap markLimited (same-composite (a .strength) p (glows h 0 x y (omega arith) l) (glows h 1 x y (omega arith) l) (glows h 2 x y (omega arith) l))))
+          (g .collect .ensures),
       drop-at (h .horizontal .last .0) (drop (words (lines h)) (a .scratch .now)) (words (lines h)) (written h),
     )
 
@@ -105,4 +118,4 @@ apply-spec =
     (λ c. let k = c .before .before .before in sym (row-long k _ (k .before .line .ensures))) (λ c. search needs)
     (λ c. let k = c .before .before .before .before in sym (row-long k _ (k .before .before .weight-line .ensures .long))) (λ c. search needs) horizontal-requires
     (λ c. search needs) (λ c. let h = c .before .before .before .before .before in sym (ap length (shared h) ∙ written h)) (λ c. search needs) (λ c. search needs)
-    (λ c. sym (sums-long (lines (c .before .before .before .before .before .before)))) composite-rows-requires (λ c. search needs) (λ c. search needs) returns)
+    (λ c. sym (sums-long (lines (c .before .before .before .before .before .before)))) composite-rows-requires collect-requires (λ c. search needs) (λ c. search needs) returns)

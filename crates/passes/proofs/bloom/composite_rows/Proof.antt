@@ -11,13 +11,14 @@ use Rattle.num.specs.Rewrite.{fill, getD-fill}
 use Rattle.passes.specs.Rows.{Rowed, no-rows, row-in, row-length, row-by, rows-all}
 use Rattle.passes.specs.Plain.Blur.{at, cell, weighted, weights, ratio, down}
 use Rattle.passes.specs.Plain.Bloom.{composite, vertical, stored}
+use Rattle.passes.specs.Private.{markLimited}
 use Rattle.passes.proofs.Planes.{same-composite}
 use Rattle.passes.proofs.bloom.composite_rows.Statement.{statement}
 use Rattle.passes.proofs.bloom.composite_rows.Tie as tie
 
 abbrev Inv-loop : tie.InvT-loop
 Inv-loop frame₀ planes sums₀ width height strength radius y₀ at₀ frame sums y k =
-    (length sums ≡ 3 * width) × Rowed width height y k (λ x y. composite strength (vertical height radius (stored planes width) x y)) frame₀ frame
+    (length sums ≡ 3 * width) × Rowed width height y k (λ x y p. markLimited (composite strength (vertical height radius (stored planes width) x y) p)) frame₀ frame
 
 abbrev μ-loop : tie.MeasureT-loop
 μ-loop frame₀ planes sums₀ width height strength radius y₀ at₀ frame sums y k = height - y
@@ -72,11 +73,11 @@ loop-again c =
     let down-at : (i j : ℕ) → i ≡ j → j < 3 * w → ratio (at sums i) g ≡ down (a .height) (a .radius) (λ x y. cell (a .planes .now) (3 * w) x y) j (o .y)
     = λ i j d l. sum-down (a .planes .now) (o .sums) sums w (a .height) (a .radius) (o .y) i j g (o .inv .0) (s .accumulate-rows .ensures) (q .weight-sum .ensures) d l in (
       s .accumulate-rows .kept .0 ∙ o .inv .0,
-      row-by (o .inv .1) (λ x. composite (a .strength) (rgb (ratio (at sums x) g) (ratio (at sums (length part + x)) g) (ratio (at sums (2 * length part + x)) g))) _ t
-          (λ x p l. same-composite (a .strength) p
+      row-by (o .inv .1) (λ x p. markLimited (composite (a .strength) (rgb (ratio (at sums x) g) (ratio (at sums (length part + x)) g) (ratio (at sums (2 * length part + x)) g)) p)) _ t
+          (λ x p l. ap markLimited (same-composite (a .strength) p
           (down-at x (0 * w + x) (omega (arith, zero-mul w)) (omega (arith, zero-mul w)))
           (down-at (length part + x) (1 * w + x) (omega (arith, one-mul w)) (omega (arith, one-mul w)))
-          (down-at (2 * length part + x) (2 * w + x) (omega arith) (omega arith)))
+          (down-at (2 * length part + x) (2 * w + x) (omega arith) (omega arith))))
           (r .composite-row .ensures),
     )
 

@@ -8,10 +8,10 @@ use Rattle.passes.proofs.lut.by_greys.Statement.{statement}
 use Rattle.passes.proofs.lut.by_greys.Tie as tie
 
 abbrev Inv-loop : tie.InvT-loop
-Inv-loop frame₀ table i₀ frame i = Rewritten i (λ _. picked (λ k. getD table k 0)) frame₀ frame
+Inv-loop frame₀ reds greens blues i₀ frame i = Rewritten i (λ _. picked (λ k. getD reds k 0) (λ k. getD greens k 0) (λ k. getD blues k 0)) frame₀ frame
 
 abbrev μ-loop : tie.MeasureT-loop
-μ-loop frame₀ table i₀ frame i = length frame₀ - i
+μ-loop frame₀ reds greens blues i₀ frame i = length frame₀ - i
 
 loop-again : tie.Need-loop-again Inv-loop μ-loop
 loop-again c = more (c .before .before .before .loop .inv) 0 (c .before .before .loop-test .taken) (c .picked .ensures)

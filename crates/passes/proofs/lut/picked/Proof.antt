@@ -1,6 +1,4 @@
--- `passes::lut::picked` meets its contract: each channel is below 256, so nothing wraps. Assumes nothing.
-use mathlib.Core.Path.{refl}
-use native.Mathlib.Omega.{arith}
+-- `passes::lut::picked` meets its contract. Assumes nothing.
 use borrow.Author.Needs.{needs}
 use Rattle.passes.specs.Private.{picked}
 use Rattle.passes.proofs.lut.picked.Statement.{statement}
@@ -8,10 +6,10 @@ use Rattle.passes.proofs.lut.picked.Tie as tie
 
 returns : tie.Need-returns
 unfolding picked
-returns c = refl
+returns c = cc
 
 pub picked-spec : {M : Type 1} → statement M
 picked-spec =
     tie.close
-    (tie.spec (λ c. search needs) (λ c. search needs) (λ c. search needs) (λ c. omega arith) (λ c. search needs) (λ c. search needs) (λ c. search needs)
-    (λ c. search needs) (λ c. omega arith) (λ c. search needs) (λ c. search needs) (λ c. search needs) (λ c. omega arith) returns)
+    (tie.spec (λ c. search needs) (λ c. search needs) (λ c. search needs) (λ c. search needs) (λ c. search needs) (λ c. search needs) (λ c. search needs)
+    (λ c. search needs) (λ c. search needs) (λ c κs. search needs) (λ c κs. search needs) returns)

@@ -1,18 +1,21 @@
 -- `passes::ntsc::apply` meets its contract: local lines are lent up to the width, one of them with the sums of weights. Assumes nothing.
 use Prim.Native.Nat.{ℕ}
-use mathlib.Core.Path.{_≡_, sym, _∙_}
+use mathlib.Core.Path.{_≡_, sym, ap, _∙_}
 use mathlib.Core.List.{List}
 use native.Mathlib.Omega.{arith}
 use lib.ListN.{length, take}
 use lib.Ieee.{Float}
 use borrow.Author.Needs.{needs}
 use Rattle.passes.specs as Text
-use Rattle.passes.specs.Rows.{placed-ext}
+use Rattle.passes.specs.Rows.{frame-small, placed, placed-ext}
 use Rattle.passes.specs.Plain.Blur.{weights}
 use Rattle.passes.specs.Plain.Blur as Blur
 use Rattle.passes.specs.Plain.Ntsc.{at, sample}
 use Rattle.passes.proofs.Offsets.{front, weight-at, blur-by}
+use Rattle.passes.specs.Private.{markLimited}
+use Rattle.passes.specs.declared.pixel.Rgb.{Rgb}
 use Rattle.passes.proofs.Chroma.{same-pixel}
+use Rattle.passes.proofs.Collected.{collected-limited}
 use Rattle.passes.proofs.ntsc.apply.Statement.{statement}
 use Rattle.passes.proofs.ntsc.apply.Tie as tie
 
@@ -31,21 +34,30 @@ rows-requires c κs =
       start k .pre .0,
     )
 
+collect-requires : tie.Need-collect-requires
+collect-requires c κs =
+    let r = c .before .before .before .before .before .before in
+    omega (arith, r .rows .kept .0, frame-small (start (r .before .before .before .before .before .before) .pre .0))
+
 returns : tie.Need-returns
 unfolding Text.Ntsc.ntsc
 returns c =
-    let r = c .before .before .before .before .before in
+    let g = c .before .before in
+    let r = g .before .before .before .before .before .before .before in
     let k = r .before .before .before .before .before .before in
     let a = start k .args in
     let sums : ℕ → Float = Blur.at (take (a .width) (k .weight-line .result)) in
-    r .rows .ensures
-    ∙ placed-ext (a .width) (a .height) (a .frame .now) (at sums (a .width) (a .strength) (a .bleed) (a .frame .now))
-    (at (weights (a .width) (a .bleed)) (a .width) (a .strength) (a .bleed) (a .frame .now)) (start k .pre .0 .area)
+    let by-weights : ℕ → ℕ → ℕ → Rgb = at (weights (a .width) (a .bleed)) (a .width) (a .strength) (a .bleed) (a .frame .now) in
+    collected-limited (placed (a .width) by-weights) _ _
+    (r .rows .ensures
+    ∙ placed-ext (a .width) (a .height) (a .frame .now) (λ x y p. markLimited (at sums (a .width) (a .strength) (a .bleed) (a .frame .now) x y p))
+    (λ x y p. markLimited (by-weights x y p)) (start k .pre .0 .area)
     (λ x y p l m.
     let e = weight-at (k .weight-line .result) (a .width) (a .bleed) x (k .weight-line .ensures) l in
-    same-pixel (a .strength) p
+    ap markLimited (same-pixel (a .strength) p
     (blur-by sums (λ i. sample 0 (a .frame .now) (a .width) i y) (a .width) (a .bleed) x e)
-    (blur-by sums (λ i. sample 1 (a .frame .now) (a .width) i y) (a .width) (a .bleed) x e))
+    (blur-by sums (λ i. sample 1 (a .frame .now) (a .width) i y) (a .width) (a .bleed) x e))))
+    (g .collect .ensures)
 
 pub apply-spec : {M : Type 1} → statement M
 apply-spec =
@@ -54,4 +66,4 @@ apply-spec =
     (λ c. let k = c .before .before in sym (row-long k _ (k .before .before .before .line .ensures))) (λ c. search needs)
     (λ c. let k = c .before .before .before in sym (row-long k _ (k .before .before .line2 .ensures))) (λ c. search needs)
     (λ c. let k = c .before .before .before .before in sym (row-long k _ (k .before .line3 .ensures))) (λ c. search needs)
-    (λ c. let k = c .before .before .before .before .before in sym (row-long k _ (k .weight-line .ensures .long))) rows-requires (λ c. search needs) returns)
+    (λ c. let k = c .before .before .before .before .before in sym (row-long k _ (k .weight-line .ensures .long))) rows-requires collect-requires (λ c. search needs) returns)

@@ -1,18 +1,19 @@
 -- `passes::ntsc::rows` meets its contract: row by row. Assumes nothing.
 use Prim.Native.Nat.{_+_, _-_}
-use mathlib.Core.Path.{_≡_, sym, _∙_}
+use mathlib.Core.Path.{_≡_, sym, ap, _∙_}
 use native.Mathlib.Omega.{arith}
 use lib.ListN.{length, take, drop}
 use Rattle.passes.specs.Rows.{Rowed, no-rows, row-in, row-length, row-by, rows-all}
 use Rattle.passes.specs.Plain.Blur as Blur
 use Rattle.passes.specs.Plain.Ntsc.{pixel, at}
+use Rattle.passes.specs.Private.{markLimited}
 use Rattle.passes.proofs.Chroma.{smear, smear-across, same-pixel}
 use Rattle.passes.proofs.ntsc.rows.Statement.{statement}
 use Rattle.passes.proofs.ntsc.rows.Tie as tie
 
 abbrev Inv-loop : tie.InvT-loop
 Inv-loop frame₀ line₀ u₀ v₀ w width height bleed strength y₀ at₀ frame line u v y k =
-    (length line ≡ width) × (length u ≡ width) × (length v ≡ width) × Rowed width height y k (at (Blur.at w) width strength bleed frame₀) frame₀ frame
+    (length line ≡ width) × (length u ≡ width) × (length v ≡ width) × Rowed width height y k (λ x y p. markLimited (at (Blur.at w) width strength bleed frame₀ x y p)) frame₀ frame
 
 abbrev μ-loop : tie.MeasureT-loop
 μ-loop frame₀ line₀ u₀ v₀ w width height bleed strength y₀ at₀ frame line u v y k = height - y
@@ -41,8 +42,8 @@ loop-again c =
       r .row .kept .1 .0 ∙ l .0,
       r .row .kept .1 .1 .0 ∙ l .1,
       r .row .kept .1 .1 .1 .0 ∙ l .2,
-      row-by (l .3) (λ x. pixel (a .strength) (smear sums 0 part (a .bleed) x) (smear sums 1 part (a .bleed) x)) _ t
-          (λ x p q. same-pixel (a .strength) p (smear-across (l .3) t sums 0 (a .bleed) x) (smear-across (l .3) t sums 1 (a .bleed) x))
+      row-by (l .3) (λ x p. markLimited (pixel (a .strength) (smear sums 0 part (a .bleed) x) (smear sums 1 part (a .bleed) x) p)) _ t
+          (λ x p q. ap markLimited (same-pixel (a .strength) p (smear-across (l .3) t sums 0 (a .bleed) x) (smear-across (l .3) t sums 1 (a .bleed) x)))
           (r .row .ensures),
     )
 

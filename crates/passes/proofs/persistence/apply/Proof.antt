@@ -1,6 +1,7 @@
 -- `passes::persistence::apply` meets its contract: the two ways of persistence. Assumes nothing.
 use Prim.Native.Nat.{ℕ}
-use mathlib.Core.Path.{_≡_, refl, ap}
+use mathlib.Core.Path.{_≡_, refl, ap, sym, _∙_}
+use native.Mathlib.Nat.{zero-add}
 use mathlib.Core.List.{List}
 use borrow.Author.Needs.{needs}
 use borrow.Author.Tests.{eq-eqb, ne-eqb}
@@ -8,17 +9,21 @@ use lib.ListN.{length}
 use lib.Ieee.{Float}
 use Rattle.passes.specs as Text
 use Rattle.passes.specs.Flow.{sameHeld, flow}
+use Rattle.passes.specs.Painted.{Painted, painted}
 use Rattle.passes.specs.Plain.Persistence.{blend, refilled, shifted, persistence}
 use Rattle.passes.proofs.persistence.apply.Statement.{statement}
 use Rattle.passes.proofs.persistence.apply.Tie as tie
 
 module _ (amount : Float) (k : ℕ) (frame : List ℕ) (held : ℕ) (past : List ℕ) where
-  follows : {picture new : List ℕ} → held ≡ length frame → picture ≡ blend amount k past frame → new ≡ shifted k frame past
-      → flow picture held new ≡ persistence amount k (length frame) (flow frame held past)
+  follows : {picture : Painted} {new : List ℕ} → held ≡ length frame → picture ≡ blend amount k past frame → new ≡ shifted k frame past
+      → flow picture held new ≡ persistence amount k (length frame) (flow (painted frame 0) held past)
   unfolding Text.Persistence.persistence sameHeld
-  follows e f p = rw (f, p, eq-eqb held (length frame) e) (ap (λ (n : ℕ). flow (blend amount k past frame) n (shifted k frame past)) e)
+  follows e f p =
+      let b : Painted = blend amount k past frame in
+      rw (f, p, eq-eqb held (length frame) e)
+      (ap (λ (n : ℕ). flow b n (shifted k frame past)) e ∙ ap (λ (m : ℕ). flow (painted (b .words) m) (length frame) (shifted k frame past)) (sym (zero-add (b .clipped))))
 
-  begins : {new : List ℕ} → (held ≡ length frame → ⊥) → new ≡ refilled k frame past → flow frame (length frame) new ≡ persistence amount k (length frame) (flow frame held past)
+  begins : {new : List ℕ} → (held ≡ length frame → ⊥) → new ≡ refilled k frame past → flow (painted frame 0) (length frame) new ≡ persistence amount k (length frame) (flow (painted frame 0) held past)
   unfolding Text.Persistence.persistence sameHeld
   begins n p = rw (p, ne-eqb held (length frame) n)
 

@@ -10,14 +10,22 @@ use borrow.Author.Needs.{needs}
 use Rattle.num.specs.Const.{c1·0}
 use Rattle.num.specs.F32.{_⊘_}
 use Rattle.passes.specs as Text
-use Rattle.passes.specs.Plain.Persistence.{total, weight, blended, blend, shifted}
+use Rattle.passes.specs.Plain.Persistence.{total, weight, mix, blended, blend, shifted}
 use Rattle.passes.specs.PersistenceLaws.{blended-same}
-use Rattle.num.specs.Rewrite.{fill, getD-fill, length-rewrite}
+use Rattle.passes.specs.Private.{blendedWord, unmarked}
+use Rattle.passes.specs.Painted.{Painted}
+use Rattle.passes.proofs.Collected.{collected-limited}
+use Rattle.num.specs.Rewrite.{every, fill, getD-fill, length-rewrite}
 use Rattle.passes.proofs.persistence.follow.Statement.{statement}
 use Rattle.passes.proofs.persistence.follow.Tie as tie
 
+-- the picture, once its marks are collected
+blends : (w : Float) (ws : ℕ → Float) (k : ℕ) (past frame ys : List ℕ) {out : Painted} → ys ≡ every (blendedWord w ws k past (length frame)) frame → out ≡ unmarked ys → out ≡ blended w ws k past frame
+unfolding blendedWord Text.Persistence.blended
+blends w ws k past frame ys e o = collected-limited (λ i p. mix w ws past (length frame) i p k) frame ys e o
+
 -- a blend by weights that were filled in
-by-weights : {picture : List ℕ} {ws : List Float} {sum : Float} (line : List Float) (amount : Float) (k : ℕ) (past frame : List ℕ) → length line ≡ k
+by-weights : {picture : Painted} {ws : List Float} {sum : Float} (line : List Float) (amount : Float) (k : ℕ) (past frame : List ℕ) → length line ≡ k
     → picture ≡ blended (c1·0 ⊘ sum) (λ j. getD ws j nan) (length ws) past frame → ws ≡ fill (weight amount sum) line → sum ≡ total amount k
     → picture ≡ blend amount k past frame
 unfolding Text.Persistence.blend
@@ -48,11 +56,12 @@ follow-rows-requires c κs =
 
 returns : tie.Need-returns
 returns c =
-    let f = c .before .before .before .before in
+    let k = c .before .before in
+    let f = k .before .before .before .before .before .before in
     let d = f .before .before .before .before .before in
     let after-line = d .before .before in
     let a = after-line .before .before .before .before .args in (
-      by-weights (take (a .depth) (after-line .line .result)) _ (a .depth) _ _ (part after-line) (f .follow-rows .ensures .0) (begins d ∙ d .weights .ensures)
+      by-weights (take (a .depth) (after-line .line .result)) _ (a .depth) _ _ (part after-line) (blends _ _ _ _ _ _ (f .follow-rows .ensures .0) (k .collect .ensures)) (begins d ∙ d .weights .ensures)
           (after-line .before .total .ensures),
       f .follow-rows .ensures .1 ∙ ap (λ (k : ℕ). shifted k (a .frame .now) (a .history .now)) (many d),
     )
@@ -62,4 +71,4 @@ follow-spec =
     tie.close
     (tie.spec (λ c κs. tt) (λ c κs. tt) (λ c. search needs) (λ c. sym (part (c .before))) (λ c κs. tt)
     (λ c. simp length-append (omega (arith, c .before .before .before .weights .kept .0, part (c .before .before .before .before .before))))
-    (λ c. sym (many (c .before .before .before .before))) follow-rows-requires (λ c. search needs) (λ c. search needs) returns)
+    (λ c. sym (many (c .before .before .before .before))) follow-rows-requires (λ c κs. search needs) (λ c. search needs) (λ c. search needs) returns)

@@ -7,11 +7,8 @@ use lib.ListN.{length, getD, take, drop, length-drop}
 use lib.Seq.{length-take-le, getD-take, getD-drop}
 use lib.Ieee.{Float, nan}
 use Rattle.num.specs.Rewrite.{rewrite, every, Rewritten, none, part, all, getD-rewrite-rest}
-use Rattle.passes.specs as Text
-use Rattle.passes.specs.Plain.Persistence.{pixel}
 use Rattle.passes.specs.PersistenceLaws.{mix-same}
-use Rattle.passes.specs.Plain.Pixel.{packLimited}
-use Rattle.passes.specs.Private.{rowShift}
+use Rattle.passes.specs.Private.{markLimited, blendedWord, rowShift}
 use Rattle.passes.specs.Rows.{column}
 use Rattle.passes.proofs.Shifts.{partly, partly-none, partly-length, partly-word, partly-more, partly-all}
 use Rattle.passes.proofs.persistence.follow_rows.Statement.{statement}
@@ -19,18 +16,18 @@ use Rattle.passes.proofs.persistence.follow_rows.Tie as tie
 
 -- the first `at` words of the frame have become the picture's, and have come into the history
 record Followed (w : Float) (ws : ℕ → Float) (k at : ℕ) (frame₀ past₀ frame past : List ℕ) : Type 0 where
-  picture : Rewritten at (pixel w ws k past₀ (length frame₀)) frame₀ frame
+  picture : Rewritten at (blendedWord w ws k past₀ (length frame₀)) frame₀ frame
   history : past ≡ partly k at frame₀ past₀
 
 module _ {w : Float} {ws : ℕ → Float} {k at : ℕ} {frame₀ past₀ frame past : List ℕ} (t : Followed w ws k at frame₀ past₀ frame past) where
   kept : length past ≡ length past₀
   kept = ap length (t .history) ∙ partly-length k frame₀ past₀ at
 
-  same-pixel : (x p : ℕ) → at + x < length frame₀ → pixel w ws k past (length frame₀) (at + x) p ≡ pixel w ws k past₀ (length frame₀) (at + x) p
-  unfolding Text.Persistence.pixel
+  same-pixel : (x p : ℕ) → at + x < length frame₀ → blendedWord w ws k past (length frame₀) (at + x) p ≡ blendedWord w ws k past₀ (length frame₀) (at + x) p
+  unfolding blendedWord
   same-pixel x p l =
       let n = length frame₀ in
-      ap packLimited
+      ap markLimited
       (mix-same w ws ws past past₀ n (at + x) p k (λ j q. refl)
       (λ j q. ap (λ (z : List ℕ). getD z (j * n + (at + x)) 0) (t .history) ∙ partly-word k frame₀ past₀ at (j * n + (at + x)) (omega (arith, column n (at + x) j l))))
 
@@ -44,7 +41,7 @@ module _ {w : Float} {ws : ℕ → Float} {k at : ℕ} {frame₀ past₀ frame p
         getD-take (end - at) (drop at frame) x 0 (omega (arith, size)) ∙ getD-drop at frame x 0
         ∙ ap (λ (z : List ℕ). getD z (at + x) 0) (t .picture .done) ∙ getD-rewrite-rest at _ frame₀ (at + x) 0 (omega arith)
 
-    followed : (new later : List ℕ) → let row = take (end - at) (drop at frame) in new ≡ every (λ x. pixel w ws k past (length frame₀) (at + x)) row
+    followed : (new later : List ℕ) → let row = take (end - at) (drop at frame) in new ≡ every (λ x. blendedWord w ws k past (length frame₀) (at + x)) row
         → later ≡ rewrite (k * length frame₀) (rowShift (length frame₀) at row past) past
         → Followed w ws k end frame₀ past₀ (take at frame ++ (new ++ drop (end - at) (drop at frame))) later
     followed new later e f =
@@ -52,7 +49,7 @@ module _ {w : Float} {ws : ℕ → Float} {k at : ℕ} {frame₀ past₀ frame p
         let n : at + (end - at) ≡ end = omega arith in
         let i : at + length row ≡ end = omega (arith, size) in
         record {
-          picture = subst (λ (j : ℕ). Rewritten j (pixel w ws k past₀ (length frame₀)) frame₀ (take at frame ++ (new ++ drop (end - at) (drop at frame)))) n
+          picture = subst (λ (j : ℕ). Rewritten j (blendedWord w ws k past₀ (length frame₀)) frame₀ (take at frame ++ (new ++ drop (end - at) (drop at frame)))) n
               (part (end - at) _ new (t .picture) (omega arith) (λ x p q. same-pixel x p (omega arith)) e);
           history = f ∙ ap (λ (z : List ℕ). rewrite (k * length frame₀) (rowShift (length frame₀) at row z) z) (t .history)
               ∙ partly-more k frame₀ past₀ at row (omega (arith, size)) as-came ∙ ap (λ (j : ℕ). partly k j frame₀ past₀) i;
@@ -79,7 +76,6 @@ loop-again c =
     followed (e .before .before .loop .inv) (e .row-end .result) (omega arith) (omega arith) _ _ (called .follow-row .ensures .0) (called .follow-row .ensures .1)
 
 returns : tie.Need-returns Inv-loop μ-loop
-unfolding Text.Persistence.blended
 returns c =
     let l = c .before .loop in
     let start = c .before .before .before .before .before in
