@@ -39,7 +39,7 @@ int main(void) {
     for (uint32_t number = 0; number < FRAMES; number++) {
         paint(number);
         if (number == 3) preset = hedgemallow_cycle_lut(state);
-        if (number == 4) hedgemallow_set_enabled(state, 10, 0);
+        if (number == 4) hedgemallow_set_enabled(state, HEDGEMALLOW_SCANLINES, 0);
         answer = hedgemallow_apply(state, frame, COUNT, WIDTH, HEIGHT, history, hedgemallow_depth(state) * (size_t)COUNT,
                                    floats, 6 * COUNT, ints, COUNT, clipped);
         if (answer >= HEDGEMALLOW_REFUSED) {

@@ -1,7 +1,7 @@
 //! A host in Rust: opens a card, runs frames, and prints a checksum of the last picture, the channels that were clipped on the way,
 //! and the totals of the picture's middle.
 
-use hedgemallow::{areas, history_words, scratch_words, Refusal, Station};
+use hedgemallow::{areas, history_words, scratch_words, Kind, Preset, Refusal, Station};
 
 const WIDTH: usize = 64;
 const HEIGHT: usize = 48;
@@ -36,12 +36,12 @@ fn run() -> Result<(), Refusal> {
     let mut ints = vec![0; scratch.ints];
     let mut history = vec![0; history_words(&CARD, WIDTH, HEIGHT)?];
     let mut frame = vec![0; WIDTH * HEIGHT];
-    let (mut preset, mut clipped) = (0, 0);
+    let (mut preset, mut clipped) = (Preset::WarmCrt, 0);
     for number in 0..FRAMES {
         paint(&mut frame, number);
         match number {
             3 => preset = station.cycle_lut()?,
-            4 => station.set_enabled(10, false)?,
+            4 => station.set_enabled(Kind::Scanlines, false)?,
             _ => {}
         }
         clipped += station.apply(&mut frame, WIDTH, HEIGHT, &mut history, &mut floats, &mut ints)?;
@@ -49,7 +49,11 @@ fn run() -> Result<(), Refusal> {
     let length = station.write(&mut [0; 72])?;
     let mut totals = [0; 3];
     let read = areas(&frame, WIDTH, HEIGHT, &MIDDLE, &mut totals)?;
-    println!("frames {FRAMES}, preset {preset}, card {length} bytes, picture {:08X}, clipped {clipped}", checksum(&frame));
+    println!(
+        "frames {FRAMES}, preset {}, card {length} bytes, picture {:08X}, clipped {clipped}",
+        preset as u8,
+        checksum(&frame)
+    );
     println!("middle: {read} words, red {}, green {}, blue {}", totals[0], totals[1], totals[2]);
     Ok(())
 }

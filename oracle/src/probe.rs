@@ -7,7 +7,7 @@ mod exports {
     #[link(name = "probe", kind = "static")]
     extern "C" {
         pub fn probe_cut(xs: *const f32, xs_len: usize, out: *mut u32, out_len: usize);
-        pub fn probe_cut_limited(xs: *const f32, xs_len: usize, out: *mut u32, out_len: usize);
+        pub fn probe_cut_clamped(xs: *const f32, xs_len: usize, out: *mut u32, out_len: usize);
         pub fn probe_cut_unit(xs: *const f32, xs_len: usize, out: *mut u32, out_len: usize);
         pub fn probe_nearest(xs: *const f32, xs_len: usize, out: *mut u32, out_len: usize);
         pub fn probe_round(xs: *const f32, xs_len: usize, out: *mut f32, out_len: usize);
@@ -151,8 +151,8 @@ pub fn cut(xs: &[f32], out: &mut [u32]) {
     over(exports::probe_cut, xs, out);
 }
 
-pub fn cut_limited(xs: &[f32], out: &mut [u32]) {
-    over(exports::probe_cut_limited, xs, out);
+pub fn cut_clamped(xs: &[f32], out: &mut [u32]) {
+    over(exports::probe_cut_clamped, xs, out);
 }
 
 pub fn cut_unit(xs: &[f32], out: &mut [u32]) {

@@ -38,7 +38,7 @@ pub fn run(mode: Mode, total: &mut Total) {
     single.pieces(&boundaries);
     single.join(sample(Sample { stride }, mode == Mode::Full));
     total.add(&single.cut);
-    total.add(&single.cut_limited);
+    total.add(&single.cut_clamped);
     total.add(&single.cut_unit);
     total.add(&single.round);
     total.add(&single.nearest);
@@ -66,12 +66,12 @@ fn cut(x: f32) -> Asked<u32> {
 
 const CUT: [&str; 1] = ["above 1023 (here 0, Rust the whole part)"];
 
-/// The whole part of x limited to 0..255.
-fn cut_limited(x: f32) -> Asked<u32> {
+/// The whole part of x clamped to 0..255.
+fn cut_clamped(x: f32) -> Asked<u32> {
     Asked::Rust(x.clamp(0.0, 255.0) as u32)
 }
 
-/// The whole part of x limited to 0..1, times 255.
+/// The whole part of x clamped to 0..1, times 255.
 fn cut_unit(x: f32) -> Asked<u32> {
     Asked::Rust((x.clamp(0.0, 1.0) * 255.0) as u32)
 }
@@ -141,7 +141,7 @@ const CHOSEN: [&str; 2] = [
 /// The counts of the steps of one operand, and room for their results.
 struct Single {
     cut: Tally<1>,
-    cut_limited: Tally<1>,
+    cut_clamped: Tally<1>,
     cut_unit: Tally<1>,
     round: Tally<1>,
     nearest: Tally<1>,
@@ -155,7 +155,7 @@ impl Single {
     fn new() -> Self {
         Single {
             cut: Tally::new("cut", &CUT),
-            cut_limited: Tally::new("cut_limited", &[]),
+            cut_clamped: Tally::new("cut_clamped", &[]),
             cut_unit: Tally::new("cut_unit", &[]),
             round: Tally::new("round", &[]),
             nearest: Tally::new("nearest", &NEAREST),
@@ -173,7 +173,7 @@ impl Single {
         let words = &mut self.words[..];
         let floats = &mut self.floats[..];
         slice(&mut self.cut, xs, words, probe::cut, cut);
-        slice(&mut self.cut_limited, xs, words, probe::cut_limited, cut_limited);
+        slice(&mut self.cut_clamped, xs, words, probe::cut_clamped, cut_clamped);
         slice(&mut self.cut_unit, xs, words, probe::cut_unit, cut_unit);
         slice(&mut self.nearest, xs, words, probe::nearest, nearest);
         slice(&mut self.round, xs, floats, probe::round, round);
@@ -205,7 +205,7 @@ impl Single {
 
     fn join(&mut self, other: Single) {
         self.cut.join(other.cut);
-        self.cut_limited.join(other.cut_limited);
+        self.cut_clamped.join(other.cut_clamped);
         self.cut_unit.join(other.cut_unit);
         self.round.join(other.round);
         self.nearest.join(other.nearest);

@@ -3,7 +3,26 @@
 //!
 //! The types see to pointers, lengths and threads. Two things are left to the caller, as the header
 //! says: the thread's control word for floats (MXCSR) rounds to nearest, keeps subnormal numbers and
-//! masks all exceptions, as Rust itself takes for granted; and a call takes about 40 KiB of stack.
+//! masks all exceptions, as Rust itself takes for granted; and a call takes up to 44,936 bytes of stack.
+//!
+//! ```
+//! use hedgemallow::{scratch_words, Kind, Refusal, Station};
+//!
+//! // Scanlines at full strength, on.
+//! let mut station = Station::open(&[0x11, 0xA9, 0xFC, 0x00, 0x00, 0x00])?;
+//! let (width, height) = (1, 2);
+//! let scratch = scratch_words(width, height)?;
+//! let (mut floats, mut ints) = (vec![0.0; scratch.floats], vec![0; scratch.ints]);
+//! let mut history = vec![0; station.history_words(width, height)?];
+//!
+//! let mut frame = [0x123456, 0x123456];
+//! station.apply(&mut frame, width, height, &mut history, &mut floats, &mut ints)?;
+//! assert_eq!(frame, [0x123456, 0]);
+//!
+//! station.set_enabled(Kind::Scanlines, false)?;
+//! assert_eq!(station.set_enabled(Kind::Lut, true), Err(Refusal::NotInChain));
+//! # Ok::<(), Refusal>(())
+//! ```
 
 use std::fmt;
 
@@ -122,8 +141,61 @@ fn report(answer: u32) -> Result<u32, Refusal> {
     }
 }
 
-/// A station, as the 80 bytes of its state.
+/// The kinds of passes, with the numbers of a card.
 #[derive(Clone, Copy, Debug, PartialEq, Eq, Hash)]
+#[repr(u8)]
+pub enum Kind {
+    Ntsc = 1,
+    Bloom = 2,
+    AutoGradient = 3,
+    Persistence = 4,
+    Lut = 5,
+    Curvature = 6,
+    ColorCorrection = 7,
+    Crt = 8,
+    Vignette = 9,
+    Scanlines = 10,
+}
+
+/// The presets of a LUT, with the numbers of a card.
+#[derive(Clone, Copy, Debug, PartialEq, Eq, Hash)]
+#[repr(u8)]
+pub enum Preset {
+    Identity = 0,
+    WarmCrt = 1,
+    CoolCrt = 2,
+    Composite = 3,
+    GameBoy = 4,
+    Amber = 5,
+    HighContrast = 6,
+}
+
+/// In the order of their numbers.
+const PRESETS: [Preset; 7] = [
+    Preset::Identity,
+    Preset::WarmCrt,
+    Preset::CoolCrt,
+    Preset::Composite,
+    Preset::GameBoy,
+    Preset::Amber,
+    Preset::HighContrast,
+];
+
+/// The most bytes that a card has.
+pub const CARD: usize = 72;
+
+/// The longest side of a frame.
+pub const SIDE: usize = 1024;
+
+/// The most frames that a history has room for.
+pub const DEPTH: usize = 8;
+
+/// The version of these bindings: that of the header and of the library that is built beside them.
+pub const VERSION: &str = "0.1.0";
+
+/// A station, as the 80 bytes of its state. It is no `Copy` type: a station that was used by value is gone, so one with the older
+/// state cannot go on beside it unnoticed. Who wants a second station says `clone`.
+#[derive(Clone, Debug, PartialEq, Eq, Hash)]
 pub struct Station {
     state: [u8; 80],
 }
@@ -141,7 +213,8 @@ impl Station {
     /// The station of bytes that were stored.
     pub fn from_bytes(state: [u8; 80]) -> Result<Station, Refusal> {
         let station = Station { state };
-        station.depth().map(|_| station)
+        station.depth()?;
+        Ok(station)
     }
 
     pub fn as_bytes(&self) -> &[u8; 80] {
@@ -190,15 +263,17 @@ impl Station {
         report(unsafe { exports::hedgemallow_reset(self.state.as_mut_ptr()) }).map(|_| ())
     }
 
-    /// Switches the pass of that kind.
-    pub fn set_enabled(&mut self, kind: u8, on: bool) -> Result<(), Refusal> {
+    /// Switches the pass of that kind. Persistence that is switched off forgets what the history holds.
+    pub fn set_enabled(&mut self, kind: Kind, on: bool) -> Result<(), Refusal> {
         let state = self.state.as_mut_ptr();
-        report(unsafe { exports::hedgemallow_set_enabled(state, kind, on as u8) }).map(|_| ())
+        report(unsafe { exports::hedgemallow_set_enabled(state, kind as u8, on as u8) }).map(|_| ())
     }
 
     /// Steps the LUT to its next preset, and reports it.
-    pub fn cycle_lut(&mut self) -> Result<u8, Refusal> {
-        report(unsafe { exports::hedgemallow_cycle_lut(self.state.as_mut_ptr()) }).map(|p| p as u8)
+    pub fn cycle_lut(&mut self) -> Result<Preset, Refusal> {
+        let preset = report(unsafe { exports::hedgemallow_cycle_lut(self.state.as_mut_ptr()) })?;
+        // A step reports 0 to 6: that is proved.
+        Ok(PRESETS[preset as usize % PRESETS.len()])
     }
 
     /// How many older frames the history has room for.
@@ -358,7 +433,7 @@ mod tests {
                         assert_eq!(refusal, BadStation);
                         assert_eq!(station.write(&mut [0; 72]), Err(BadStation));
                         assert_eq!(station.reset(), Err(BadStation));
-                        assert_eq!(station.set_enabled(10, false), Err(BadStation));
+                        assert_eq!(station.set_enabled(Kind::Scanlines, false), Err(BadStation));
                         assert_eq!(station.cycle_lut(), Err(BadStation));
                         let (mut frame, mut history) = ([7], [7; 3]);
                         assert_eq!(station.apply(&mut frame, 1, 1, &mut history, &mut [0.0; 6], &mut [0]), Err(BadStation));

@@ -5,39 +5,38 @@ use mathlib.Core.Bool.{Bool, true, false}
 use mathlib.Core.List.{List, []}
 use lib.ListN.{length, replicate}
 use lib.Seq.{take-length}
-use Rattle.chain.specs.Bits.{valueAt, fieldAt}
-use Rattle.chain.specs.Calls.{Report, refusal, acceptance, Reply, resetReply, switchReply, stepReply, Framed, frameReply}
-use Rattle.chain.specs.Card.{headerAt, stationAt, accepted, openOf}
+use Rattle.cards.specs.Bits.{valueAt, fieldAt}
+use Rattle.cards.specs.Answers.{Report, refusal, acceptance, ok, Reply, left}
+use Rattle.chain.specs.Calls.{resetReply, switchReply, stepReply, Framed, frameReply}
+use Rattle.cards.specs.Card.{headerAt, stationAt, accepted, openedOf, openOf}
 use Rattle.chain.specs.Machine.{frame, reset, switch, step, State, call, after}
-use Rattle.chain.specs.Normal.{goodStation}
-use Rattle.chain.specs.Step.{refuseIf}
-use Rattle.chain.specs.declared.reader.Opened.{Opened}
-use Rattle.chain.specs.declared.station.Answer.{Answer}
-use Rattle.chain.specs.declared.station.Answer.the-variants.{Accepted, Refused}
-use Rattle.chain.specs.declared.station.Station.{Station}
-use Rattle.chain.proofs.Bools.{both, false-true}
+use Rattle.cards.specs.Normal.{goodStation}
+use Rattle.cards.specs.Step.{Step, took, refused, refuseIf}
+use Rattle.cards.specs.declared.station.Station.{Station}
+use Rattle.cards.specs.Bools.{both, false-true}
 use Rattle.bridge.specs.Claims.{Whole, Closed}
-use Rattle.bridge.specs.Outcomes.{left, opening, onState, frameShown}
-use Rattle.bridge.specs.State.{cardIn, stationIn, encoded, sameBytes, isAccepted, isState}
+use Rattle.bridge.specs.Outcomes.{opening, onState, frameShown}
+use Rattle.bridge.specs.State.{cardIn, stationIn, encoded, sameBytes, isState}
 use Rattle.bridge.proofs.Bytes.{same-equal}
 use Rattle.bridge.proofs.Lasting.{opened-whole, call-whole}
 use Rattle.bridge.proofs.RoundTrip.{round-trip}
 
-accepted-is : (o : Opened) → isAccepted (o .answer) ≡ true → o ≡ accepted (o .station)
-accepted-is o = go (o .answer)
+accepted-is : (card : List ℕ) → ok (openOf card .answer) ≡ true → openOf card ≡ accepted (openOf card .station)
+unfolding openOf
+accepted-is card = go (stationAt card 0)
   where
-    go : (a : Answer) → isAccepted a ≡ true → record { answer = a; station = o .station } ≡ accepted (o .station)
-    go Accepted e = refl
-    go (Refused k) e = false-true e
+    go : (t : Step Station) → ok (openedOf t .answer) ≡ true → openedOf t ≡ accepted (openedOf t .station)
+    go (took s next) e = refl
+    go (refused k) e = false-true e
 
 -- ## A state is of a whole station
 
 -- no card is empty
-no-card : isAccepted (openOf [] .answer) ≡ false
+no-card : ok (openOf [] .answer) ≡ false
 unfolding openOf stationAt headerAt fieldAt valueAt refuseIf
 no-card = refl
 
-module _ (b : List ℕ) (card : isAccepted (openOf (cardIn b) .answer) ≡ true) (same : sameBytes (encoded (stationIn b)) b ≡ true) where
+module _ (b : List ℕ) (card : ok (openOf (cardIn b) .answer) ≡ true) (same : sameBytes (encoded (stationIn b)) b ≡ true) where
   -- so zeros, as which a bad station is encoded, are no state
   good-in : goodStation (stationIn b) ≡ true
   unfolding encoded
@@ -47,17 +46,16 @@ module _ (b : List ℕ) (card : isAccepted (openOf (cardIn b) .answer) ≡ true)
       go true e = refl
       go false e =
           let zeros : replicate 80 0 ≡ b = same-equal (replicate 80 0) b (rw e at same) in
-          false-true (sym no-card ∙ ap (λ (l : List ℕ). isAccepted (openOf (cardIn l) .answer)) zeros ∙ card)
+          false-true (sym no-card ∙ ap (λ (l : List ℕ). ok (openOf (cardIn l) .answer)) zeros ∙ card)
 
   whole-in : Whole (stationIn b)
   whole-in =
-      let o = openOf (cardIn b) in
-      let w = opened-whole (cardIn b) (o .station) (accepted-is o card) in
+      let w = opened-whole (cardIn b) (openOf (cardIn b) .station) (accepted-is (cardIn b) card) in
       record { good = good-in; typed = w .typed; ten = w .ten; rest = w .rest }
 
 state-whole : (b : List ℕ) → isState b ≡ true → Whole (stationIn b)
 unfolding isState
-state-whole b e = let d = both (isAccepted (openOf (cardIn b) .answer)) _ e in whole-in b (d .0) (d .1)
+state-whole b e = let d = both (ok (openOf (cardIn b) .answer)) _ e in whole-in b (d .0) (d .1)
 
 -- ## What the exports leave
 
@@ -68,12 +66,12 @@ left-state : (r : Report) (b new : List ℕ) → isState b ≡ true → isState 
 left-state (refusal k) b new e f = e
 left-state (acceptance r) b new e f = f
 
-open-state : (card b : List ℕ) → isAccepted (openOf card .answer) ≡ true → isState (opening card b .state) ≡ true
+open-state : (card b : List ℕ) → ok (openOf card .answer) ≡ true → isState (opening card b .state) ≡ true
 unfolding opening
 open-state card b e =
-    let o = openOf card in
-    let is = accepted-is o e in
-    rw (ap (λ (p : Opened). p .answer) is) (encoded-state (o .station) (opened-whole card (o .station) is))
+    let is = accepted-is card e in
+    let s = openOf card .station in
+    rw (ap (λ (p : Reply). p .answer) is) (encoded-state s (opened-whole card s is))
 
 -- a call that keeps the station whole leaves a state
 on-state : (f : Station → Reply) → ((s : Station) → Whole s → Whole (f s .station)) → (b : List ℕ) → isState b ≡ true → isState (onState f b .state) ≡ true

@@ -7,14 +7,15 @@ use mathlib.Core.Bool.{Bool, true, false, _&&_}
 use mathlib.Core.List.{List}
 use lib.ListN.{length, getD, take, drop, length-drop}
 use lib.Seq.{take-all}
-use Rattle.passes.specs.Flow.{Held}
+use Rattle.num.specs.Held.{Held}
+use Rattle.cards.specs.Answers.{Report, ok, Reply, refusing, reported, opened}
 use Rattle.chain.specs.Calls.{hold}
-use Rattle.chain.specs.Card.{accepted, openOf}
-use Rattle.chain.specs.declared.reader.Opened.{Opened}
-use Rattle.chain.specs.declared.station.Answer.{Answer}
-use Rattle.chain.specs.declared.station.Answer.the-variants.{Accepted, Refused}
-use Rattle.chain.specs.declared.station.Station.{Station}
-use Rattle.bridge.specs.State.{cardIn, heldIn, stationIn, encoded, sameBytes, isAccepted, isState, decoded}
+use Rattle.cards.specs.Card.{accepted, openOf}
+use Rattle.cards.specs.declared.reader.Opened.{Opened}
+use Rattle.cards.specs.declared.station.Answer.{Answer}
+use Rattle.cards.specs.declared.station.Answer.the-variants.{Accepted, Refused}
+use Rattle.cards.specs.declared.station.Station.{Station}
+use Rattle.bridge.specs.State.{cardIn, heldIn, stationIn, encoded, sameBytes, isState, decoded}
 
 -- a length past the end takes no more than there is
 pub card-part : (b : List ℕ) (e : ℕ) → length b ≡ 80 → e ≡ 1 + min (getD b 0 0) 79 → take (e - 1) (drop 1 b) ≡ cardIn b
@@ -27,32 +28,32 @@ card-part b e long end = go (decLt (getD b 0 0) 79)
     go (yes h) = let k : e - 1 ≡ getD b 0 0 = omega arith in ap (λ (j : ℕ). take j (drop 1 b)) k
     go (no h) = take-all (e - 1) (drop 1 b) (omega (arith, size)) ∙ sym (take-all (getD b 0 0) (drop 1 b) (omega (arith, size)))
 
-module _ (b card : List ℕ) (o : Opened) (held : Held) (part : card ≡ cardIn b) (opened : o ≡ openOf card) (holds : held ≡ heldIn b) where
+module _ (b card : List ℕ) (o : Opened) (held : Held) (part : card ≡ cardIn b) (opens : opened o ≡ openOf card) (holds : held ≡ heldIn b) where
   abbrev s : Station
   s = hold held (o .station)
 
-  opened-is : o ≡ openOf (cardIn b)
-  opened-is = opened ∙ ap openOf part
+  opened-is : opened o ≡ openOf (cardIn b)
+  opened-is = opens ∙ ap openOf part
 
   station-is : s ≡ stationIn b
-  station-is = ap₂ (λ (p : Opened) (h : Held). hold h (p .station)) opened-is holds
+  station-is = ap₂ (λ (p : Reply) (h : Held). hold h (p .station)) opened-is holds
 
-  test-is : (x : Answer) (t : Bool) → o .answer ≡ x → sameBytes (encoded s) b ≡ t → isState b ≡ (isAccepted x && t)
+  test-is : (x : Answer) (t : Bool) → o .answer ≡ x → sameBytes (encoded s) b ≡ t → isState b ≡ (ok (reported x) && t)
   unfolding isState
   test-is x t e f =
-      ap₂ (λ (y : Answer) (u : Bool). isAccepted y && u) (sym (ap (λ (p : Opened). p .answer) opened-is) ∙ e)
+      ap₂ (λ (y : Report) (u : Bool). ok y && u) (sym (ap (λ (p : Reply). p .answer) opened-is) ∙ ap reported e)
       (ap (λ (q : Station). sameBytes (encoded q) b) (sym station-is) ∙ f)
 
-  no-state : isState b ≡ false → record { answer = Refused 13; station = s } ≡ decoded b
+  no-state : isState b ≡ false → refusing s 13 ≡ decoded b
   unfolding decoded
-  no-state e = rw e (ap (λ (q : Station). record { answer = Refused 13; station = q }) station-is)
+  no-state e = rw e (ap (λ (q : Station). refusing q 13) station-is)
 
   -- the card is refused
-  pub no-card : (k : ℕ) → o .answer ≡ Refused k → record { answer = Refused 13; station = s } ≡ decoded b
+  pub no-card : (k : ℕ) → o .answer ≡ Refused k → refusing s 13 ≡ decoded b
   no-card k e = no-state (test-is (Refused k) _ e refl)
 
   -- the bytes are others than those of its station
-  pub other-bytes : o .answer ≡ Accepted → false ≡ sameBytes (encoded s) b → record { answer = Refused 13; station = s } ≡ decoded b
+  pub other-bytes : o .answer ≡ Accepted → false ≡ sameBytes (encoded s) b → refusing s 13 ≡ decoded b
   other-bytes e f = no-state (test-is Accepted false e (sym f))
 
   -- they are a state

@@ -3,18 +3,19 @@ use Prim.Native.Nat.{ℕ, _+_, _-_, _≤_}
 use native.Mathlib.Omega.{arith}
 use mathlib.Core.Path.{_≡_, refl, ap, ap₂, sym, _∙_}
 use mathlib.Core.Bool.{Bool, true, false, cond}
-use mathlib.Core.List.{List, _∷_, _++_}
+use mathlib.Core.List.{List, [], _∷_, _++_}
 use borrow.Author.Tests.{le-leb}
 use lib.Dec.{leb}
 use lib.ListN.{length, drop, replicate, length-append, length-replicate, replicate-append-replicate}
 use lib.Seq.{take-at, drop-at, drop-append-add, sets, sets-eq}
-use Rattle.chain.specs.Normal.{goodStation}
-use Rattle.chain.specs.Write.{writeAnswer, writeInto}
-use Rattle.chain.specs.Written.{cardOf}
-use Rattle.chain.specs.declared.station.Station.{Station}
-use Rattle.chain.specs.declared.writer.Written.{Written}
-use Rattle.chain.specs.declared.writer.Written.the-variants.{Length, Refused}
-use Rattle.chain.proofs.Longest.{station-short}
+use Rattle.cards.specs.Answers.{Report, refusal, acceptance, accepted-not, Reply, reportedWriting, written}
+use Rattle.cards.specs.Normal.{goodStation}
+use Rattle.cards.specs.Write.{writeReply, writeInto}
+use Rattle.cards.specs.Written.{cardOf}
+use Rattle.cards.specs.declared.station.Station.{Station}
+use Rattle.cards.specs.declared.writer.Writing.the-variants.{Length, Refused}
+use Rattle.cards.specs.declared.writer.Written.{Written}
+use Rattle.cards.proofs.Longest.{station-short}
 use Rattle.bridge.specs.State.{padded, heldBytes, laid, encoded}
 
 drop-zeros : (k m : ℕ) → k ≤ m → drop {A = ℕ} k (replicate m 0) ≡ replicate (m - k) 0
@@ -37,12 +38,16 @@ pub record Wrote (s : Station) (n : ℕ) (card : List ℕ) : Type 0 where
   pub whole : card ≡ padded (cardOf s)
   pub short : n ≤ 72
 
-not-both : (n k : ℕ) → Path Written (Length n) (Refused k) → ⊥
-not-both n k e = let z : _≡_ {A = ℕ} 0 1 = cc in omega arith
+-- what was answered, in the words of document 01
+abbrev answer-of : Written → Report
+answer-of r = reportedWriting (r .answer)
 
-module _ (s : Station) (r : Written) (card : List ℕ) (answer : r ≡ writeAnswer s zeros) (into : card ≡ writeInto s zeros) where
-  good-answer : goodStation s ≡ true → r ≡ Length (length (cardOf s))
-  unfolding writeAnswer
+module _ (s : Station) (r : Written) (card : List ℕ) (replied : written r ≡ writeReply s zeros) (into : card ≡ writeInto s zeros) where
+  answer : answer-of r ≡ writeReply s zeros .answer
+  answer = ap (λ (q : Reply). q .answer) replied
+
+  good-answer : goodStation s ≡ true → answer-of r ≡ acceptance (length (cardOf s) ∷ [])
+  unfolding writeReply
   good-answer g = answer ∙ rw (g, le-leb (length (cardOf s)) 72 (station-short s g)) refl
 
   good-into : goodStation s ≡ true → card ≡ padded (cardOf s)
@@ -51,8 +56,8 @@ module _ (s : Station) (r : Written) (card : List ℕ) (answer : r ≡ writeAnsw
       into ∙ rw (g, le-leb (length (cardOf s)) 72 (station-short s g))
       (ap (λ (l : List ℕ). cardOf s ++ l) (drop-zeros (length (cardOf s)) 72 (station-short s g)))
 
-  bad-answer : goodStation s ≡ false → r ≡ Refused 13
-  unfolding writeAnswer
+  bad-answer : goodStation s ≡ false → answer-of r ≡ refusal 13
+  unfolding writeReply
   bad-answer g = answer ∙ rw g refl
 
   bad-into : goodStation s ≡ false → card ≡ zeros
@@ -60,23 +65,23 @@ module _ (s : Station) (r : Written) (card : List ℕ) (answer : r ≡ writeAnsw
   bad-into g = into ∙ rw g refl
 
   -- refused: a station that is not good
-  pub unwritten : (k : ℕ) → r ≡ Refused k → 0 ∷ card ++ replicate 7 0 ≡ encoded s
+  pub unwritten : (k : ℕ) → r .answer ≡ Refused k → 0 ∷ card ++ replicate 7 0 ≡ encoded s
   unfolding encoded
   unwritten k e = go (goodStation s) refl
     where
       go : (b : Bool) → goodStation s ≡ b → 0 ∷ card ++ replicate 7 0 ≡ cond b (laid s) (replicate 80 0)
-      go true g = absurd (not-both _ k (sym (good-answer g) ∙ e))
+      go true g = accepted-not _ k (sym (good-answer g) ∙ ap reportedWriting e)
       go false g = ap (λ (l : List ℕ). 0 ∷ l ++ replicate 7 0) (bad-into g)
 
-  pub written : (n : ℕ) → r ≡ Length n → Wrote s n card
-  written n e = go (goodStation s) refl
+  pub laid-card : (n : ℕ) → r .answer ≡ Length n → Wrote s n card
+  laid-card n e = go (goodStation s) refl
     where
       go : (b : Bool) → goodStation s ≡ b → Wrote s n card
       go true g =
-          let same : Length n ≡ Length (length (cardOf s)) = sym e ∙ good-answer g in
+          let same : acceptance (n ∷ []) ≡ acceptance (length (cardOf s) ∷ []) = sym (ap reportedWriting e) ∙ good-answer g in
           let long : n ≡ length (cardOf s) = cc in
           record { good = g; long = long; whole = good-into g; short = omega (arith, long, station-short s g) }
-      go false g = absurd (not-both n 13 (sym e ∙ bad-answer g))
+      go false g = accepted-not _ 13 (sym (ap reportedWriting e) ∙ bad-answer g)
 
 -- the length before it and what is held after it
 pub laid-down : (s : Station) (n : ℕ) (card : List ℕ) → Wrote s n card → n ∷ sets (card ++ replicate 7 0) 72 (heldBytes (s .held)) ≡ encoded s
@@ -90,14 +95,17 @@ laid-down s n card w =
     (ap (λ (k : ℕ). drop (k + 4) (card ++ replicate 7 0)) (sym long) ∙ drop-append-add card (replicate 7 0) 4)))
 
 -- whatever the buffer, no card that is written is long
-pub card-short : (s : Station) (buf : List ℕ) (r : Written) (n : ℕ) → r ≡ writeAnswer s buf → r ≡ Length n → n ≤ 72
-unfolding writeAnswer
-card-short s buf r n answer e = go (goodStation s) (leb (length (cardOf s)) (length buf)) refl refl
+pub card-short : (s : Station) (buf : List ℕ) (r : Written) (n : ℕ) → written r ≡ writeReply s buf → r .answer ≡ Length n → n ≤ 72
+unfolding writeReply
+card-short s buf r n replied e = go (goodStation s) (leb (length (cardOf s)) (length buf)) refl refl
   where
+    answer : acceptance (n ∷ []) ≡ writeReply s buf .answer
+    answer = sym (ap reportedWriting e) ∙ ap (λ (q : Reply). q .answer) replied
+
     go : (g room : Bool) → goodStation s ≡ g → leb (length (cardOf s)) (length buf) ≡ room → n ≤ 72
-    go false room h k = absurd (not-both n 13 (sym e ∙ answer ∙ rw h refl))
-    go true false h k = absurd (not-both n 14 (sym e ∙ answer ∙ rw (h, k) refl))
+    go false room h k = accepted-not _ 13 (answer ∙ rw h refl)
+    go true false h k = accepted-not _ 14 (answer ∙ rw (h, k) refl)
     go true true h k =
-        let same : Length n ≡ Length (length (cardOf s)) = sym e ∙ answer ∙ rw (h, k) refl in
+        let same : acceptance (n ∷ []) ≡ acceptance (length (cardOf s) ∷ []) = answer ∙ rw (h, k) refl in
         let long : n ≡ length (cardOf s) = cc in
         omega (arith, long, station-short s h)

@@ -5,20 +5,20 @@ use mathlib.Core.Path.{_≡_, ap, sym, subst, _∙_}
 use mathlib.Core.List.{List, [], _∷_, _++_}
 use lib.ListN.{length, drop, replicate, length-append, length-replicate, take-append-drop}
 use lib.Seq.{length-take-le, take-append-seam, drop-append-seam}
-use Rattle.chain.specs.Alike.{chainOf}
-use Rattle.chain.specs.Card.{unused, accepted, openOf}
+use Rattle.cards.specs.Alike.{chainOf}
+use Rattle.cards.specs.Card.{unused, accepted, openOf}
 use Rattle.chain.specs.Machine.{Call, State, call, after}
-use Rattle.chain.specs.Typed.{Typed, TypedChain}
-use Rattle.chain.specs.declared.station.Pass.{Pass}
-use Rattle.chain.specs.declared.station.Pass.the-variants.{Ntsc, Bloom, AutoGradient, Persistence, Lut, Curvature, ColorCorrection, Crt, Vignette, Scanlines}
-use Rattle.chain.specs.declared.station.Record.{Record}
-use Rattle.chain.specs.declared.station.Station.{Station}
-use Rattle.chain.proofs.Chain.{NormalPass, NormalChain}
+use Rattle.cards.specs.Typed.{Typed, TypedChain}
+use Rattle.cards.specs.declared.station.Pass.{Pass}
+use Rattle.cards.specs.declared.station.Pass.the-variants.{Ntsc, Bloom, AutoGradient, Persistence, Lut, Curvature, ColorCorrection, Crt, Vignette, Scanlines}
+use Rattle.cards.specs.declared.station.Record.{Record}
+use Rattle.cards.specs.declared.station.Station.{Station}
+use Rattle.cards.proofs.Chain.{NormalPass, NormalChain}
 use Rattle.chain.proofs.Changed.{shapes}
-use Rattle.chain.proofs.Good.{good}
+use Rattle.cards.specs.Good.{good}
 use Rattle.chain.proofs.PassCases.{blank, by-preset}
 use Rattle.chain.proofs.Sound.{Fixed, Fit, After, call-after, call-fit, opened-fit}
-use Rattle.chain.proofs.Theorems.{accepted-opens}
+use Rattle.cards.proofs.Theorems.{accepted-opens}
 use Rattle.bridge.specs.Claims.{Whole, Lasting}
 
 -- ## Opening

@@ -7,30 +7,30 @@ use mathlib.Core.List.{List, [], _∷_}
 use borrow.Author.Tests.{ne-eqb}
 use lib.Ieee.{Float}
 use lib.ListN.{length, drop}
-use Rattle.chain.specs.Alike.{chainOf}
-use Rattle.chain.specs.Answers.{reported, reportedFrame, reportedStep, cycled, free, Applies}
-use Rattle.chain.specs.Calls.{Reply, reply, framed, frameReply}
-use Rattle.chain.specs.Card.{accepted, openOf}
+use Rattle.cards.specs.Alike.{chainOf}
+use Rattle.cards.specs.Answers.{reported, Reply, reply, refusal, accepted-not, reportedWriting, opened, written, told}
+use Rattle.chain.specs.Answers.{reportedFrame, reportedStep, cycled, free, Applies}
+use Rattle.chain.specs.Calls.{framed, frameReply}
+use Rattle.cards.specs.Card.{accepted, openOf}
 use Rattle.chain.specs.Chain.{depth}
-use Rattle.chain.specs.Write.{writeAnswer, writeInto}
+use Rattle.cards.specs.Write.{writeReply, writeInto}
 use Rattle.chain.specs.declared.pipeline.Applied.{Applied}
 use Rattle.chain.specs.declared.pipeline.Cycle.{Cycle}
 use Rattle.chain.specs.declared.pipeline.Cycle.the-variants as Cycle
 use Rattle.chain.specs.declared.pipeline.Cycled.{Cycled}
 use Rattle.chain.specs.declared.pipeline.FrameAnswer.{FrameAnswer}
 use Rattle.chain.specs.declared.pipeline.FrameAnswer.the-variants as Frame
-use Rattle.chain.specs.declared.reader.Opened.{Opened}
-use Rattle.chain.specs.declared.station.Answer.{Answer}
-use Rattle.chain.specs.declared.station.Answer.the-variants.{Accepted, Refused}
-use Rattle.chain.specs.declared.station.Station.{Station}
-use Rattle.chain.specs.declared.writer.Written.{Written}
-use Rattle.bridge.specs.Outcomes.{Outcome, outcome, answered, damaged, opening, onState, depthTold, wrote, writeTold, writeLeft}
-use Rattle.bridge.specs.Outcomes.{Shown, shown, framedNumber, framedShown, frameShown, freed, Frames}
+use Rattle.cards.specs.declared.reader.Opened.{Opened}
+use Rattle.cards.specs.declared.station.Answer.{Answer}
+use Rattle.cards.specs.declared.station.Answer.the-variants.{Accepted, Refused}
+use Rattle.cards.specs.declared.station.Station.{Station}
+use Rattle.cards.specs.declared.writer.Written.{Written}
+use Rattle.bridge.specs.Outcomes.{Outcome, outcome, answered, damaged, opening, onState, depthTold, writeTold, writeLeft, Shown, shown, framedNumber, framedShown, frameShown, freed, Frames}
 use Rattle.bridge.specs.State.{encoded, stationIn, isState, decoded}
 
-pub opens : (card b : List ℕ) (o : Opened) (x : Outcome) → o ≡ openOf card → x ≡ answered b (reply (reported (o .answer)) (o .station)) → x ≡ opening card b
+pub opens : (card b : List ℕ) (o : Opened) (x : Outcome) → opened o ≡ openOf card → x ≡ answered b (opened o) → x ≡ opening card b
 unfolding opening
-opens card b o x e h = h ∙ ap (λ (p : Opened). answered b (reply (reported (p .answer)) (p .station))) e
+opens card b o x e h = h ∙ ap (answered b) e
 
 -- ## Bytes that were read
 
@@ -44,32 +44,29 @@ pub record Unread (b : List ℕ) (k : ℕ) : Type 0 where
   pub broken : isState b ≡ false
   pub by-13 : 256 + k ≡ damaged
 
-clash : (k : ℕ) → Path Answer (Refused k) Accepted → ⊥
-clash k e = let z : _≡_ {A = ℕ} 0 1 = cc in omega arith
-
-module _ (b : List ℕ) (o : Opened) (decodes : o ≡ decoded b) where
-  state-is : isState b ≡ true → o ≡ accepted (stationIn b)
+module _ (b : List ℕ) (o : Opened) (decodes : opened o ≡ decoded b) where
+  state-is : isState b ≡ true → opened o ≡ accepted (stationIn b)
   unfolding decoded
   state-is h = decodes ∙ rw h refl
 
-  none-is : isState b ≡ false → o .answer ≡ Refused 13
+  none-is : isState b ≡ false → reported (o .answer) ≡ refusal 13
   unfolding decoded
-  none-is h = ap (λ (p : Opened). p .answer) decodes ∙ rw h refl
+  none-is h = ap (λ (p : Reply). p .answer) decodes ∙ rw h refl
 
   pub read : o .answer ≡ Accepted → Read b (o .station)
   read e = go (isState b) refl
     where
       go : (t : Bool) → isState b ≡ t → Read b (o .station)
-      go true h = record { sound = h; station = ap (λ (p : Opened). p .station) (state-is h) }
-      go false h = absurd (clash 13 (sym (none-is h) ∙ e))
+      go true h = record { sound = h; station = ap (λ (p : Reply). p .station) (state-is h) }
+      go false h = accepted-not [] 13 (sym (ap reported e) ∙ none-is h)
 
   pub unread : (k : ℕ) → o .answer ≡ Refused k → Unread b k
   unread k e = go (isState b) refl
     where
       go : (t : Bool) → isState b ≡ t → Unread b k
-      go true h = absurd (clash k (sym e ∙ ap (λ (p : Opened). p .answer) (state-is h)))
+      go true h = accepted-not [] k (sym (ap (λ (p : Reply). p .answer) (state-is h)) ∙ ap reported e)
       go false h =
-          let y : Path Answer (Refused k) (Refused 13) = sym e ∙ none-is h in
+          let y : refusal k ≡ refusal 13 = sym (ap reported e) ∙ none-is h in
           let z : k ≡ 13 = cc in
           record { broken = h; by-13 = ap (λ (j : ℕ). 256 + j) z }
 
@@ -116,11 +113,11 @@ pub write-none : (b buf : List ℕ) (k n : ℕ) → Unread b k → n ≡ 256 + k
 unfolding writeTold writeLeft
 write-none b buf k n u e = (rw (u .broken) (e ∙ u .by-13), rw (u .broken) refl)
 
-pub write-some : (b buf new : List ℕ) (s : Station) (x : Written) (n : ℕ) → Read b s → x ≡ writeAnswer s buf → new ≡ writeInto s buf → n ≡ wrote x
+pub write-some : (b buf new : List ℕ) (s : Station) (x : Written) (n : ℕ) → Read b s → written x ≡ writeReply s buf → new ≡ writeInto s buf → n ≡ told (reportedWriting (x .answer))
     → (n ≡ writeTold b buf) × (new ≡ writeLeft b buf)
 unfolding writeTold writeLeft
 write-some b buf new s x n t e f h = (
-  rw (t .sound) (h ∙ ap wrote (e ∙ ap (λ (q : Station). writeAnswer q buf) (t .station))),
+  rw (t .sound) (h ∙ ap (λ (q : Reply). told (q .answer)) (e ∙ ap (λ (q : Station). writeReply q buf) (t .station))),
   rw (t .sound) (f ∙ ap (λ (q : Station). writeInto q buf) (t .station)),
 )
 

@@ -7,18 +7,18 @@ use mathlib.Core.List.{List, _++_, append-assoc}
 use borrow.Author.Tests.{leb-true}
 use lib.ListN.{length, getD, take, replicate}
 use lib.Seq.{take-append-seam, getD-append-add}
-use Rattle.passes.specs.Flow.{Held, nothing, sameHeld, fineHeld}
+use Rattle.num.specs.Held.{Held, nothing, sameHeld, fineHeld}
+use Rattle.cards.specs.Answers.{ok, Reply}
 use Rattle.chain.specs.Calls.{hold}
-use Rattle.chain.specs.Card.{accepted, openOf}
-use Rattle.chain.specs.Normal.{goodStation}
-use Rattle.chain.specs.Written.{cardOf}
-use Rattle.chain.specs.declared.reader.Opened.{Opened}
-use Rattle.chain.specs.declared.station.Station.{Station}
-use Rattle.chain.proofs.Good.{good, is-good}
-use Rattle.chain.proofs.Longest.{station-short}
-use Rattle.chain.proofs.Survives.{survives}
+use Rattle.cards.specs.Card.{accepted, openOf}
+use Rattle.cards.specs.Normal.{goodStation}
+use Rattle.cards.specs.Written.{cardOf}
+use Rattle.cards.specs.declared.station.Station.{Station}
+use Rattle.cards.specs.Good.{good, is-good}
+use Rattle.cards.proofs.Longest.{station-short}
+use Rattle.cards.proofs.Survives.{survives}
 use Rattle.bridge.specs.Claims.{Whole, RoundTrip}
-use Rattle.bridge.specs.State.{padded, heldBytes, laid, encoded, cardIn, heldIn, stationIn, isAccepted, sameBytes, isState}
+use Rattle.bridge.specs.State.{padded, heldBytes, laid, encoded, cardIn, heldIn, stationIn, sameBytes, isState}
 use Rattle.bridge.proofs.Bytes.{same-itself}
 use Rattle.bridge.proofs.Laid.{padded-long}
 
@@ -68,12 +68,12 @@ module _ (s : Station) (whole : Whole s) where
   opens = ap openOf (card-in ∙ sym (same-card s)) ∙ survives (hold nothing s) (emptied s (whole .good)) (whole .typed) refl (whole .ten) (whole .rest)
 
   station-in : stationIn (laid s) ≡ s
-  station-in = ap₂ (λ (h : Held) (o : Opened). hold h (o .station)) held-in opens
+  station-in = ap₂ (λ (h : Held) (o : Reply). hold h (o .station)) held-in opens
 
   is-state : isState (laid s) ≡ true
   unfolding isState
   is-state =
-      ap₂ (λ (o : Opened) (t : Station). isAccepted (o .answer) && sameBytes (encoded t) (laid s)) opens station-in
+      ap₂ (λ (o : Reply) (t : Station). ok (o .answer) && sameBytes (encoded t) (laid s)) opens station-in
       ∙ ap (λ (b : List ℕ). sameBytes b (laid s)) encoded-is ∙ same-itself (laid s)
 
 pub round-trip : RoundTrip

@@ -5,15 +5,16 @@ use mathlib.Core.Bool.{Bool, true}
 use mathlib.Core.List.{List}
 use mathlib.Core.Path.{_≡_}
 use lib.ListN.{length, drop, replicate}
-use Rattle.chain.specs.Alike.{chainOf}
+use Rattle.cards.specs.Alike.{chainOf}
+use Rattle.cards.specs.Answers.{ok}
 use Rattle.chain.specs.Calls.{resetReply, switchReply, stepReply}
-use Rattle.chain.specs.Card.{unused, accepted, openOf}
+use Rattle.cards.specs.Card.{unused, accepted, openOf}
 use Rattle.chain.specs.Machine.{Call, State, after}
-use Rattle.chain.specs.Normal.{goodStation}
-use Rattle.chain.specs.Typed.{TypedChain}
-use Rattle.chain.specs.declared.station.Station.{Station}
+use Rattle.cards.specs.Normal.{goodStation}
+use Rattle.cards.specs.Typed.{TypedChain}
+use Rattle.cards.specs.declared.station.Station.{Station}
 use Rattle.bridge.specs.Outcomes.{opening, onState, frameShown}
-use Rattle.bridge.specs.State.{encoded, stationIn, isAccepted, isState}
+use Rattle.bridge.specs.State.{encoded, stationIn, isState}
 
 -- a good station of ten typed records, whose places past n are filled as at every opening
 pub record Whole (s : Station) : Type 0 where
@@ -35,7 +36,7 @@ Lasting =
 -- the same of states: each is of such a station, an accepted opening leaves a state, and each call leaves one where it got one
 pub record Closed : Type 0 where
   pub of-station : (b : List ℕ) → isState b ≡ true → Whole (stationIn b)
-  pub by-open : (card b : List ℕ) → isAccepted (openOf card .answer) ≡ true → isState (opening card b .state) ≡ true
+  pub by-open : (card b : List ℕ) → ok (openOf card .answer) ≡ true → isState (opening card b .state) ≡ true
   pub by-frame : (w h : ℕ) (b words past : List ℕ) (floats ints : ℕ) (old : List ℕ) → isState b ≡ true
       → isState (frameShown w h b words past floats ints old .state) ≡ true
   pub by-reset : (b : List ℕ) → isState b ≡ true → isState (onState resetReply b .state) ≡ true

@@ -1,32 +1,21 @@
--- What the exports answer and leave: each is chain's call on the station of the state, through the one encoding. The number is what the call reports, 0 where it
--- reports nothing, or 256 and the refusal's number; what a frame reports goes to a place of its own, since it may be above 255. Assumes nothing.
+-- What the exports answer and leave: each is a call of cards or chain on the station of the state, through the one encoding. The number is what the call
+-- reports, 0 where it reports nothing, or 256 and the refusal's number; what a frame reports goes to a place of its own, since it may be above 255. Assumes
+-- nothing.
 use Prim.Native.Nat.{ℕ, _+_, _*_}
 use mathlib.Core.Path.{_≡_}
 use mathlib.Core.Bool.{cond}
-use mathlib.Core.List.{List, [], _∷_}
+use mathlib.Core.List.{List}
 use lib.Dec.{eqb}
 use lib.Ieee.{Float}
 use lib.ListN.{length, drop}
-use Rattle.chain.specs.Alike.{chainOf}
-use Rattle.chain.specs.Answers.{reported}
-use Rattle.chain.specs.Calls.{Report, refusal, acceptance, Reply, reply, Framed, frameReply}
-use Rattle.chain.specs.Card.{openOf}
+use Rattle.cards.specs.Alike.{chainOf}
+use Rattle.cards.specs.Answers.{Report, refusal, acceptance, Reply, told, left}
+use Rattle.chain.specs.Calls.{Framed, frameReply}
+use Rattle.cards.specs.Card.{openOf}
 use Rattle.chain.specs.Chain.{depth}
-use Rattle.chain.specs.Write.{writeAnswer, writeInto}
-use Rattle.chain.specs.declared.station.Station.{Station}
-use Rattle.chain.specs.declared.writer.Written.{Written}
-use Rattle.chain.specs.declared.writer.Written.the-variants.{Length, Refused}
+use Rattle.cards.specs.Write.{writeReply, writeInto}
+use Rattle.cards.specs.declared.station.Station.{Station}
 use Rattle.bridge.specs.State.{encoded, stationIn, isState}
-
-abbrev pub told : Report → ℕ
-told (refusal k) = 256 + k
-told (acceptance []) = 0
-told (acceptance (x ∷ xs)) = x
-
--- a refusal leaves the old bytes
-abbrev pub left : Report → (old new : List ℕ) → List ℕ
-left (refusal k) old new = old
-left (acceptance r) old new = new
 
 -- the number of a call, and the state that it leaves
 pub record Outcome : Type 0 where
@@ -44,7 +33,7 @@ abbrev pub damaged : ℕ
 damaged = 269
 
 unfoldable pub opening : (card b : List ℕ) → Outcome
-opening card b = let o = openOf card in answered b (reply (reported (o .answer)) (o .station))
+opening card b = answered b (openOf card)
 
 -- a call on the station of the state
 unfoldable pub onState : (Station → Reply) → List ℕ → Outcome
@@ -56,12 +45,8 @@ depthTold b = cond (isState b) (depth (chainOf (stationIn b))) damaged
 
 -- ## Writing
 
-abbrev pub wrote : Written → ℕ
-wrote (Length n) = n
-wrote (Refused k) = 256 + k
-
 unfoldable pub writeTold : (b buf : List ℕ) → ℕ
-writeTold b buf = cond (isState b) (wrote (writeAnswer (stationIn b) buf)) damaged
+writeTold b buf = cond (isState b) (told (writeReply (stationIn b) buf .answer)) damaged
 
 unfoldable pub writeLeft : (b buf : List ℕ) → List ℕ
 writeLeft b buf = cond (isState b) (writeInto (stationIn b) buf) buf

@@ -5,15 +5,13 @@ use mathlib.Core.Bool.{Bool, true, false, _&&_, cond}
 use mathlib.Core.List.{List, [], _∷_, _++_}
 use lib.Dec.{eqb}
 use lib.ListN.{length, getD, take, drop, replicate}
-use Rattle.passes.specs.Flow.{Held}
+use Rattle.num.specs.Held.{Held}
+use Rattle.cards.specs.Answers.{ok, Reply, refusing}
 use Rattle.chain.specs.Calls.{hold}
-use Rattle.chain.specs.Card.{accepted, openOf}
-use Rattle.chain.specs.Normal.{goodStation}
-use Rattle.chain.specs.Written.{cardOf}
-use Rattle.chain.specs.declared.reader.Opened.{Opened}
-use Rattle.chain.specs.declared.station.Answer.{Answer}
-use Rattle.chain.specs.declared.station.Answer.the-variants.{Accepted, Refused}
-use Rattle.chain.specs.declared.station.Station.{Station}
+use Rattle.cards.specs.Card.{accepted, openOf}
+use Rattle.cards.specs.Normal.{goodStation}
+use Rattle.cards.specs.Written.{cardOf}
+use Rattle.cards.specs.declared.station.Station.{Station}
 
 -- ## From a station to bytes
 
@@ -41,10 +39,6 @@ heldIn b = ((getD b 73 0 * 256 + getD b 74 0) * 256 + getD b 75 0) * 256 + getD 
 abbrev pub stationIn : List ℕ → Station
 stationIn b = hold (heldIn b) (openOf (cardIn b) .station)
 
-abbrev pub isAccepted : Answer → Bool
-isAccepted Accepted = true
-isAccepted (Refused k) = false
-
 abbrev pub sameBytes : List ℕ → List ℕ → Bool
 sameBytes [] [] = true
 sameBytes [] (y ∷ ys) = false
@@ -54,8 +48,8 @@ sameBytes (x ∷ xs) (y ∷ ys) = eqb x y && sameBytes xs ys
 -- the card is accepted, and its station with what is held is encoded as these bytes again: so a card that is not normalised, stray bytes and a history that
 -- the chain cannot hold make no state
 unfoldable pub isState : List ℕ → Bool
-isState b = isAccepted (openOf (cardIn b) .answer) && sameBytes (encoded (stationIn b)) b
+isState b = ok (openOf (cardIn b) .answer) && sameBytes (encoded (stationIn b)) b
 
 -- the station of a state, or refusal 13
-unfoldable pub decoded : List ℕ → Opened
-decoded b = cond (isState b) (accepted (stationIn b)) (record { answer = Refused 13; station = stationIn b })
+unfoldable pub decoded : List ℕ → Reply
+decoded b = cond (isState b) (accepted (stationIn b)) (refusing (stationIn b) 13)

@@ -5,20 +5,20 @@ ghost use Prim.Native.Nat.{_+_};
 ghost use mathlib.Core.Bool.{not};
 ghost use lib.Dec.{eqb};
 ghost use Rattle.areas.specs.Areas.{judged};
-ghost use Rattle.chain.specs.Answers.{reported};
-ghost use Rattle.chain.specs.Calls.{reply, resetReply, switchReply, stepReply};
+ghost use Rattle.cards.specs.Answers.{reply, reported};
+ghost use Rattle.chain.specs.Calls.{resetReply, switchReply, stepReply};
 ghost use Rattle.bridge.specs.Judged.{judgedTold};
 ghost use Rattle.bridge.specs.Outcomes.{outcome, answered, opening, onState, depthTold, writeTold, writeLeft, Frames};
 use super::state::decode;
 use super::state::encode;
+use cards::reader;
+use cards::station::Answer;
+use cards::station::Station;
+use cards::writer;
+use cards::writer::Writing;
 use chain::pipeline;
 use chain::pipeline::Cycle;
 use chain::pipeline::FrameAnswer;
-use chain::reader;
-use chain::station::Answer;
-use chain::station::Station;
-use chain::writer;
-use chain::writer::Written;
 
 // A refusal's number.
 fn refusal(k: u8) -> u32
@@ -60,9 +60,11 @@ pub extern "C" fn hedgemallow_write(state: &[u8; 80], buffer: &mut [u8]) -> u32
     if let Answer::Refused(k) = answer {
         return refusal(k);
     }
-    match writer::write(station, buffer) {
-        Written::Length(n) => n as u32,
-        Written::Refused(k) => refusal(k),
+    let written = writer::write(station, buffer);
+    let told = written.answer;
+    match told {
+        Writing::Length(n) => n as u32,
+        Writing::Refused(k) => refusal(k),
     }
 }
 

@@ -1,13 +1,14 @@
 // The station in the 80 bytes that a host lends: written, and read back where they are a state.
 ghost use mathlib.Core.Path.{_≡_};
 ghost use Prim.Native.Nat.{_*_, _+_, _≤_, min};
+ghost use Rattle.cards.specs.Answers.{opened};
 ghost use Rattle.bridge.specs.State.{heldIn, encoded, sameBytes, decoded};
-use chain::reader::Opened;
-use chain::reader::open;
-use chain::station::Answer;
-use chain::station::Station;
-use chain::writer::Written;
-use chain::writer::write;
+use cards::reader::Opened;
+use cards::reader::open;
+use cards::station::Answer;
+use cards::station::Station;
+use cards::writer::Writing;
+use cards::writer::write;
 
 fn wide(byte: u8) -> u32
     ensures { λ r. ⌜ (r ≡ byte) × (r ≤ 255) ⌝ }
@@ -26,13 +27,14 @@ fn held_in(state: [u8; 80]) -> u32
     ((a * 256 + b) * 256 + c) * 256 + d
 }
 
-// The bytes of a station; zeros where the chain does not write it.
+// The bytes of a station; zeros where its card is not written.
 pub(crate) fn encode(station: Station) -> [u8; 80]
     ensures { λ r. ⌜ r ≡ encoded station ⌝ }
 {
     let mut state = [0u8; 80];
     let written = write(station, &mut state[1..73]);
-    let Written::Length(n) = written else {
+    let answer = written.answer;
+    let Writing::Length(n) = answer else {
         return state;
     };
     let held = station.held;
@@ -69,7 +71,7 @@ fn card_end(length: u8) -> usize
 
 // The station in the bytes, or refusal 13.
 pub(crate) fn decode(state: [u8; 80]) -> Opened
-    ensures { λ r. ⌜ r ≡ decoded state ⌝ }
+    ensures { λ r. ⌜ opened r ≡ decoded state ⌝ }
 {
     let end = card_end(state[0]);
     let opened = open(&state[1..end]);

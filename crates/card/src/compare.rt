@@ -3,14 +3,17 @@ use crate::names;
 use crate::names::text;
 use crate::numbers;
 use crate::show;
-use chain::reader;
-use chain::station::Answer;
-use chain::station::Record;
-use chain::station::Station;
-use chain::station::kind_of;
+use cards::reader;
+use cards::station::Answer;
+use cards::station::Pass;
+use cards::station::Record;
+use cards::station::Station;
+use cards::station::kind_of;
+use cli::names as called;
 use inspect::difference::Difference;
 use inspect::difference::first_difference;
 use inspect::settings::setting_at;
+use libc::STDOUT_FILENO;
 
 // The record at place i.
 fn record(station: Station, i: usize) -> Record {
@@ -48,9 +51,9 @@ fn length(i: usize, a: Station) {
 fn kinds(i: usize, a: Station, b: Station) {
     place(i);
     text(b" is ");
-    names::kind(kind(record(a, i)));
+    called::kind(STDOUT_FILENO, kind(record(a, i)));
     text(b" and ");
-    names::kind(kind(record(b, i)));
+    called::kind(STDOUT_FILENO, kind(record(b, i)));
     text(b"\n");
 }
 
@@ -59,7 +62,7 @@ fn switches(i: usize, a: Station, b: Station) {
     let s = record(b, i);
     place(i);
     text(b", ");
-    names::kind(kind(r));
+    called::kind(STDOUT_FILENO, kind(r));
     text(b", is ");
     names::switch(r.on);
     text(b" and ");
@@ -71,9 +74,9 @@ fn settings(i: usize, j: usize, a: Station, b: Station) {
     let r = record(a, i);
     place(i);
     text(b", ");
-    names::kind(kind(r));
+    called::kind(STDOUT_FILENO, kind(r));
     text(b": ");
-    names::setting(kind(r), j);
+    called::setting(STDOUT_FILENO, kind(r), j);
     text(b" ");
     setting(r, j);
     text(b" and ");
@@ -81,9 +84,39 @@ fn settings(i: usize, j: usize, a: Station, b: Station) {
     text(b"\n");
 }
 
+// How many older frames are mixed into a picture: none where persistence is off or not in the chain.
+fn mixed(station: Station) -> usize {
+    let n = station.n;
+    let mut i: usize = 0;
+    while i < 10 {
+        let r = record(station, i);
+        let pass = r.pass;
+        if i < n && r.on {
+            if let Pass::Persistence { amount: _, depth } = pass {
+                return depth as usize;
+            }
+        }
+        i += 1;
+    }
+    0
+}
+
+// From when on two stations with these settings show the same picture.
+fn alike(station: Station) {
+    let frames = mixed(station);
+    text(b"alike: the same settings; the pictures are the same ");
+    if frames == 0 {
+        text(b"from the first shared frame on\n");
+        return;
+    }
+    text(b"after ");
+    numbers::whole(frames);
+    text(b" shared frames, or from a shared reset on\n");
+}
+
 fn opened(a: Station, b: Station) {
     match first_difference(a, b) {
-        Difference::Alike => text(b"alike: the two cards show the same picture\n"),
+        Difference::Alike => alike(a),
         Difference::Length(i) => length(i, a),
         Difference::Kind(i) => kinds(i, a, b),
         Difference::Switch(i) => switches(i, a, b),

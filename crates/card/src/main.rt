@@ -1,5 +1,5 @@
 // Program `card`: prints one card or two in words. What it prints of a card is decided by proved functions: whether it is opened and where reading stopped
-// (chain::reader), its normalised bytes (chain::writer), its settings one by one, their exact decimal digits, and the first difference of two cards (inspect).
+// (cards::reader), its normalised bytes (cards::writer), its settings one by one, their exact decimal digits, and the first difference of two cards (inspect).
 mod names; // passes, settings and presets by name
 mod numbers; // numbers in decimal and hexadecimal
 mod show; // a card in words

@@ -2,14 +2,15 @@
 use crate::names;
 use crate::names::text;
 use crate::numbers;
-use chain::reader;
-use chain::station::Answer;
-use chain::station::Record;
-use chain::station::Station;
-use chain::station::kind_of;
-use chain::writer;
-use chain::writer::Written;
+use cards::reader;
+use cards::station::Answer;
+use cards::station::Record;
+use cards::station::Station;
+use cards::station::kind_of;
+use cards::writer;
+use cards::writer::Writing;
 use cli::input;
+use cli::names as called;
 use cli::words;
 use inspect::settings::Setting;
 use inspect::settings::setting_at;
@@ -50,7 +51,7 @@ fn setting(r: Record, j: usize) {
         text(b", ");
     }
     let kind = kind_of(pass);
-    names::setting(kind, j);
+    called::setting(STDOUT_FILENO, kind, j);
     text(b" ");
     value(kind, s);
 }
@@ -62,7 +63,7 @@ fn record(r: Record, i: usize) {
     text(b"  ");
     let pass = r.pass;
     let on = r.on;
-    names::kind(kind_of(pass));
+    called::kind(STDOUT_FILENO, kind_of(pass));
     text(b", ");
     names::switch(on);
     setting(r, 0);
@@ -93,13 +94,14 @@ fn passes(station: Station) {
 fn normalised(station: Station) {
     let mut card = [0u8; 72];
     let written = writer::write(station, &mut card);
-    match written {
-        Written::Length(n) => {
+    let answer = written.answer;
+    match answer {
+        Writing::Length(n) => {
             text(b"  normalised:");
             prefix(&card, n);
             text(b"\n");
         }
-        Written::Refused(_) => text(b"  no card\n"),
+        Writing::Refused(_) => text(b"  no card\n"),
     }
 }
 

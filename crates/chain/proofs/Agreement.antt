@@ -10,24 +10,24 @@ use borrow.Author.Tests.{eqb-true, eqb-false}
 use lib.Dec.{eqb}
 use lib.ListN.{length, drop, take-append-drop}
 use Rattle.chain.specs.Agree.{opened, Same, none, more, Lends}
-use Rattle.chain.specs.Agree.{on, takes, ends, before, point, Comparable, Demand-3}
-use Rattle.chain.specs.Alike.{chainOf}
+use Rattle.chain.specs.Agree.{on, takes, ends, before, point, Comparable, Machines-agree}
+use Rattle.cards.specs.Alike.{chainOf}
 use Rattle.chain.specs.Calls.{hold, presetOf, presets}
 use Rattle.chain.specs.Chain.{depth}
 use Rattle.chain.specs.Machine.{Call, State, Seen, after, run, saw}
-use Rattle.chain.specs.Normal.{persists}
-use Rattle.chain.specs.declared.station.Pass.{Pass}
-use Rattle.chain.specs.declared.station.Pass.the-variants.{Lut}
-use Rattle.chain.specs.declared.station.Record.{Record}
-use Rattle.chain.specs.declared.station.Station.{Station}
-use Rattle.chain.proofs.Bools.{false-true}
+use Rattle.cards.specs.Normal.{persists}
+use Rattle.cards.specs.declared.station.Pass.{Pass}
+use Rattle.cards.specs.declared.station.Pass.the-variants.{Lut}
+use Rattle.cards.specs.declared.station.Record.{Record}
+use Rattle.cards.specs.declared.station.Station.{Station}
+use Rattle.cards.specs.Bools.{false-true}
 use Rattle.chain.proofs.Changed.{shapes}
 use Rattle.chain.proofs.Kept.{near-zero, near-nothing}
 use Rattle.chain.proofs.Meets.{K, Meet, shared, meet-after, meet-ended, depth-after, gives-same, meet-held, lends-after}
 use Rattle.chain.proofs.PassCases.{blank, by-preset}
 use Rattle.chain.proofs.Sound.{Fixed, fixed, Fit, idle-held}
 use Rattle.chain.proofs.Sound.{run-fit, run-fixed, run-length, opened-fit}
-use Rattle.chain.proofs.Theorems.{written-alike}
+use Rattle.cards.proofs.Theorems.{written-alike}
 
 -- ## The list from the point on
 
@@ -173,8 +173,8 @@ comparable-alike s t e c =
 
 -- ## Demand 3
 
-pub demand-3 : Demand-3
-demand-3 card other a b opens opens′ alike H G own own′ comparable cs ds same lH lG =
+pub machines-agree : Machines-agree
+machines-agree card other a b opens opens′ alike H G own own′ comparable cs ds same lH lG =
     let one : a ≡ b = written-alike card other a b opens opens′ .0 .0 alike in
     let f = opened-fit card a opens in
     let g = opened-fit other b opens′ in

@@ -11,19 +11,20 @@ use lib.Dec.{leb, eqb}
 use lib.Ieee.{Float}
 use lib.ListN.{length, take}
 use Rattle.num.specs.Const.{c0·0, c0·95}
-use Rattle.passes.specs.Flow.{sized, Flow, flow}
+use Rattle.num.specs.Held.{sized}
+use Rattle.passes.specs.Flow.{Flow, flow}
 use Rattle.passes.specs.Painted.{Painted, onto}
 use Rattle.passes.specs.Fold.{fold}
 use Rattle.passes.specs.Lengths.{persistence-length, history-length, persistence-held}
 use Rattle.passes.specs.Plain.Persistence.{persistence}
 use Rattle.chain.specs.Chain.{wash, overBy, turnBy, chain, depthOf, depth}
-use Rattle.chain.specs.Normal.{settled, normalPass, normalChain, persists}
-use Rattle.chain.specs.Passes.{kindOf}
-use Rattle.chain.specs.Records.{kinds, among}
-use Rattle.chain.specs.declared.station.Pass.the-variants.{Persistence}
-use Rattle.chain.specs.declared.station.Record.{Record}
-use Rattle.chain.proofs.Bools.{false-true, both, neither, or-second}
-use Rattle.chain.proofs.Good.{Headed, headed, no-second}
+use Rattle.cards.specs.Normal.{settled, normalPass, normalChain, persists}
+use Rattle.cards.specs.Passes.{kindOf}
+use Rattle.cards.specs.Records.{kinds, among}
+use Rattle.cards.specs.declared.station.Pass.the-variants.{Persistence}
+use Rattle.cards.specs.declared.station.Record.{Record}
+use Rattle.cards.specs.Bools.{false-true, both, neither, or-second}
+use Rattle.cards.specs.Good.{Headed, headed, no-second}
 use Rattle.chain.proofs.Kept.{Near, Fits, near-more, near-picture}
 use Rattle.chain.proofs.PassCases.{Plain, by-memory}
 

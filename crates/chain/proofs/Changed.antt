@@ -9,13 +9,13 @@ use lib.Dec.{ltb, eqb}
 use Rattle.num.specs.Const.{c0·0, c1·0}
 use Rattle.chain.specs.Calls.{onFirst, turned, next, steppedPass, stepped}
 use Rattle.chain.specs.Chain.{depthOf, depth}
-use Rattle.chain.specs.Normal.{settled, normalPass, normalChain, persists}
-use Rattle.chain.specs.Passes.{kindOf}
-use Rattle.chain.specs.Records.{among}
-use Rattle.chain.specs.declared.station.Pass.{Pass}
-use Rattle.chain.specs.declared.station.Record.{Record}
-use Rattle.chain.proofs.Bools.{both, or-second, or-map}
-use Rattle.chain.proofs.Good.{Headed, headed, is-headed}
+use Rattle.cards.specs.Normal.{settled, normalPass, normalChain, persists}
+use Rattle.cards.specs.Passes.{kindOf}
+use Rattle.cards.specs.Records.{among}
+use Rattle.cards.specs.declared.station.Pass.{Pass}
+use Rattle.cards.specs.declared.station.Record.{Record}
+use Rattle.cards.specs.Bools.{both, or-second, or-map}
+use Rattle.cards.specs.Good.{Headed, headed, is-headed}
 use Rattle.chain.proofs.PassCases.{blank, by-preset}
 
 -- ## A chain but for switches and preset

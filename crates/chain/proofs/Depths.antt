@@ -7,14 +7,14 @@ use mathlib.Core.Bool.{true}
 use mathlib.Core.List.{List, [], _∷_, _++_}
 use lib.ListN.{length, take, getD}
 use lib.Seq.{getD-take, length-take-le}
-use Rattle.chain.specs.Alike.{chainOf}
+use Rattle.cards.specs.Alike.{chainOf}
 use Rattle.chain.specs.Chain.{depth, depthOf}
 use Rattle.chain.specs.Lent.{Readies}
-use Rattle.chain.specs.Normal.{goodStation, normalPass, normalChain}
-use Rattle.chain.specs.Passes.{kindOf}
-use Rattle.chain.specs.declared.station.Record.{Record}
-use Rattle.chain.specs.declared.station.Station.{Station}
-use Rattle.chain.proofs.Good.{good, headed}
+use Rattle.cards.specs.Normal.{goodStation, normalPass, normalChain}
+use Rattle.cards.specs.Passes.{kindOf}
+use Rattle.cards.specs.declared.station.Record.{Record}
+use Rattle.cards.specs.declared.station.Station.{Station}
+use Rattle.cards.specs.Good.{good, headed}
 
 pub depth-more : (rs : List Record) (i : ℕ) (d : Record) → i < length rs → depth (take (suc i) rs) ≡ depth (take i rs) + depthOf (getD rs i d .pass)
 unfolding depth

@@ -9,30 +9,31 @@ use lib.Ieee.{ofBits, ofInt, add, mul, div, lt, eq}
 use lib.ListN.{drop}
 use Rattle.num.specs.Cases.{Hold}
 use Rattle.num.specs.Const.{c0·30, c0·5, c1·0}
+use Rattle.num.specs.Held.{sameHeld, fineHeld}
 use Rattle.num.specs.Refusals.{badSide, unless}
 use Rattle.num.specs.Rewrite.{rewrite}
 use Rattle.num.specs.Steps.{clampOf, cutOf, plusZeroOf, limitOf}
 use Rattle.num.specs.Sums.{sum}
 use Rattle.passes.specs as Text
-use Rattle.passes.specs.Flow.{sameHeld, fineHeld}
 use Rattle.passes.specs.Fold.{fold}
 use Rattle.passes.specs.Painted.{converted}
 use Rattle.passes.specs.Plain.Persistence as Persistence
 use Rattle.chain.specs.Agree.{opened, SameCall, frames, none, more, before, point}
-use Rattle.chain.specs.Bits.{valueAt, fieldAt}
-use Rattle.chain.specs.Calls.{stops, lacks, Report, refusal, acceptance, onFirst, presets, shownBy}
+use Rattle.cards.specs.Bits.{valueAt, fieldAt}
+use Rattle.cards.specs.Answers.{Report, refusal, acceptance}
+use Rattle.chain.specs.Calls.{stops, lacks, onFirst, presets, shownBy}
 use Rattle.chain.specs.Calls.{frameReplyBy}
-use Rattle.chain.specs.Card.{stationOf, headerAt, recordsAt, endsAt, endAt, stationAt, accepted, openOf}
+use Rattle.cards.specs.Card.{stationOf, headerAt, recordsAt, endsAt, endAt, stationAt, accepted, openOf}
 use Rattle.chain.specs.Chain.{wash, overBy, turnBy, depth}
 use Rattle.chain.specs.Machine.{Call, frame, reset, switch, step, State, Seen, call, after, run, saw}
-use Rattle.chain.specs.Normal.{settled, normalPass, normalChain, persists, goodStation}
-use Rattle.chain.specs.Passes.{passAt, persistenceAt, lutAt}
-use Rattle.chain.specs.Records.{recordAt}
-use Rattle.chain.specs.Settings.{finiteAt, limitedAt, countAt, presetAt}
-use Rattle.chain.specs.Step.{refuseIf}
-use Rattle.chain.specs.declared.station.Pass.the-variants.{Persistence, Lut}
-use Rattle.chain.specs.declared.station.Station.{Station}
-use Rattle.chain.proofs.Agreement.{demand-3}
+use Rattle.cards.specs.Normal.{settled, normalPass, normalChain, persists, goodStation}
+use Rattle.cards.specs.Passes.{passAt, persistenceAt, lutAt}
+use Rattle.cards.specs.Records.{recordAt}
+use Rattle.cards.specs.Settings.{finiteAt, limitedAt, countAt, presetAt}
+use Rattle.cards.specs.Step.{refuseIf}
+use Rattle.cards.specs.declared.station.Pass.the-variants.{Persistence, Lut}
+use Rattle.cards.specs.declared.station.Station.{Station}
+use Rattle.chain.proofs.Agreement.{machines-agree}
 
 -- ## Two cards
 
@@ -129,9 +130,9 @@ points =
 pub runs-hold : Hold shows × Hold reports × Hold points
 unfolding point before saw run after call frameReplyBy unless shownBy stops lacks goodStation fineHeld sameHeld
     badSide settled normalPass normalChain persists depth fold turnBy overBy wash onFirst presets ofBits ofInt add mul div
-    lt clampOf cutOf rewrite Text.Pixel.unpack Text.Pixel.pack Text.Pixel.packLimited Text.Persistence.persistence
+    lt clampOf cutOf rewrite Text.Pixel.unpack Text.Pixel.pack Text.Pixel.packClamped Text.Persistence.persistence
     Text.Persistence.decay Text.Persistence.total Text.Persistence.add Text.Persistence.mix converted sum
-    Text.Pixel.clip Text.Pixel.clips Text.Persistence.blended Text.Persistence.blend Persistence.copies Persistence.refilled Persistence.shifted
+    Text.Pixel.clip Text.Pixel.clips Text.Persistence.blend Persistence.copies Persistence.refilled Persistence.shifted
 runs-hold = (refl, refl, refl)
 
 -- ## The theorem at these stations
@@ -142,11 +143,11 @@ same p = frames refl (λ fits. refl)
 pub agree : drop 2 (saw old (shared 7)) ≡ drop 2 (saw new (shared 8))
 unfolding point before saw run after call frameReplyBy unless shownBy stops lacks goodStation fineHeld sameHeld
     badSide settled normalPass normalChain persists depth fold turnBy overBy wash onFirst presets ofBits ofInt add mul div
-    lt clampOf cutOf rewrite Text.Pixel.unpack Text.Pixel.pack Text.Pixel.packLimited Text.Persistence.persistence
+    lt clampOf cutOf rewrite Text.Pixel.unpack Text.Pixel.pack Text.Pixel.packClamped Text.Persistence.persistence
     Text.Persistence.decay Text.Persistence.total Text.Persistence.add Text.Persistence.mix converted sum
-    Text.Pixel.clip Text.Pixel.clips Text.Persistence.blended Text.Persistence.blend Persistence.copies Persistence.refilled Persistence.shifted
+    Text.Pixel.clip Text.Pixel.clips Text.Persistence.blend Persistence.copies Persistence.refilled Persistence.shifted
 agree =
-    demand-3 card other station station opens opens-other refl (90 ∷ 91 ∷ 92 ∷ []) (5 ∷ 6 ∷ []) own [] (record { same-switches = refl; same-presets = refl })
+    machines-agree card other station station opens opens-other refl (90 ∷ 91 ∷ 92 ∷ []) (5 ∷ 6 ∷ []) own [] (record { same-switches = refl; same-presets = refl })
     (shared 7) (shared 8) (more (same 0) (more (same 0x404040) (more (same 0x808080) (more (same 0xffffff) none))))
     (omega arith, (omega arith, (omega arith, (omega arith, tt))))
     (omega arith, (omega arith, (omega arith, (omega arith, tt))))

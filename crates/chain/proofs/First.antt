@@ -12,14 +12,14 @@ use lib.ListN.{length, take, drop, getD, set, drop-of-length-le, take-append-dro
 use lib.Seq.{slice-cons, length-take-le}
 use Rattle.chain.specs.Calls.{onFirst, stepped, steppedPass, presetOf, presets}
 use Rattle.chain.specs.Lent.{First}
-use Rattle.chain.specs.Normal.{normalChain}
-use Rattle.chain.specs.Passes.{kindOf}
-use Rattle.chain.specs.Records.{kinds, among}
-use Rattle.chain.specs.declared.station.Record.{Record}
-use Rattle.chain.proofs.Bools.{neither, false-true, or-first-only, or-second-only}
-use Rattle.chain.proofs.Good.{headed, no-second}
+use Rattle.cards.specs.Normal.{normalChain}
+use Rattle.cards.specs.Passes.{kindOf}
+use Rattle.cards.specs.Records.{kinds, among}
+use Rattle.cards.specs.declared.station.Record.{Record}
+use Rattle.cards.specs.Bools.{neither, false-true, or-first-only, or-second-only}
+use Rattle.cards.specs.Good.{headed, no-second}
 use Rattle.chain.proofs.PassCases.{no-lut}
-use Rattle.chain.proofs.Scans.{past}
+use Rattle.cards.specs.Scans.{past}
 
 -- a record that is there is read whatever stands past the end
 any-end : (rs : List Record) (i : ℕ) (d e : Record) → i < length rs → getD rs i d ≡ getD rs i e

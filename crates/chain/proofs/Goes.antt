@@ -10,12 +10,13 @@ use lib.ListN.{length, take, drop}
 use Rattle.num.specs.Refusals.{badSide, unless, neither, by, side-fine}
 use Rattle.passes.specs.Flow.{Flow, flow}
 use Rattle.passes.specs.Painted.{painted}
-use Rattle.chain.specs.Alike.{chainOf}
-use Rattle.chain.specs.Calls.{hold, stops, refusal, acceptance, framed, refusingFrame, shown, shownBy}
+use Rattle.cards.specs.Alike.{chainOf}
+use Rattle.cards.specs.Answers.{refusal, acceptance}
+use Rattle.chain.specs.Calls.{hold, stops, framed, refusingFrame, shown, shownBy}
 use Rattle.chain.specs.Calls.{frameReply, frameReplyBy}
 use Rattle.chain.specs.Chain.{chain, depth}
-use Rattle.chain.specs.Normal.{goodStation}
-use Rattle.chain.specs.declared.station.Station.{Station}
+use Rattle.cards.specs.Normal.{goodStation}
+use Rattle.cards.specs.declared.station.Station.{Station}
 
 pub record Goes (s : Station) (w h words history floats ints : ℕ) : Type 0 where
   pub good : goodStation s ≡ true

@@ -9,8 +9,9 @@ use borrow.Author.Tests.{eqb-true}
 use lib.Ieee.{Float}
 use lib.ListN.{length, take, drop, length-append}
 use lib.Seq.{take-append-add, take-append-le, take-take, length-take-le}
+use Rattle.num.specs.Held.{Held, nothing, area, sameHeld}
 use Rattle.passes.specs as Text
-use Rattle.passes.specs.Flow.{Held, nothing, area, sameHeld, Flow, flow}
+use Rattle.passes.specs.Flow.{Flow, flow}
 use Rattle.passes.specs.Painted.{Painted, painted, onto}
 use Rattle.passes.specs.Plain.Persistence.{persistence, blend, copies, refilled, shifted}
 use Rattle.passes.specs.PersistenceLaws.{blend-take, length-copies}

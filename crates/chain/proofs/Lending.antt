@@ -11,18 +11,19 @@ use lib.ListN.{length}
 use lib.Ieee.{Float}
 use Rattle.num.specs.Const.{c0·0, c0·95, c1·0}
 use Rattle.passes.specs as Text
-use Rattle.passes.specs.Flow.{Held, sized, sameHeld, Flow, flow}
+use Rattle.num.specs.Held.{Held, sized, sameHeld}
+use Rattle.passes.specs.Flow.{Flow, flow}
 use Rattle.passes.specs.Fold.{Folded}
 use Rattle.passes.specs.Painted.{Painted, painted, onto}
 use Rattle.passes.specs.Plain.Persistence.{persistence, blend, shifted, refilled}
 use Rattle.passes.specs.Rows.{Frame}
 use Rattle.chain.specs.Chain.{wash, over, overBy, turn, turnBy}
 use Rattle.chain.specs.Lent.{Lent, Ready}
-use Rattle.chain.specs.Normal.{normalPass, settled, counted}
-use Rattle.chain.specs.declared.station.Pass.{Pass}
-use Rattle.chain.specs.declared.station.Pass.the-variants.{Ntsc, Bloom, Persistence}
-use Rattle.chain.specs.declared.station.Record.{Record}
-use Rattle.chain.proofs.Bools.{both}
+use Rattle.cards.specs.Normal.{normalPass, settled, counted}
+use Rattle.cards.specs.declared.station.Pass.{Pass}
+use Rattle.cards.specs.declared.station.Pass.the-variants.{Ntsc, Bloom, Persistence}
+use Rattle.cards.specs.declared.station.Record.{Record}
+use Rattle.cards.specs.Bools.{both}
 use Rattle.chain.proofs.PassCases.{by-memory, over-few}
 
 -- ## What a ready pass may rely on

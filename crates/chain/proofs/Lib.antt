@@ -1,36 +1,12 @@
--- Laws that the proofs of several functions cite, and the theorems of specs/Claims.antt: Theorems, Survives, Inside,
--- Longest; of specs/Agree.antt: Agreement, Made; of specs/Numbers.antt: Numbers; of specs/StillPicture.antt:
--- StillPicture. Runs that are computed: Examples.
-pub mod Bits
-pub mod Bools
-pub mod Good
+-- Laws that the proofs of several functions cite, and the theorems of specs/Claims.antt: Untouched; of specs/Agree.antt:
+-- Agreement, Made; of specs/Numbers.antt: Numbers; of specs/StillPicture.antt: StillPicture. Runs that are computed:
+-- Examples.
 pub mod PassCases
 pub mod Replies
 pub mod Depths
 pub mod First
 pub mod Lending
 pub mod Goes
-pub mod Reals
-pub mod Steps
-pub mod Unknown
-pub mod Tests
-pub mod Widths
-pub mod Taken
-pub mod Opening
-pub mod Packed
-pub mod Back
-pub mod Chain
-pub mod Gives
-pub mod Same
-pub mod Theorems
-pub mod Records
-pub mod Sheets
-pub mod Scans
-pub mod Laying
-pub mod Writing
-pub mod Inside
-pub mod Longest
-pub mod Survives
 pub mod Kept
 pub mod Apart
 pub mod Changed

@@ -1,16 +1,17 @@
--- Calls that were made gave what the plain machine gives, so demand 3 holds of them. Assumes nothing.
+-- Demand 3: calls that were made gave what the plain machine gives, and two such machines agree. Assumes nothing.
 use Prim.Native.Nat.{ℕ, _*_}
 use mathlib.Core.Path.{_≡_, refl, ap, ap₂, sym, subst, subst₂, _∙_}
 use mathlib.Core.List.{List, _∷_}
 use lib.ListN.{length, drop}
 use Rattle.chain.specs.Agree.{opened, Same, Lends, point, Comparable, Made, begin, by-apply, by-reset, by-set-enabled, by-cycle-lut}
-use Rattle.chain.specs.Agree.{Made-is, Demand-3-made}
+use Rattle.chain.specs.Agree.{Made-is, Demand-3}
 use Rattle.chain.specs.Answers.{reportedFrame, called, cycled}
 use Rattle.chain.specs.Calls.{framed}
-use Rattle.chain.specs.Card.{accepted, openOf}
+use Rattle.cards.specs.Card.{accepted, openOf}
+use Rattle.cards.specs.Written.{cardOf}
 use Rattle.chain.specs.Machine.{Call, State, Seen, Done, lend, still, call, after, run, saw}
-use Rattle.chain.specs.declared.station.Station.{Station}
-use Rattle.chain.proofs.Agreement.{demand-3}
+use Rattle.cards.specs.declared.station.Station.{Station}
+use Rattle.chain.proofs.Agreement.{machines-agree}
 use Rattle.chain.proofs.Sound.{No-13, never-13}
 
 -- what was given and left is the machine's
@@ -44,17 +45,29 @@ is-machine (by-cycle-lut {s = s} r e rest) = one-more (still (s .history) (cycle
 pub made-is : Made-is
 made-is s t cs gave m = (is-machine m .given, is-machine m .left)
 
-pub demand-3-made : Demand-3-made
-demand-3-made card other a b opens opens′ alike H G own own′ past past′ s t ms mt =
-    subst₂ (λ (x y : State). Comparable (x .station) (y .station)
-    → (cs ds : List Call) → Same cs ds → Lends (length H) cs → Lends (length G) cs
-    → (gave gave′ : List Seen) (u v : State) → Made x cs gave u → Made y ds gave′ v
+-- the agreement of the machines, of what was given
+agreement : (card other : List ℕ) (a b : Station) → openOf card ≡ accepted a → openOf other ≡ accepted b → cardOf a ≡ cardOf b
+    → (H G : List ℕ) (own own′ : List Call) (s t : State) → s ≡ run (opened a H) own → t ≡ run (opened b G) own′
+    → (cs ds : List Call) (gave gave′ : List Seen) → gave ≡ saw s cs → gave′ ≡ saw t ds
+    → Comparable (s .station) (t .station) → Same cs ds → Lends (length H) cs → Lends (length G) cs
+    → (point s cs ≡ point t ds) × (drop (point s cs) gave ≡ drop (point s cs) gave′)
+agreement card other a b opens opens′ alike H G own own′ s t es et cs ds gave gave′ eg eg′ =
+    subst₂ (λ (x y : State). gave ≡ saw x cs → gave′ ≡ saw y ds → Comparable (x .station) (y .station) → Same cs ds → Lends (length H) cs → Lends (length G) cs
     → (point x cs ≡ point y ds) × (drop (point x cs) gave ≡ drop (point x cs) gave′))
-    (sym (is-machine ms .left)) (sym (is-machine mt .left))
-    (λ comparable cs ds same lH lG gave gave′ u v mu mv.
+    (sym es) (sym et)
+    (λ e e′ comparable same lH lG.
     let n = point (run (opened a H) own) cs in
-    let d = demand-3 card other a b opens opens′ alike H G own own′ comparable cs ds same lH lG in
-    (d .0, ap (drop n) (is-machine mu .given) ∙ d .1 ∙ sym (ap (drop n) (is-machine mv .given))))
+    let d = machines-agree card other a b opens opens′ alike H G own own′ comparable cs ds same lH lG in
+    (d .0, ap (drop n) e ∙ d .1 ∙ sym (ap (drop n) e′)))
+    eg eg′
+
+pub demand-3 : Demand-3
+demand-3 card other a b opens opens′ alike H G own own′ past past′ s t ms mt cs ds gave gave′ u v mu mv =
+    let is = made-is (opened a H) s own past ms in
+    let it = made-is (opened b G) t own′ past′ mt in
+    let iu = made-is s u cs gave mu in
+    let iv = made-is t v ds gave′ mv in
+    ((is, it, iu, iv), agreement card other a b opens opens′ alike H G own own′ s t (is .1) (it .1) cs ds gave gave′ (iu .0) (iv .0))
 
 -- refusal 13 never comes
 pub never-13-made : (card : List ℕ) (a : Station) → openOf card ≡ accepted a → (H : List ℕ) (own cs : List Call) (past gave : List Seen) (s u : State)

@@ -11,21 +11,23 @@ use borrow.Author.Tests.{not-true}
 use lib.Dec.{eqb}
 use lib.ListN.{length, take, drop, take-append-drop}
 use lib.Seq.{take-nil, take-append-le, take-at, length-take-le}
+use Rattle.num.specs.Held.{Held, nothing, sized, area}
 use Rattle.num.specs.Refusals.{unless}
-use Rattle.passes.specs.Flow.{Held, nothing, sized, area, Flow}
+use Rattle.passes.specs.Flow.{Flow}
 use Rattle.passes.specs.Painted.{Painted, painted}
 use Rattle.chain.specs.Agree.{SameCall, frames, resets, switches-to, steps, lent, Lends}
-use Rattle.chain.specs.Agree.{on, ok, takes, ends}
-use Rattle.chain.specs.Alike.{chainOf}
-use Rattle.chain.specs.Calls.{hold, rechain, stops, lacks, Report, acceptance, reply, refusing, onFirst, turned}
+use Rattle.cards.specs.Answers.{Report, acceptance, ok, reply, refusing}
+use Rattle.chain.specs.Agree.{on, takes, ends}
+use Rattle.cards.specs.Alike.{chainOf}
+use Rattle.chain.specs.Calls.{hold, rechain, stops, lacks, onFirst, turned}
 use Rattle.chain.specs.Calls.{presets, stepLut, Framed, refusingFrame, incoming, shown, shownBy, frameReplyBy}
 use Rattle.chain.specs.Chain.{chain, depth}
 use Rattle.chain.specs.Machine.{Call, frame, reset, switch, step, State, seen, Done, lend, still, call, after}
-use Rattle.chain.specs.Normal.{persists}
-use Rattle.chain.specs.declared.station.Record.{Record}
-use Rattle.chain.specs.declared.station.Station.{Station}
+use Rattle.cards.specs.Normal.{persists}
+use Rattle.cards.specs.declared.station.Record.{Record}
+use Rattle.cards.specs.declared.station.Station.{Station}
 use Rattle.chain.proofs.Apart.{Apart, quiet, keeping, depth-among, frame-length, past-length, chain-held, chain-near, chain-picture}
-use Rattle.chain.proofs.Bools.{both, false-true}
+use Rattle.cards.specs.Bools.{both, false-true}
 use Rattle.chain.proofs.Goes.{goes}
 use Rattle.chain.proofs.Kept.{Near, near-less, near-zero, near-nothing, Fits}
 use Rattle.chain.proofs.Sound.{Fit, same-depth, idle-held, enough, good-apart}

@@ -13,34 +13,36 @@ use lib.Seq.{length-take-le}
 use lib.Ieee.{Float, nan, inf, fin, up, down, lt, neg, ofBits}
 use lib.Ieee.Fits.{down-pos}
 use lib.Ieee.Scale.{finite}
+use Rattle.num.specs.Held.{sized}
 use Rattle.num.specs.Refusals.{unless}
 use Rattle.num.specs.Const.{c0·0, c0·5, c0·95, c1·0, c4·0}
 use Rattle.num.specs.Within.{within, size-le, within-plus, zero-value}
 use Rattle.passes.specs.Arith.{Arith, Agrees}
 use Rattle.passes.specs.Casts.{casts, casts-agree, checked, checked-agree}
-use Rattle.passes.specs.Flow.{sized, Flow, flow}
+use Rattle.passes.specs.Flow.{Flow, flow}
 use Rattle.passes.specs.Fold.{fold}
 use Rattle.passes.specs.Inside as Inside
 use Rattle.passes.specs.Painted.{Painted, painted}
 use Rattle.passes.specs.Range as Range
 use Rattle.passes.specs.Rows.{Frame}
-use Rattle.chain.specs.Alike.{chainOf}
-use Rattle.chain.specs.Calls.{framed, acceptance, hold, incoming, stops, refusingFrame, shown, shownBy}
+use Rattle.cards.specs.Alike.{chainOf}
+use Rattle.cards.specs.Answers.{acceptance}
+use Rattle.chain.specs.Calls.{framed, hold, incoming, stops, refusingFrame, shown, shownBy}
 use Rattle.chain.specs.Calls.{frameReply, frameReplyBy}
-use Rattle.chain.specs.Chain.{wash, overBy, turn, turnBy, chain, depthOf, depth}
-use Rattle.chain.specs.Normal.{negZero, settled, counted, normalPass, normalChain}
+use Rattle.chain.specs.Chain.{wash, overBy, turn, turnBy, chain, depthOf, depth, over}
+use Rattle.cards.specs.Normal.{negZero, settled, counted, normalPass, normalChain}
 use Rattle.chain.specs.Numbers.{Pass-inside, Numbers-inside, Casts-inside}
 use Rattle.chain.specs.Numbers.{Checked-inside}
-use Rattle.chain.specs.Passes.{kindOf}
-use Rattle.chain.specs.Typed.{Typed, TypedChain}
-use Rattle.chain.specs.declared.station.Pass.{Pass}
-use Rattle.chain.specs.declared.station.Pass.the-variants.{Ntsc, Bloom, AutoGradient, Persistence, Lut, Curvature}
-use Rattle.chain.specs.declared.station.Pass.the-variants.{ColorCorrection, Crt, Vignette, Scanlines}
-use Rattle.chain.specs.declared.station.Record.{Record}
-use Rattle.chain.specs.declared.station.Station.{Station}
-use Rattle.chain.proofs.Bools.{false-true, both}
+use Rattle.cards.specs.Passes.{kindOf}
+use Rattle.cards.specs.Typed.{Typed, TypedChain}
+use Rattle.cards.specs.declared.station.Pass.{Pass}
+use Rattle.cards.specs.declared.station.Pass.the-variants.{Ntsc, Bloom, AutoGradient, Persistence, Lut, Curvature}
+use Rattle.cards.specs.declared.station.Pass.the-variants.{ColorCorrection, Crt, Vignette, Scanlines}
+use Rattle.cards.specs.declared.station.Record.{Record}
+use Rattle.cards.specs.declared.station.Station.{Station}
+use Rattle.cards.specs.Bools.{false-true, both}
 use Rattle.chain.proofs.Goes.{goes}
-use Rattle.chain.proofs.Good.{good, headed}
+use Rattle.cards.specs.Good.{good, headed}
 use Rattle.chain.proofs.PassCases.{over-frame, over-past}
 
 -- ## Settings

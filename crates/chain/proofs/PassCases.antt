@@ -10,7 +10,8 @@ use lib.Dec.{eqb}
 use lib.Ieee.{Float}
 use lib.ListN.{length}
 use types.Run.{OneOf, miss}
-use Rattle.passes.specs.Flow.{sized, Flow}
+use Rattle.num.specs.Held.{sized}
+use Rattle.passes.specs.Flow.{Flow}
 use Rattle.passes.specs.Lengths.{ntsc-paints, bloom-paints, auto-gradient-paints, lut-paints, color-correction-paints}
 use Rattle.passes.specs.Lengths.{curvature-length, crt-length, vignette-length, scanlines-length}
 use Rattle.passes.specs.Lengths.{persistence-length, persistence-few, history-length}
@@ -26,11 +27,11 @@ use Rattle.passes.specs.Plain.Vignette.{vignette}
 use Rattle.passes.specs.Plain.Scanlines.{scanlines}
 use Rattle.chain.specs.Calls.{next, steppedPass, presetOf}
 use Rattle.chain.specs.Chain.{wash, over, overBy, depthOf}
-use Rattle.chain.specs.Passes.{kindOf}
-use Rattle.chain.specs.declared.station.Pass.{Pass}
-use Rattle.chain.specs.declared.station.Pass.the-variants.{Ntsc, Bloom, AutoGradient, Persistence, Lut, Curvature}
-use Rattle.chain.specs.declared.station.Pass.the-variants.{ColorCorrection, Crt, Vignette, Scanlines}
-use Rattle.chain.proofs.station.Pass.{the-type}
+use Rattle.cards.specs.Passes.{kindOf}
+use Rattle.cards.specs.declared.station.Pass.{Pass}
+use Rattle.cards.specs.declared.station.Pass.the-variants.{Ntsc, Bloom, AutoGradient, Persistence, Lut, Curvature}
+use Rattle.cards.specs.declared.station.Pass.the-variants.{ColorCorrection, Crt, Vignette, Scanlines}
+use Rattle.cards.proofs.station.Pass.{the-type}
 
 -- ## Persistence, or a pass that only paints the frame
 

@@ -3,21 +3,22 @@ use Prim.Native.Nat.{ℕ, zero, suc, _≤_}
 use native.Mathlib.Omega.{arith}
 use mathlib.Core.Path.{_≡_, refl, sym, ap, _∙_}
 use mathlib.Core.Bool.{Bool, true, false, not, cond}
-use mathlib.Core.List.{List, [], _∷_, map}
-use lib.ListN.{length, getD, set, length-map}
+use mathlib.Core.List.{List, [], _∷_}
+use lib.ListN.{length, getD, set}
+use Rattle.num.specs.Held.{Held}
 use Rattle.num.specs.Refusals.{accepts}
-use Rattle.passes.specs.Flow.{Held}
-use Rattle.chain.specs.Alike.{chainOf}
-use Rattle.chain.specs.Calls.{hold, rechain, refusal, acceptance, Reply, reply, refusing, lacks, onFirst, heldAfter, turned, switched, switchReply, stepped, steppedPass, presetOf, presets, stepLut, stepReply}
+use Rattle.cards.specs.Alike.{chainOf}
+use Rattle.cards.specs.Answers.{refusal, acceptance, Reply, reply, refusing}
+use Rattle.chain.specs.Calls.{hold, rechain, lacks, onFirst, heldAfter, turned, switched, switchReply, stepped, steppedPass, presetOf, presets, stepLut, stepReply}
 use Rattle.chain.specs.Lent.{First}
-use Rattle.chain.specs.Normal.{goodStation}
-use Rattle.chain.specs.Records.{kinds, among}
-use Rattle.chain.specs.declared.station.Pass.{Pass}
-use Rattle.chain.specs.declared.station.Record.{Record}
-use Rattle.chain.specs.declared.station.Station.{Station}
+use Rattle.cards.specs.Normal.{goodStation}
+use Rattle.cards.specs.Records.{kinds, among}
+use Rattle.cards.specs.declared.station.Pass.{Pass}
+use Rattle.cards.specs.declared.station.Record.{Record}
+use Rattle.cards.specs.declared.station.Station.{Station}
 use Rattle.chain.proofs.First.{first-set, one-preset}
-use Rattle.chain.proofs.Good.{Good, good}
-use Rattle.chain.proofs.Scans.{past}
+use Rattle.cards.specs.Good.{Good, good}
+use Rattle.cards.specs.Scans.{past}
 
 -- no refusal: the station is good, and the kind is there
 pub present : (s : Station) (kind : ℕ) → lacks s kind ≡ 0 → Good s × (among kind (kinds (chainOf s)) ≡ true)
@@ -29,10 +30,6 @@ present s kind e = by (goodStation s) (among kind (kinds (chainOf s))) refl refl
     by true true q t z = (good s q, t)
     by true false q t z = absurd (omega arith)
     by false a q t z = absurd (omega arith)
-
--- the length of an array of structs in a struct stands in what owning it tells, under a map
-pub unmapped : {X Y : Type 0} (f : X → Y) (l : List X) (n : ℕ) → length (map f l) ≡ n → length l ≡ n
-unmapped f l n e = sym (length-map l f) ∙ e
 
 -- ## A record changed in its place
 

@@ -2,42 +2,38 @@
 -- length of its own buffer not at all. Assumes nothing.
 use Prim.Native.Nat.{ℕ, zero, suc, _*_, _≤_}
 use native.Mathlib.Omega.{arith}
-use mathlib.Core.Path.{_≡_, refl, ap, ap₂, sym, subst, _∙_}
+use mathlib.Core.Path.{_≡_, refl, ap, ap₂, sym, _∙_}
 use mathlib.Core.Bool.{Bool, true, false, not, _&&_, _||_, cond}
-use mathlib.Core.List.{List, [], _∷_, _++_, map-append}
-use borrow.Author.Tests.{eqb-true, eq-eqb, le-leb, lt-ltb}
+use mathlib.Core.List.{List, [], _∷_}
+use borrow.Author.Tests.{eqb-true, eq-eqb, le-leb}
 use lib.Dec.{ltb, eqb}
-use lib.Ieee.{Float, neg}
 use lib.ListN.{length, take, drop, length-map}
-use lib.Seq.{length-take-le, length-front, take-at, drop-at, take-append-seam}
-use Rattle.num.specs.Const.{c0·0, c0·5, c0·95, c1·0, c4·0}
+use lib.Seq.{length-take-le, length-front, take-at, drop-at}
+use Rattle.num.specs.Held.{Held, nothing, sized, sameHeld, fineHeld}
 use Rattle.num.specs.Refusals.{badSide, unless, area-fine}
-use Rattle.passes.specs.Flow.{Held, nothing, sized, sameHeld, fineHeld, Flow}
+use Rattle.passes.specs.Flow.{Flow}
 use Rattle.chain.specs.Agree.{opened}
-use Rattle.chain.specs.Alike.{chainOf}
-use Rattle.chain.specs.Calls.{hold, rechain, stops, lacks, Report, refusal, acceptance, Reply, reply, refusing}
+use Rattle.cards.specs.Alike.{chainOf}
+use Rattle.cards.specs.Answers.{Report, refusal, accepted-not, Reply, reply, refusing}
+use Rattle.chain.specs.Calls.{hold, rechain, stops, lacks}
 use Rattle.chain.specs.Calls.{onFirst, turned, switched, stepped, stepLut, Framed, framed, refusingFrame}
 use Rattle.chain.specs.Calls.{incoming, shown, shownBy, frameReply, frameReplyBy}
-use Rattle.chain.specs.Card.{stationOf, accepted, openOf}
+use Rattle.cards.specs.Card.{accepted, openOf}
 use Rattle.chain.specs.Chain.{wash, chain, depth}
 use Rattle.chain.specs.Machine.{Call, frame, reset, switch, step, State, Seen, call, after, run, saw}
-use Rattle.chain.specs.Normal.{settled, counted, normalPass, normalChain, persists, goodStation}
-use Rattle.chain.specs.Passes.{kindOf}
-use Rattle.chain.specs.Records.{kinds, among}
-use Rattle.chain.specs.declared.station.Pass.{Pass}
-use Rattle.chain.specs.declared.station.Pass.the-variants.{Ntsc, Bloom, AutoGradient, Persistence, Lut, Curvature, ColorCorrection, Crt, Vignette, Scanlines}
-use Rattle.chain.specs.declared.station.Record.{Record}
-use Rattle.chain.specs.declared.station.Station.{Station}
+use Rattle.cards.specs.Normal.{normalChain, persists, goodStation}
+use Rattle.cards.specs.Records.{kinds, among}
+use Rattle.cards.specs.declared.station.Pass.{Pass}
+use Rattle.cards.specs.declared.station.Record.{Record}
+use Rattle.cards.specs.declared.station.Station.{Station}
 use Rattle.chain.proofs.Apart.{Apart, quiet, keeping, apart, past-length, chain-held}
-use Rattle.chain.proofs.Bools.{or-second, or-first-only, or-map}
-use Rattle.chain.proofs.Back.{Settled, Counted}
-use Rattle.chain.proofs.Chain.{NormalPass, NormalChain}
+use Rattle.cards.specs.Bools.{or-second, or-first-only, or-map}
 use Rattle.chain.proofs.Changed.{shapes, depths, depth-is, Gentle, turned-gentle, stepped-gentle, first-shapes, first-normal, first-persists}
-use Rattle.chain.proofs.Good.{Good, good, is-good, is-headed}
+use Rattle.cards.specs.Good.{Good, good, is-good, nothing-fine, nothing-idle}
 use Rattle.chain.proofs.Goes.{goes}
 use Rattle.chain.proofs.Kept.{Fits}
 use Rattle.chain.proofs.PassCases.{blank}
-use Rattle.chain.proofs.Theorems.{accepted-opens}
+use Rattle.cards.proofs.OpensGood.{opens-good}
 
 -- ## What no call changes
 
@@ -73,14 +69,6 @@ after-itself : (s : Station) → Fit s → After s s
 after-itself s f = record { sound = f .sound; same = refl }
 
 -- ## A station that is changed
-
-nothing-fine : fineHeld nothing ≡ true
-unfolding fineHeld
-nothing-fine = refl
-
-nothing-idle : (b : Bool) → sameHeld nothing nothing || b ≡ true
-unfolding sameHeld
-nothing-idle b = refl
 
 module _ (s : Station) (fit : Fit s) where
   abbrev g : Good s
@@ -260,18 +248,15 @@ stops-not s w h u v m i e =
 refusal-not : (k : ℕ) → (k ≡ 13 → ⊥) → Path Report (refusal k) (refusal 13) → ⊥
 refusal-not k q e = q (cc)
 
-acceptance-not : (r : List ℕ) → Path Report (acceptance r) (refusal 13) → ⊥
-acceptance-not r e = let z : _≡_ {A = ℕ} 0 1 = cc in omega arith
-
 -- to a good station, in one call
 pub call-not : (c : Call) (s : State) → goodStation (s .station) ≡ true → call c s .gives .answer ≡ refusal 13 → ⊥
 unfolding call frameReplyBy shownBy
 call-not (frame w h words l m i) s e =
     by-stop (λ r. r .answer ≡ refusal 13 → ⊥) _ (s .station) words (take l (s .history)) _
-    (refusal-not _ (stops-not (s .station) w h _ _ m i e)) (λ z. acceptance-not _)
-call-not reset s e = by-lack (λ r. r .answer ≡ refusal 13 → ⊥) _ (s .station) _ (refusal-not _ (lacks-not (s .station) 4 e)) (acceptance-not [])
-call-not (switch kind on) s e = by-lack (λ r. r .answer ≡ refusal 13 → ⊥) _ (s .station) _ (refusal-not _ (lacks-not (s .station) kind e)) (acceptance-not [])
-call-not step s e = by-lack (λ r. r .answer ≡ refusal 13 → ⊥) _ (s .station) _ (refusal-not _ (lacks-not (s .station) 5 e)) (acceptance-not _)
+    (refusal-not _ (stops-not (s .station) w h _ _ m i e)) (λ z. accepted-not _ 13)
+call-not reset s e = by-lack (λ r. r .answer ≡ refusal 13 → ⊥) _ (s .station) _ (refusal-not _ (lacks-not (s .station) 4 e)) (accepted-not [] 13)
+call-not (switch kind on) s e = by-lack (λ r. r .answer ≡ refusal 13 → ⊥) _ (s .station) _ (refusal-not _ (lacks-not (s .station) kind e)) (accepted-not [] 13)
+call-not step s e = by-lack (λ r. r .answer ≡ refusal 13 → ⊥) _ (s .station) _ (refusal-not _ (lacks-not (s .station) 5 e)) (accepted-not _ 13)
 
 -- no answer of a list is refusal 13
 abbrev pub No-13 : List Seen → Type 0
@@ -285,55 +270,8 @@ saw-not s (c ∷ cs) f = (call-not c s (f .sound), saw-not (after c s) cs (call-
 
 -- ## An opened station
 
-settled-is : (low high x : Float) → Settled low high x → settled low high x ≡ true
-unfolding settled
-settled-is low high x t = rw (t .number, t .above, t .below, t .plain)
-
-counted-is : (most v : ℕ) → Counted most v → counted most v ≡ true
-counted-is most v t = rw (le-leb 1 v (t .some), le-leb v most (t .few))
-
-normal-is : (p : Pass) → NormalPass p → normalPass p ≡ true
-unfolding normalPass
-normal-is (Ntsc a b) t = rw (settled-is c0·0 c1·0 a (t .0), counted-is 64 b (t .1))
-normal-is (Bloom a b c) t = rw (settled-is c0·0 c1·0 b (t .1), counted-is 64 c (t .2))
-normal-is (AutoGradient a b c) t = rw (settled-is c0·0 c1·0 a (t .0), settled-is c0·0 c1·0 b (t .1), settled-is c0·0 c1·0 c (t .2))
-normal-is (Persistence a b) t = rw (settled-is c0·0 c0·95 a (t .0), counted-is 8 b (t .1))
-normal-is (Lut a b) t = rw (lt-ltb a 7 (t .0), settled-is c0·0 c1·0 b (t .1))
-normal-is (Curvature a) t = settled-is c0·0 c0·5 a t
-normal-is (ColorCorrection a b c d) t =
-    rw (settled-is (neg c1·0) c1·0 a (t .0), settled-is c0·0 c4·0 b (t .1), settled-is c0·0 c4·0 c (t .2), settled-is c1·0 c1·0 d (t .3))
-normal-is (Crt a) t = settled-is c0·0 c1·0 a t
-normal-is (Vignette a) t = settled-is c0·0 c1·0 a t
-normal-is (Scanlines a) t = settled-is c0·0 c1·0 a t
-
-chain-is : (done rs : List Record) → NormalChain done rs → normalChain (kinds done) rs ≡ true
-unfolding normalChain
-chain-is done [] t = refl
-chain-is done (r ∷ rs) t =
-    is-headed (kinds done) r rs
-    (record {
-      normal = normal-is (r .pass) (t .0);
-      new = t .1;
-      others =
-          subst (λ (ks : List ℕ). normalChain ks rs ≡ true) (map-append (λ (r : Record). kindOf (r .pass)) done (r ∷ [])) (chain-is (done ++ r ∷ []) rs (t .2));
-    })
-
 pub opened-fit : (card : List ℕ) (s : Station) → openOf card ≡ accepted s → Fit s
-opened-fit card s e =
-    let o = accepted-opens card s e in
-    let chain-of : chainOf (stationOf (o .chain)) ≡ o .chain = take-append-seam (o .chain) _ in
-    subst Fit (sym (o .whole))
-    (record {
-      sound =
-          is-good (stationOf (o .chain))
-          (record {
-            few = o .few;
-            normal = ap (normalChain []) chain-of ∙ chain-is [] (o .chain) (o .normal);
-            fine = nothing-fine;
-            idle = nothing-idle (persists (chainOf (stationOf (o .chain))));
-          });
-      room = ap length chain-of;
-    })
+opened-fit card s e = let o = opens-good card s e in record { sound = o .0; room = o .1 }
 
 -- in an own list and in the shared list after it refusal 13 never comes
 pub never-13 : (card : List ℕ) (s : Station) → openOf card ≡ accepted s → (H : List ℕ) (own cs : List Call)

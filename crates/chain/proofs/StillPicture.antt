@@ -17,29 +17,31 @@ use lib.Ieee.Fits.{up-pos}
 use lib.Ieee.Positive.{num, den}
 use lib.Ieee.Scale.{finite}
 use Rattle.num.specs.Const.{c0·0, c0·95}
+use Rattle.num.specs.Held.{nothing, sized}
 use Rattle.num.specs.Refusals.{unless}
-use Rattle.passes.specs.Flow.{nothing, sized, Flow}
+use Rattle.passes.specs.Flow.{Flow}
 use Rattle.passes.specs.Fold.{fold}
 use Rattle.passes.specs.Lengths.{history-length}
 use Rattle.passes.specs.Plain.Persistence.{persistence, copies}
 use Rattle.passes.specs.Still.{Still}
 use Rattle.passes.specs.StillLaws.Pictures.{still-itself, persistence-still}
 use Rattle.passes.specs.StillLaws.Places.{Full}
-use Rattle.chain.specs.Agree.{SameCall, frames, ok}
-use Rattle.chain.specs.Alike.{chainOf}
-use Rattle.chain.specs.Calls.{hold, stops, lacks, reply, refusing, Framed, framed, acceptance, incoming, shown}
+use Rattle.cards.specs.Answers.{acceptance, ok, reply, refusing}
+use Rattle.chain.specs.Agree.{SameCall, frames}
+use Rattle.cards.specs.Alike.{chainOf}
+use Rattle.chain.specs.Calls.{hold, stops, lacks, Framed, framed, incoming, shown}
 use Rattle.chain.specs.Calls.{shownBy, frameReplyBy}
 use Rattle.chain.specs.Chain.{overBy, turnBy, chain, depth}
 use Rattle.chain.specs.Machine.{Call, frame, reset, State, Seen, picture, call, after, saw}
-use Rattle.chain.specs.Normal.{negZero, settled, counted, normalPass, normalChain, goodStation}
-use Rattle.chain.specs.Records.{kinds, among}
+use Rattle.cards.specs.Normal.{negZero, settled, counted, normalPass, normalChain, goodStation}
+use Rattle.cards.specs.Records.{kinds, among}
 use Rattle.chain.specs.StillPicture.{alone, Repeats, AllStill, Stays-still, Stays-still-made}
-use Rattle.chain.specs.declared.station.Record.{Record}
-use Rattle.chain.specs.declared.station.Pass.the-variants.{Persistence}
-use Rattle.chain.specs.declared.station.Station.{Station}
-use Rattle.chain.proofs.Bools.{false-true, both}
+use Rattle.cards.specs.declared.station.Record.{Record}
+use Rattle.cards.specs.declared.station.Pass.the-variants.{Persistence}
+use Rattle.cards.specs.declared.station.Station.{Station}
+use Rattle.cards.specs.Bools.{false-true, both}
 use Rattle.chain.proofs.Goes.{goes}
-use Rattle.chain.proofs.Good.{good, headed}
+use Rattle.cards.specs.Good.{good, headed}
 use Rattle.chain.proofs.Made.{made-is}
 use Rattle.chain.proofs.Sound.{by-stop}
 

@@ -1,35 +1,32 @@
 -- What a refusal keeps, and what no frame touches. Assumes nothing.
 use Prim.Native.Nat.{ℕ, zero, suc, _*_, _≤_}
-use native.Mathlib.Omega.{arith}
 use mathlib.Core.Path.{_≡_, refl, ap, subst, _∙_}
 use mathlib.Core.Bool.{Bool, true, false, cond}
 use mathlib.Core.List.{List, [], _++_}
 use lib.Ieee.{Float}
 use lib.ListN.{length, take, drop, take-append-drop}
 use lib.Seq.{length-take-le, drop-at}
+use Rattle.num.specs.Held.{Held, sized, sameHeld}
 use Rattle.num.specs.Refusals.{unless}
 use Rattle.passes.specs as Text
-use Rattle.passes.specs.Flow.{Held, sized, sameHeld, Flow, flow}
+use Rattle.passes.specs.Flow.{Flow, flow}
 use Rattle.passes.specs.Painted.{onto}
 use Rattle.passes.specs.Plain.Persistence.{persistence, blend, refilled, shifted}
 use Rattle.passes.specs.PersistenceLaws.{refilled-rest, shifted-rest}
-use Rattle.chain.specs.Alike.{chainOf}
-use Rattle.chain.specs.Calls.{Report, refusal, acceptance, reply, refusing, stops, lacks, Framed, framed}
+use Rattle.cards.specs.Alike.{chainOf}
+use Rattle.cards.specs.Answers.{Report, refusal, acceptance, accepted-not, reply, refusing}
+use Rattle.chain.specs.Calls.{stops, lacks, Framed, framed}
 use Rattle.chain.specs.Calls.{refusingFrame, incoming, shown, shownBy, frameReplyBy}
 use Rattle.chain.specs.Chain.{chain, depth}
 use Rattle.chain.specs.Claims.{Refused-keeps, Untouched}
 use Rattle.chain.specs.Machine.{Call, frame, reset, switch, step, State, call, after}
-use Rattle.chain.specs.declared.station.Record.{Record}
-use Rattle.chain.specs.declared.station.Station.{Station}
+use Rattle.cards.specs.declared.station.Record.{Record}
+use Rattle.cards.specs.declared.station.Station.{Station}
 use Rattle.chain.proofs.Apart.{repaint, Apart, quiet, keeping, apart, frame-length}
-use Rattle.chain.proofs.Good.{good}
+use Rattle.cards.specs.Good.{good}
 use Rattle.chain.proofs.Goes.{goes}
 
 -- ## A refusal
-
--- acceptance is no refusal
-accepted-not : {A : Type 0} (ns : List ℕ) (k : ℕ) → Path Report (acceptance ns) (refusal k) → A
-accepted-not ns k e = let z : _≡_ {A = ℕ} 0 1 = cc in absurd (omega arith)
 
 reply-keeps : (n : ℕ) (s t : Station) (ns : List ℕ) (k : ℕ) → unless n (refusing s) (reply (acceptance ns) t) .answer ≡ refusal k → unless n (refusing s) (reply (acceptance ns) t) .station ≡ s
 unfolding unless

@@ -6,18 +6,19 @@ use mathlib.Core.List.{List, [], _∷_, _++_}
 use lib.Dec.{eqb}
 use lib.ListN.{length, take, drop}
 use lib.Ieee.{Float}
-use Rattle.chain.specs.Alike.{chainOf, switches}
+use Rattle.cards.specs.Alike.{chainOf, switches}
 use Rattle.chain.specs.Answers.{reportedFrame, called, cycled, Applies}
-use Rattle.chain.specs.Calls.{Report, refusal, acceptance, resetReply, switchReply, stepReply, presets}
-use Rattle.chain.specs.Card.{accepted, openOf}
+use Rattle.cards.specs.Answers.{Report, refusal, acceptance, ok, reported}
+use Rattle.chain.specs.Calls.{resetReply, switchReply, stepReply, presets}
+use Rattle.cards.specs.Card.{accepted, openOf}
 use Rattle.chain.specs.Chain.{depth}
 use Rattle.chain.specs.Machine.{Call, frame, reset, switch, step, State, Seen, seen, picture, still, call, after, run, saw}
-use Rattle.chain.specs.Normal.{persists}
-use Rattle.chain.specs.Written.{cardOf}
+use Rattle.cards.specs.Normal.{persists}
+use Rattle.cards.specs.Written.{cardOf}
 use Rattle.chain.specs.declared.pipeline.Applied.{Applied}
 use Rattle.chain.specs.declared.pipeline.Called.{Called}
 use Rattle.chain.specs.declared.pipeline.Cycled.{Cycled}
-use Rattle.chain.specs.declared.station.Station.{Station}
+use Rattle.cards.specs.declared.station.Station.{Station}
 
 -- ## Own lists, equal frames, lent words
 
@@ -57,10 +58,6 @@ Lends n (c ∷ cs) = (lent c ≤ n) × Lends n cs
 abbrev pub on : State → Bool
 on s = persists (chainOf (s .station))
 
-abbrev pub ok : Report → Bool
-ok (refusal k) = false
-ok (acceptance r) = true
-
 -- persistence takes each accepted frame that comes while it is on
 abbrev pub takes : State → Call → Bool
 takes s (frame w h words history floats ints) = on s && ok (call (frame w h words history floats ints) s .gives .answer)
@@ -84,15 +81,15 @@ before k s (c ∷ cs) = cond (eqb k 0 || ends s c) 0 (suc (before (cond (takes s
 unfoldable pub point : State → List Call → ℕ
 point s cs = cond (on s) (before (depth (chainOf (s .station))) s cs) 0
 
--- ## Demand 3
+-- ## The agreement of two plain machines
 
 -- comparable after the own lists, beside cards that normalise alike: the switch of each pass and the preset, if there is one, are equal
 pub record Comparable (s t : Station) : Type 0 where
   pub same-switches : switches s ≡ switches t
   pub same-presets : presets (chainOf s) ≡ presets (chainOf t)
 
-abbrev pub Demand-3 : Type 0
-Demand-3 =
+abbrev pub Machines-agree : Type 0
+Machines-agree =
     -- two accepted cards that normalise alike, with the stations that opening gives
     (card other : List ℕ) (a b : Station) → openOf card ≡ accepted a → openOf other ≡ accepted b → cardOf a ≡ cardOf b
     -- own history buffers of any size with any words, and own lists of any calls
@@ -123,16 +120,27 @@ pub data Made : (s : State) → List Call → (gave : List Seen) → (t : State)
   by-cycle-lut : {s t : State} {cs : List Call} {gave : List Seen} (r : Cycled) → cycled r ≡ stepReply (s .station)
       → Made (record { station = r .station; history = s .history }) cs gave t → Made s (step ∷ cs) (still (s .history) (cycled r) .gives ∷ gave) t
 
--- in own and shared lists each answer, returned station and picture is the machine's
-abbrev pub Made-is : Type 0
-Made-is = (s t : State) (cs : List Call) (gave : List Seen) → Made s cs gave t → (gave ≡ saw s cs) × (t ≡ run s cs)
+-- what a list of calls gave and left is what the plain machine gives and leaves: each answer, returned station and picture, and the own buffer
+abbrev pub Plain : State → List Call → List Seen → State → Type 0
+Plain s cs gave t = (gave ≡ saw s cs) × (t ≡ run s cs)
 
--- `s` and `t` are what the own lists left, `gave` and `gave′` what the shared list gave
-abbrev pub Demand-3-made : Type 0
-Demand-3-made =
+-- so it is of every list of calls that were made
+abbrev pub Made-is : Type 0
+Made-is = (s t : State) (cs : List Call) (gave : List Seen) → Made s cs gave t → Plain s cs gave t
+
+-- ## Demand 3
+
+abbrev pub Demand-3 : Type 0
+Demand-3 =
+    -- two accepted cards that normalise alike, with the stations that opening gives
     (card other : List ℕ) (a b : Station) → openOf card ≡ accepted a → openOf other ≡ accepted b → cardOf a ≡ cardOf b
+    -- own history buffers of any size with any words, and own lists of any calls, which gave `past` and left s and t
     → (H G : List ℕ) (own own′ : List Call) (past past′ : List Seen) (s t : State) → Made (opened a H) own past s → Made (opened b G) own′ past′ t
-    → Comparable (s .station) (t .station)
-    → (cs ds : List Call) → Same cs ds → Lends (length H) cs → Lends (length G) cs
-    → (gave gave′ : List Seen) (u v : State) → Made s cs gave u → Made t ds gave′ v
-    → (point s cs ≡ point t ds) × (drop (point s cs) gave ≡ drop (point s cs) gave′)
+    -- then further calls, which gave `gave`
+    → (cs ds : List Call) (gave gave′ : List Seen) (u v : State) → Made s cs gave u → Made t ds gave′ v
+    -- in own and shared lists each answer, returned station and picture is the plain machine's
+    → (Plain (opened a H) own past s × Plain (opened b G) own′ past′ t × Plain s cs gave u × Plain t ds gave′ v)
+    -- where the stations are comparable and the further calls are one shared list, whose frames lend words of either own buffer:
+    -- the point is one for both, and from it on each answer, returned station and picture is equal
+    × (Comparable (s .station) (t .station) → Same cs ds → Lends (length H) cs → Lends (length G) cs
+    → (point s cs ≡ point t ds) × (drop (point s cs) gave ≡ drop (point s cs) gave′))

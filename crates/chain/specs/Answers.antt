@@ -1,10 +1,11 @@
--- What the functions answer, in the words of document 01: for each case of an answer its number and values. Assumes nothing.
+-- What the calls answer, in the words of document 01: for each case of an answer its number and values; `reported` is cards'. Assumes nothing.
 use Prim.Native.Nat.{ℕ, _*_}
-use mathlib.Core.Path.{_≡_}
+use mathlib.Core.Path.{_≡_, ap}
 use mathlib.Core.List.{List, [], _∷_}
 use lib.ListN.{length, drop}
 use lib.Ieee.{Float}
-use Rattle.chain.specs.Calls.{Report, refusal, acceptance, Reply, reply, framed, frameReply}
+use Rattle.cards.specs.Answers.{Report, refusal, acceptance, Reply, reply, reported}
+use Rattle.chain.specs.Calls.{framed, frameReply}
 use Rattle.chain.specs.declared.pipeline.Applied.{Applied}
 use Rattle.chain.specs.declared.pipeline.Called.{Called}
 use Rattle.chain.specs.declared.pipeline.Cycled.{Cycled}
@@ -12,19 +13,12 @@ use Rattle.chain.specs.declared.pipeline.Cycle.{Cycle}
 use Rattle.chain.specs.declared.pipeline.Cycle.the-variants as Cycle
 use Rattle.chain.specs.declared.pipeline.FrameAnswer.{FrameAnswer}
 use Rattle.chain.specs.declared.pipeline.FrameAnswer.the-variants as Frame
-use Rattle.chain.specs.declared.station.Answer.{Answer}
-use Rattle.chain.specs.declared.station.Answer.the-variants.{Accepted, Refused}
-use Rattle.chain.specs.declared.station.Station.{Station}
+use Rattle.cards.specs.declared.station.Station.{Station}
 
 -- of a frame: acceptance reports how many channels were clipped
 abbrev pub reportedFrame : FrameAnswer → Report
 reportedFrame (Frame.Shown clipped) = acceptance (clipped ∷ [])
 reportedFrame (Frame.Refused k) = refusal k
-
--- of a reset and a switch: acceptance reports nothing
-abbrev pub reported : Answer → Report
-reported Accepted = acceptance []
-reported (Refused k) = refusal k
 
 -- of a preset step: acceptance reports the new preset
 abbrev pub reportedStep : Cycle → Report
@@ -42,8 +36,14 @@ abbrev pub free : FrameAnswer → ℕ → ℕ
 free (Frame.Shown clipped) k = k
 free (Frame.Refused e) k = 0
 
+-- whatever the answer, the words past k stay
+pub stay : {A : Type 0} (a : FrameAnswer) (k : ℕ) (xs xs′ : List A) → drop (free a k) xs′ ≡ drop (free a k) xs → drop k xs′ ≡ drop k xs
+stay (Frame.Shown clipped) k xs xs′ e = e
+stay (Frame.Refused n) k xs xs′ e = ap (drop k) e
+
 -- What a frame call promises. It gets a station, a framebuffer, a history and two scratches, and leaves `r` and the buffers with a prime.
-pub record Applies (w h : ℕ) (s : Station) (words past : List ℕ) (floats : List Float) (ints : List ℕ) (r : Applied) (words′ past′ : List ℕ) (floats′ : List Float) (ints′ : List ℕ) : Type 0 where
+pub record Applies (w h : ℕ) (s : Station) (words past : List ℕ) (floats : List Float) (ints : List ℕ)
+    (r : Applied) (words′ past′ : List ℕ) (floats′ : List Float) (ints′ : List ℕ) : Type 0 where
   -- the answer, the station, and every word of the framebuffer and of the history
   pub replies : framed (reportedFrame (r .answer)) (r .station) words′ past′ ≡ frameReply w h s words past (length floats) (length ints)
   -- the f32 words past 6 * count stay, and all of them where the frame is refused

@@ -4,19 +4,21 @@ use mathlib.Core.Bool.{Bool, not, _&&_, _||_, cond}
 use mathlib.Core.List.{List, [], _∷_, _++_}
 use lib.Dec.{eqb, ltb}
 use lib.ListN.{length, take, drop}
+use Rattle.num.specs.Held.{Held, nothing}
 use Rattle.num.specs.Refusals.{badSide, unless}
 use Rattle.passes.specs.Arith.{Arith, plain}
-use Rattle.passes.specs.Flow.{Held, nothing, Flow, flow}
+use Rattle.passes.specs.Flow.{Flow, flow}
 use Rattle.passes.specs.Painted.{painted}
-use Rattle.chain.specs.Alike.{chainOf}
+use Rattle.cards.specs.Alike.{chainOf}
+use Rattle.cards.specs.Answers.{Report, refusal, acceptance, Reply, reply, refusing}
 use Rattle.chain.specs.Chain.{chainBy, depth}
-use Rattle.chain.specs.Normal.{goodStation}
-use Rattle.chain.specs.Passes.{kindOf}
-use Rattle.chain.specs.Records.{kinds, among}
-use Rattle.chain.specs.declared.station.Pass.{Pass}
-use Rattle.chain.specs.declared.station.Pass.the-variants.{Ntsc, Bloom, AutoGradient, Persistence, Lut, Curvature, ColorCorrection, Crt, Vignette, Scanlines}
-use Rattle.chain.specs.declared.station.Record.{Record}
-use Rattle.chain.specs.declared.station.Station.{Station}
+use Rattle.cards.specs.Normal.{goodStation}
+use Rattle.cards.specs.Passes.{kindOf}
+use Rattle.cards.specs.Records.{kinds, among}
+use Rattle.cards.specs.declared.station.Pass.{Pass}
+use Rattle.cards.specs.declared.station.Pass.the-variants.{Ntsc, Bloom, AutoGradient, Persistence, Lut, Curvature, ColorCorrection, Crt, Vignette, Scanlines}
+use Rattle.cards.specs.declared.station.Record.{Record}
+use Rattle.cards.specs.declared.station.Station.{Station}
 
 -- ## A station that is changed
 
@@ -42,24 +44,6 @@ stops s w h words history floats ints =
 -- of a call on the pass of that kind
 unfoldable pub lacks : Station → ℕ → ℕ
 lacks s kind = cond (not (goodStation s)) 13 (cond (among kind (kinds (chainOf s))) 0 12)
-
--- ## Answers
-
--- document 01's answer: a refusal's number, or acceptance with all that the call reports
-pub data Report : Type 0 where
-  refusal : ℕ → Report
-  acceptance : List ℕ → Report
-
-pub record Reply : Type 0 where
-  pub answer : Report
-  pub station : Station
-
-abbrev pub reply : Report → Station → Reply
-reply answer s = record { answer = answer; station = s }
-
--- a refusal leaves the station as it was given
-abbrev pub refusing : Station → ℕ → Reply
-refusing s k = reply (refusal k) s
 
 -- ## Reset, switch, preset step
 

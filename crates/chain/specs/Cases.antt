@@ -1,100 +1,30 @@
--- The cases of the card, those that document 01 marks (●) and one for each refusal, of the refusals of the calls, and of what a frame
--- reports. Each list pairs what a definition gives with what it should give, and one proof by computation holds the whole list.
+-- The cases of the refusals of the calls, and of what a frame reports. Each list pairs what a definition gives with what it should give, and
+-- one proof by computation holds the whole list.
 -- Assumes nothing.
 use Prim.Native.Nat.{ℕ}
 use mathlib.Core.Bool.{Bool, true, false}
 use mathlib.Core.List.{List, [], _∷_}
 use mathlib.Core.Path.{refl}
-use lib.Ieee.{ofBits, toBits, ofInt, add, sub, mul, div, lt, eq, neg}
+use lib.Ieee.{ofBits, ofInt, add, sub, mul, div, lt, neg}
 use Rattle.num.specs.Cases.{Hold}
 use Rattle.num.specs.Const.{c0·0, c0·30, c1·0}
+use Rattle.num.specs.Held.{sameHeld, fineHeld}
 use Rattle.num.specs.Refusals.{badSide, unless}
 use Rattle.num.specs.Rewrite.{rewrite}
-use Rattle.num.specs.Steps.{clampOf, cutOf, plusZeroOf, limitOf}
+use Rattle.num.specs.Steps.{clampOf, cutOf}
 use Rattle.num.specs.Sums.{sum}
 use Rattle.passes.specs as Text
-use Rattle.passes.specs.Flow.{sameHeld, fineHeld}
 use Rattle.passes.specs.Fold.{fold}
 use Rattle.passes.specs.Painted.{converted}
 use Rattle.passes.specs.Plain.Persistence as Persistence
-use Rattle.chain.specs.Step.{refuseIf}
-use Rattle.chain.specs.Bits.{valueAt, fieldAt}
-use Rattle.chain.specs.Settings.{finiteAt, limitedAt, withinAt, countAt, presetAt}
-use Rattle.chain.specs.Passes.{passAt, persistenceAt, lutAt, colorCorrectionAt, scanlinesAt}
-use Rattle.chain.specs.Records.{recordAt}
-use Rattle.chain.specs.Card.{stationOf, headerAt, recordsAt, endsAt, endAt, stationAt, accepted, openOf, stoppedOf}
-use Rattle.chain.specs.Calls.{hold, stops, lacks, Report, refusal, acceptance, shownBy, frameReply, frameReplyBy}
+use Rattle.cards.specs.Answers.{Report, refusal, acceptance}
+use Rattle.cards.specs.Card.{stationOf}
+use Rattle.cards.specs.Normal.{settled, normalPass, normalChain, persists, goodStation}
+use Rattle.chain.specs.Calls.{hold, stops, lacks, shownBy, frameReply, frameReplyBy}
 use Rattle.chain.specs.Chain.{wash, overBy, turnBy, depth}
-use Rattle.chain.specs.Normal.{settled, normalPass, normalChain, persists, goodStation}
-use Rattle.chain.specs.Written.{bits, passBits, recordBits, recordsBits, chainBits, valueOf, pack, chainCard, cardOf}
-use Rattle.chain.specs.declared.station.Pass.the-variants.{Persistence, Lut, ColorCorrection, Scanlines}
-use Rattle.chain.specs.declared.station.Record.{Record}
-use Rattle.chain.specs.declared.station.Station.{Station}
-use Rattle.chain.specs.declared.reader.Opened.{Opened}
-use Rattle.chain.specs.declared.station.Answer.the-variants.{Refused}
-
--- a card that is refused by that number
-abbrev refusedBy : ℕ → Opened
-refusedBy k = record { answer = Refused k; station = stationOf [] }
-
--- ● Card 10: the empty chain. Depth 8 taken (11 48 00 00 00 00 40), 9 refused with 6.
--- Then a torn card, a foreign one, an overfull one, an unknown pass, scanlines twice, a byte left over, a padding bit set.
-abbrev pub opened : List (Opened × Opened)
-opened =
-    (openOf (0x10 ∷ []), accepted (stationOf []))
-    ∷ (openOf (0x11 ∷ 0x48 ∷ 0 ∷ 0 ∷ 0 ∷ 0 ∷ 0x40 ∷ []), accepted (stationOf (record { on = true; pass = Persistence c0·0 8 } ∷ [])))
-    ∷ (openOf (0x11 ∷ 0x48 ∷ 0 ∷ 0 ∷ 0 ∷ 0 ∷ 0x48 ∷ []), refusedBy 6)
-    ∷ (openOf [], refusedBy 1)
-    ∷ (openOf (0x20 ∷ []), refusedBy 2)
-    ∷ (openOf (0x1b ∷ []), refusedBy 3)
-    ∷ (openOf (0x11 ∷ 0xb0 ∷ []), refusedBy 4)
-    ∷ (openOf (0x12 ∷ 0xa8 ∷ 0 ∷ 0 ∷ 0 ∷ 5 ∷ 0 ∷ []), refusedBy 5)
-    ∷ (openOf (0x10 ∷ 0 ∷ []), refusedBy 7)
-    ∷ (openOf (0x11 ∷ 0xa8 ∷ 0 ∷ 0 ∷ 0 ∷ 1 ∷ []), refusedBy 7)
-    ∷ []
-
-pub opened-hold : Hold opened
-unfolding openOf stationAt headerAt fieldAt valueAt refuseIf recordsAt endAt endsAt recordAt passAt persistenceAt scanlinesAt countAt limitedAt finiteAt
-    ofBits lt eq limitOf plusZeroOf clampOf
-opened-hold = refl
-
--- Where reading stops. Accepted cards: the bit after the last field. Refused: no version (1), a torn strength (1), the version (2), n (3), a kind (4, 5), a strength
--- that is a NaN, a depth of 9, a brightness of 2.0 and preset 7 (6), a byte left over and a padding bit (7).
-abbrev pub stoppedAt : List (ℕ × ℕ)
-stoppedAt =
-    (stoppedOf (0x10 ∷ []), 8)
-    ∷ (stoppedOf (0x11 ∷ 0x48 ∷ 0 ∷ 0 ∷ 0 ∷ 0 ∷ 0x40 ∷ []), 53)
-    ∷ (stoppedOf [], 0)
-    ∷ (stoppedOf (0x11 ∷ 0xa8 ∷ 0 ∷ []), 13)
-    ∷ (stoppedOf (0x20 ∷ []), 0)
-    ∷ (stoppedOf (0x1b ∷ []), 4)
-    ∷ (stoppedOf (0x11 ∷ 0xb0 ∷ []), 8)
-    ∷ (stoppedOf (0x12 ∷ 0xa8 ∷ 0 ∷ 0 ∷ 0 ∷ 5 ∷ 0 ∷ []), 45)
-    ∷ (stoppedOf (0x11 ∷ 0xab ∷ 0xfe ∷ 0 ∷ 0 ∷ 0 ∷ []), 13)
-    ∷ (stoppedOf (0x11 ∷ 0x48 ∷ 0 ∷ 0 ∷ 0 ∷ 0 ∷ 0x48 ∷ []), 45)
-    ∷ (stoppedOf (0x11 ∷ 0x7a ∷ 0 ∷ 0 ∷ 0 ∷ 0 ∷ []), 13)
-    ∷ (stoppedOf (0x11 ∷ 0x5f ∷ []), 13)
-    ∷ (stoppedOf (0x10 ∷ 0 ∷ []), 8)
-    ∷ (stoppedOf (0x11 ∷ 0xa8 ∷ 0 ∷ 0 ∷ 0 ∷ 1 ∷ []), 45)
-    ∷ []
-
-pub stoppedAt-hold : Hold stoppedAt
-unfolding stoppedOf stationAt headerAt fieldAt valueAt refuseIf recordsAt endAt endsAt recordAt passAt persistenceAt lutAt colorCorrectionAt scanlinesAt countAt
-    presetAt limitedAt withinAt finiteAt ofBits lt eq neg limitOf plusZeroOf clampOf
-stoppedAt-hold = refl
-
--- ● Card 11 AA 00 00 00 00 (scanlines, strength 2.0) normalises to 11 A9 FC 00 00 00. Card 10 is normalised; so is 11 48 00 00 00 00 08 once its depth is 1.
-abbrev pub written : List (List ℕ × List ℕ)
-written =
-    (cardOf (openOf (0x11 ∷ 0xaa ∷ 0 ∷ 0 ∷ 0 ∷ 0 ∷ []) .station), 0x11 ∷ 0xa9 ∷ 0xfc ∷ 0 ∷ 0 ∷ 0 ∷ [])
-    ∷ (cardOf (openOf (0x10 ∷ []) .station), 0x10 ∷ [])
-    ∷ (cardOf (openOf (0x11 ∷ 0x48 ∷ 0 ∷ 0 ∷ 0 ∷ 0 ∷ 0 ∷ []) .station), 0x11 ∷ 0x48 ∷ 0 ∷ 0 ∷ 0 ∷ 0 ∷ 8 ∷ [])
-    ∷ []
-
-pub written-hold : Hold written
-unfolding openOf stationAt headerAt fieldAt valueAt refuseIf recordsAt endAt endsAt recordAt passAt persistenceAt scanlinesAt countAt limitedAt finiteAt
-    ofBits toBits lt eq limitOf plusZeroOf clampOf cardOf chainCard pack valueOf chainBits recordsBits recordBits passBits bits
-written-hold = refl
+use Rattle.cards.specs.declared.station.Pass.the-variants.{Persistence, Lut, ColorCorrection, Scanlines}
+use Rattle.cards.specs.declared.station.Record.{Record}
+use Rattle.cards.specs.declared.station.Station.{Station}
 
 -- persistence of depth 8, on and off, and scanlines
 abbrev kept : Bool → Station
@@ -164,9 +94,9 @@ reports =
 pub reports-hold : Hold reports
 unfolding frameReplyBy unless shownBy stops badSide goodStation fineHeld sameHeld normalChain normalPass settled persists depth fold turnBy
     overBy wash ofBits ofInt add sub mul div neg lt clampOf cutOf rewrite sum converted Text.Pixel.unpack Text.Pixel.unit Text.Pixel.pack
-    Text.Pixel.packLimited Text.Pixel.packUnit Text.Pixel.clip Text.Pixel.clips Text.Pixel.dim Text.Pixel.luma709
+    Text.Pixel.packClamped Text.Pixel.packUnit Text.Pixel.clip Text.Pixel.clips Text.Pixel.dim Text.Pixel.luma709
     Text.ColorCorrection.colorCorrection Text.ColorCorrection.colour Text.Lut.lut Text.Lut.colour Text.Lut.transform
     Text.Scanlines.scanlines Text.Scanlines.inRow Text.Persistence.persistence Text.Persistence.decay Text.Persistence.total
-    Text.Persistence.add Text.Persistence.mix Text.Persistence.blended Text.Persistence.blend Persistence.copies Persistence.refilled
+    Text.Persistence.add Text.Persistence.mix Text.Persistence.blend Persistence.copies Persistence.refilled
     Persistence.shifted
 reports-hold = refl

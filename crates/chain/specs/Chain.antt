@@ -2,9 +2,10 @@
 use Prim.Native.Nat.{ℕ, _+_}
 use mathlib.Core.Bool.{cond}
 use mathlib.Core.List.{List, [], _∷_}
+use Rattle.num.specs.Held.{sized}
 use Rattle.passes.specs.Arith.{Arith, plain}
 use Rattle.passes.specs.Fold.{fold}
-use Rattle.passes.specs.Flow.{sized, Flow, flow}
+use Rattle.passes.specs.Flow.{Flow, flow}
 use Rattle.passes.specs.Painted.{Painted, onto, unclipped}
 use Rattle.passes.specs.Ntsc.{ntsc}
 use Rattle.passes.specs.Bloom.{bloom}
@@ -16,10 +17,10 @@ use Rattle.passes.specs.ColorCorrection.{colorCorrection}
 use Rattle.passes.specs.Crt.{crt}
 use Rattle.passes.specs.Vignette.{vignette}
 use Rattle.passes.specs.Scanlines.{scanlines}
-use Rattle.chain.specs.declared.station.Pass.{Pass}
-use Rattle.chain.specs.declared.station.Pass.the-variants.{Ntsc, Bloom, AutoGradient, Persistence, Lut, Curvature}
-use Rattle.chain.specs.declared.station.Pass.the-variants.{ColorCorrection, Crt, Vignette, Scanlines}
-use Rattle.chain.specs.declared.station.Record.{Record}
+use Rattle.cards.specs.declared.station.Pass.{Pass}
+use Rattle.cards.specs.declared.station.Pass.the-variants.{Ntsc, Bloom, AutoGradient, Persistence, Lut, Curvature}
+use Rattle.cards.specs.declared.station.Pass.the-variants.{ColorCorrection, Crt, Vignette, Scanlines}
+use Rattle.cards.specs.declared.station.Record.{Record}
 
 -- a pass without memory: what it clips is added to what was clipped before
 unfoldable pub wash : (List ℕ → Painted) → Flow → Flow

@@ -7,10 +7,10 @@ use lib.ListN.{length, getD}
 use lib.Ieee.{Float}
 use Rattle.passes.specs.Rows.{Frame}
 use Rattle.chain.specs.Chain.{depthOf}
-use Rattle.chain.specs.Normal.{normalPass}
-use Rattle.chain.specs.Passes.{kindOf}
-use Rattle.chain.specs.declared.station.Pass.{Pass}
-use Rattle.chain.specs.declared.station.Record.{Record}
+use Rattle.cards.specs.Normal.{normalPass}
+use Rattle.cards.specs.Passes.{kindOf}
+use Rattle.cards.specs.declared.station.Pass.{Pass}
+use Rattle.cards.specs.declared.station.Record.{Record}
 
 -- a frame, six f32 words and one u32 word of scratch for each of its words
 pub record Lent (w h : ℕ) (frame : List ℕ) (floats : List Float) (ints : List ℕ) : Type 0 where

@@ -1,19 +1,6 @@
--- Readers: Step, Bits, Settings, Passes, Records, Card. Writers: Written, Sheet, Write. The station test: Normal. What
--- is proved of them: Alike, Typed, Claims. The calls: Chain, Lent, Calls, Answers. The plain machine and demand 3:
--- Machine, Agree. What the number steps leave undefined is not met: Numbers. A still picture stays still: StillPicture.
--- Worked cases: Cases, Marked.
-pub mod Step
-pub mod Bits
-pub mod Settings
-pub mod Passes
-pub mod Records
-pub mod Card
-pub mod Written
-pub mod Normal
-pub mod Sheet
-pub mod Write
-pub mod Alike
-pub mod Typed
+-- The calls: Chain, Lent, Calls, Answers. The plain machine and demand 3: Machine, Agree. What is proved of single calls:
+-- Claims. What the number steps leave undefined is not met: Numbers. A still picture stays still: StillPicture. Worked
+-- cases: Cases, Marked.
 pub mod Claims
 pub mod Chain
 pub mod Lent

@@ -3,8 +3,9 @@ use Prim.Native.Nat.{ℕ, _*_}
 use mathlib.Core.Bool.{Bool}
 use mathlib.Core.List.{List, [], _∷_, _++_}
 use lib.ListN.{take, drop}
-use Rattle.chain.specs.Calls.{Report, refusal, acceptance, Reply, resetReply, switchReply, stepReply, Framed, frameReply}
-use Rattle.chain.specs.declared.station.Station.{Station}
+use Rattle.cards.specs.Answers.{Report, refusal, acceptance, Reply}
+use Rattle.chain.specs.Calls.{resetReply, switchReply, stepReply, Framed, frameReply}
+use Rattle.cards.specs.declared.station.Station.{Station}
 
 -- a frame brings its framebuffer; of the history and of both scratches, how many words are lent
 pub data Call : Type 0 where

@@ -6,30 +6,31 @@ use mathlib.Core.Path.{_≡_, refl}
 use lib.Ieee.{binary32, ofBits, toBits, ofInt, add, sub, mul, div, neg, lt, le, eq}
 use Rattle.num.specs.Const.{c0·0, c0·5, c1·0, c2·0, c3·0}
 use Rattle.num.specs.F32.{dec}
+use Rattle.num.specs.Held.{sameHeld, fineHeld}
 use Rattle.num.specs.Refusals.{badSide, unless}
 use Rattle.num.specs.Rewrite.{rewrite}
 use Rattle.num.specs.Root.{rootOf}
 use Rattle.num.specs.Steps.{clampOf, minOf, maxOf, absOf, cutOf, roundOf, plusZeroOf, limitOf}
 use Rattle.passes.specs as Text
-use Rattle.passes.specs.Flow.{sameHeld, fineHeld, Flow}
+use Rattle.passes.specs.Flow.{Flow}
 use Rattle.passes.specs.Fold.{fold}
 use Rattle.passes.specs.Painted.{converted}
 use Rattle.passes.specs.Plain.Persistence as Persistence
 use Rattle.chain.specs.Agree.{opened}
-use Rattle.chain.specs.Alike.{chainOf}
-use Rattle.chain.specs.Bits.{valueAt, fieldAt}
+use Rattle.cards.specs.Alike.{chainOf}
+use Rattle.cards.specs.Bits.{valueAt, fieldAt}
 use Rattle.chain.specs.Calls.{stops, shownBy, frameReplyBy}
-use Rattle.chain.specs.Card.{stationOf, headerAt, recordsAt, endsAt, endAt, stationAt, accepted, openOf}
+use Rattle.cards.specs.Card.{stationOf, headerAt, recordsAt, endsAt, endAt, stationAt, accepted, openOf}
 use Rattle.chain.specs.Chain.{wash, overBy, turnBy, chain, depth}
 use Rattle.chain.specs.Machine.{frame, call, after, saw}
-use Rattle.chain.specs.Normal.{settled, normalPass, normalChain, persists, goodStation}
-use Rattle.chain.specs.Passes.{passAt, autoGradientAt, persistenceAt, curvatureAt, colorCorrectionAt, crtAt}
-use Rattle.chain.specs.Passes.{vignetteAt, scanlinesAt}
-use Rattle.chain.specs.Records.{recordAt}
-use Rattle.chain.specs.Settings.{finiteAt, limitedAt, withinAt, gainAt, countAt}
-use Rattle.chain.specs.Step.{refuseIf}
-use Rattle.chain.specs.Written.{bits, passBits, recordBits, recordsBits, chainBits, valueOf, pack as packBytes}
-use Rattle.chain.specs.Written.{chainCard, cardOf}
+use Rattle.cards.specs.Normal.{settled, normalPass, normalChain, persists, goodStation}
+use Rattle.cards.specs.Passes.{passAt, autoGradientAt, persistenceAt, curvatureAt, colorCorrectionAt, crtAt}
+use Rattle.cards.specs.Passes.{vignetteAt, scanlinesAt}
+use Rattle.cards.specs.Records.{recordAt}
+use Rattle.cards.specs.Settings.{finiteAt, limitedAt, withinAt, gainAt, countAt}
+use Rattle.cards.specs.Step.{refuseIf}
+use Rattle.cards.specs.Written.{bits, passBits, recordBits, recordsBits, chainBits, valueOf, pack as packBytes}
+use Rattle.cards.specs.Written.{chainCard, cardOf}
 
 -- the pictures of frames of that size, one after the other, from a station that is opened from the card
 abbrev pub shows : (card : List ℕ) (w h : ℕ) → List (List ℕ) → List (List ℕ)
@@ -80,14 +81,14 @@ pub record Marked : Type 0 where
 pub marked : Marked
 unfolding dec ofBits toBits ofInt add sub mul div neg lt le eq clampOf minOf maxOf absOf cutOf roundOf plusZeroOf
     limitOf rootOf rewrite fold sameHeld fineHeld Text.Pixel.unpack Text.Pixel.unit Text.Pixel.pack
-    Text.Pixel.packNearest Text.Pixel.packLimited Text.Pixel.packUnit Text.Pixel.dim Text.Pixel.luma709
-    Text.Position.position Text.Scanlines.scanlines Text.Scanlines.inRow Text.Vignette.vignette Text.Vignette.square
+    Text.Pixel.packNearest Text.Pixel.packClamped Text.Pixel.packUnit Text.Pixel.dim Text.Pixel.luma709
+    Text.Position.position Text.Scanlines.scanlines Text.Scanlines.inRow Text.Vignette.vignette Text.Vignette.offsetSquared
     Text.Vignette.factor Text.Crt.crt Text.Crt.beam Text.Crt.phosphor Text.Crt.offset Text.Crt.edge Text.Crt.shade
     Text.Curvature.curvature Text.Curvature.bend Text.Curvature.sample Text.Curvature.outside
     Text.AutoGradient.autoGradient Text.AutoGradient.shaded Text.AutoGradient.adaptive Text.AutoGradient.addLuma
     Text.AutoGradient.warm Text.AutoGradient.fall Text.AutoGradient.brightness Text.AutoGradient.shade Text.Persistence.persistence
     Text.Persistence.decay Text.Persistence.total Text.Persistence.add Text.Persistence.mix converted
-    Text.Persistence.blended Text.Persistence.blend Persistence.copies Persistence.refilled Persistence.shifted
+    Text.Persistence.blend Persistence.copies Persistence.refilled Persistence.shifted
     Text.ColorCorrection.colorCorrection Text.ColorCorrection.colour openOf stationAt headerAt fieldAt valueAt refuseIf
     recordsAt endAt endsAt recordAt passAt autoGradientAt persistenceAt curvatureAt colorCorrectionAt crtAt vignetteAt
     scanlinesAt finiteAt limitedAt withinAt gainAt countAt cardOf chainCard packBytes valueOf chainBits recordsBits

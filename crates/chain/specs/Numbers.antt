@@ -12,13 +12,13 @@ use Rattle.passes.specs.Arith.{Arith, Agrees}
 use Rattle.passes.specs.Casts.{casts, checked}
 use Rattle.passes.specs.Flow.{Flow}
 use Rattle.passes.specs.Rows.{Frame}
-use Rattle.chain.specs.Alike.{chainOf}
+use Rattle.cards.specs.Alike.{chainOf}
 use Rattle.chain.specs.Calls.{frameReplyBy, frameReply}
 use Rattle.chain.specs.Chain.{overBy, over, depthOf}
-use Rattle.chain.specs.Normal.{normalPass}
-use Rattle.chain.specs.Typed.{Typed, TypedChain}
-use Rattle.chain.specs.declared.station.Pass.{Pass}
-use Rattle.chain.specs.declared.station.Station.{Station}
+use Rattle.cards.specs.Normal.{normalPass}
+use Rattle.cards.specs.Typed.{Typed, TypedChain}
+use Rattle.cards.specs.declared.station.Pass.{Pass}
+use Rattle.cards.specs.declared.station.Station.{Station}
 
 -- each pass with normalised settings, over any words of a frame with sides up to 1024
 abbrev pub Pass-inside : Arith → Type 0

@@ -8,11 +8,12 @@ use mathlib.Core.List.{List, [], _∷_}
 use lib.ListN.{take, drop}
 use lib.Ieee.{Float}
 use Rattle.passes.specs.Still.{Still}
-use Rattle.chain.specs.Agree.{SameCall, ok, Made}
-use Rattle.chain.specs.Alike.{chainOf}
+use Rattle.cards.specs.Answers.{ok}
+use Rattle.chain.specs.Agree.{SameCall, Made}
+use Rattle.cards.specs.Alike.{chainOf}
 use Rattle.chain.specs.Machine.{Call, frame, reset, State, Seen, saw}
-use Rattle.chain.specs.declared.station.Pass.the-variants.{Persistence}
-use Rattle.chain.specs.declared.station.Record.{Record}
+use Rattle.cards.specs.declared.station.Pass.the-variants.{Persistence}
+use Rattle.cards.specs.declared.station.Record.{Record}
 
 -- a chain of persistence alone, on or off
 abbrev pub alone : Bool → Float → ℕ → List Record

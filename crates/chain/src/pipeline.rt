@@ -5,22 +5,23 @@ ghost use Prim.Native.Nat.{_≤_, _<_};
 ghost use mathlib.Core.Bool.{true};
 ghost use mathlib.Core.List.{[], _∷_};
 ghost use lib.ListN.{take};
-ghost use Rattle.chain.specs.Alike.{chainOf};
+ghost use Rattle.cards.specs.Alike.{chainOf};
 ghost use Rattle.chain.specs.Chain.{depth as depthIn};
 ghost use Rattle.chain.specs.Calls.{heldAfter, next as nextOf, steppedPass, presetOf, resetReply, switchReply, stepReply};
 ghost use Rattle.chain.specs.Lent.{First};
-ghost use Rattle.chain.specs.Passes.{kindOf};
+ghost use Rattle.cards.specs.Passes.{kindOf};
 ghost use Rattle.chain.specs.Answers.{called, cycled, Applies};
-ghost use Rattle.chain.specs.Records.{kinds, among};
+ghost use Rattle.cards.specs.Records.{kinds, among};
 use super::refusals::depth;
 use super::refusals::lacks;
 use super::refusals::stops;
 use super::run::run_chain;
-use super::station::Answer;
-use super::station::Pass;
-use super::station::Record;
-use super::station::Station;
-use super::station::kind_of;
+use cards::station::Answer;
+use cards::station::Pass;
+use cards::station::Record;
+use cards::station::Station;
+use cards::station::few;
+use cards::station::kind_of;
 
 // What a reset and a switch answer, with the station.
 pub struct Called {
@@ -50,16 +51,12 @@ pub struct Cycled {
     pub station: Station,
 }
 
-// Document 01's K: how many older frames the history has places for. No more than ten records are there, whatever n says.
+// Document 01's K: how many older frames the history has places for.
 pub fn places(station: Station) -> usize
     ensures { λ r. ⌜ (r ≡ depthIn (chainOf station)) × (r ≤ 2550) ⌝ }
 {
     let records = station.records;
-    let n = station.n;
-    if 10 < n {
-        return depth(records, 10);
-    }
-    depth(records, n)
+    depth(records, few(station.n))
 }
 
 // A frame: the passes that are on, in the card's order, over the first count words of the framebuffer. The first 6 * count words of `floats` and the first
@@ -198,10 +195,15 @@ pub fn set_enabled(station: Station, kind: u8, on: bool) -> Called
 pub(crate) fn next(preset: u8) -> u8
     ensures { λ r. ⌜ r ≡ nextOf preset ⌝ }
 {
-    if preset < 6 {
-        return preset + 1;
+    match preset {
+        0 => 1,
+        1 => 2,
+        2 => 3,
+        3 => 4,
+        4 => 5,
+        5 => 6,
+        _ => 0,
     }
-    0
 }
 
 // A LUT with its next preset; any other pass stays.

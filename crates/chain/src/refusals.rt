@@ -4,11 +4,11 @@ ghost use Prim.Native.Nat.{_≤_, _*_};
 ghost use lib.ListN.{take};
 ghost use Rattle.chain.specs.Chain.{depthOf, depth as depthIn};
 ghost use Rattle.chain.specs.Calls.{stops as stopsBy, lacks as lacksAt};
-use super::check::is_good;
-use super::station::Pass;
-use super::station::Record;
-use super::station::Station;
-use super::station::holds;
+use cards::check::is_good;
+use cards::station::Pass;
+use cards::station::Record;
+use cards::station::Station;
+use cards::station::has_kind;
 use num::size::bad_side;
 
 // How many older frames a pass keeps.
@@ -37,8 +37,9 @@ pub(crate) fn depth(records: [Record; 10], n: usize) -> usize
     sum
 }
 
-// Of a frame, by the lengths of what is lent.
-pub(crate) fn stops(
+// Of a frame, by the lengths of what is lent: what `apply` would refuse it by. Nothing is changed, so a caller may ask before it
+// writes the frame's words.
+pub fn stops(
     station: Station,
     width: usize,
     height: usize,
@@ -83,9 +84,7 @@ pub(crate) fn lacks(station: Station, kind: u8) -> u8
     if !is_good(station) {
         return 13;
     }
-    let n = station.n;
-    let records = station.records;
-    if holds(records, n, kind) {
+    if has_kind(station, kind) {
         return 0;
     }
     12

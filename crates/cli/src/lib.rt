@@ -2,5 +2,6 @@
 // words.
 pub mod input; // arguments, files, cards
 pub mod memory; // the buffers that a frame's file is read into
+pub mod names; // passes and settings by name
 pub mod says; // lines behind an argument, words on standard error
 pub mod words; // refusals in words

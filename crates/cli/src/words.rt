@@ -1,5 +1,8 @@
 // Refusals in words, and why a file is no frame.
-use chain::reader;
+use super::names;
+use cards::reader;
+use inspect::layout::Field;
+use inspect::layout::field_at;
 
 // The trade's word of document 01's table.
 fn word(fd: i32, number: u8) {
@@ -16,14 +19,60 @@ fn word(fd: i32, number: u8) {
     ;
 }
 
-// Why the card is refused, and where reading it stopped.
+// Pass i, counted from 0 there and from 1 here.
+fn pass(fd: i32, i: usize) {
+    io::write_all(fd, b" of pass ");
+    if i < 10 {
+        io::print_decimal(fd, (i + 1) as u64);
+    }
+}
+
+// The same, with its kind.
+fn named(fd: i32, i: usize, kind: u8) {
+    pass(fd, i);
+    io::write_all(fd, b", ");
+    names::kind(fd, kind);
+}
+
+// A field of a card.
+fn field(fd: i32, f: Field) {
+    match f {
+        Field::Version => {
+            io::write_all(fd, b"the version");
+        }
+        Field::Passes => {
+            io::write_all(fd, b"the number of passes");
+        }
+        Field::Kind(i) => {
+            io::write_all(fd, b"the kind");
+            pass(fd, i);
+        }
+        Field::Switch(i, kind) => {
+            io::write_all(fd, b"the switch");
+            named(fd, i, kind);
+        }
+        Field::Setting(i, kind, j) => {
+            io::write_all(fd, b"the ");
+            names::setting(fd, kind, j);
+            named(fd, i, kind);
+        }
+        Field::Rest => {
+            io::write_all(fd, b"after the last pass");
+        }
+    }
+}
+
+// Why the card is refused, and where reading it stopped: at which bit, and in which field.
 pub fn refused(fd: i32, card: &[u8], number: u8) {
+    let at = reader::stopped(card);
     io::write_all(fd, b"refused: ");
     io::print_decimal(fd, number as u64);
     io::write_all(fd, b", ");
     word(fd, number);
     io::write_all(fd, b"; reading stopped at bit ");
-    io::print_decimal(fd, reader::stopped(card) as u64);
+    io::print_decimal(fd, at as u64);
+    io::write_all(fd, b": ");
+    field(fd, field_at(card, at));
     io::write_all(fd, b"\n");
 }
 

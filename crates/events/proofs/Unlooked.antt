@@ -11,7 +11,7 @@ use lib.ListN.{length, take, drop}
 use lib.Seq.{getD-take, take-all, take-take, take-nil, drop-nil}
 use Rattle.num.specs.Refusals.{unless}
 use Rattle.chain.specs.Calls.{switchReply}
-use Rattle.chain.specs.declared.station.Station.{Station}
+use Rattle.cards.specs.declared.station.Station.{Station}
 use Rattle.raster.specs.Pixels.{byteAt, pixelAt, unpacked}
 use Rattle.events.specs.Events.{headWanted, cardIn, letterIn, countIn, badSize, kindIn, positionIn, frameWanted, eventWanted, frameFault, switchFault, eventFault}
 use Rattle.events.specs.Play.{Outcome, answered, framePlayed, called, ending, playedOf}

@@ -1,14 +1,13 @@
 -- What an event of program `station` does and prints. The framebuffer has 1,024 words, of which a frame is lent just its own. Assumes nothing.
-use Prim.Native.Nat.{ℕ, zero, suc}
+use Prim.Native.Nat.{ℕ, zero, suc, _*_}
 use mathlib.Core.Bool.{Bool, true, false, cond}
 use mathlib.Core.List.{List, [], _++_}
 use lib.Dec.{eqb}
 use lib.ListN.{length, drop}
 use Rattle.num.specs.Refusals.{unless}
-use Rattle.chain.specs.Calls.{Report, refusal, acceptance, Reply, Framed, resetReply, switchReply, stepReply, frameReply}
-use Rattle.chain.specs.declared.station.Answer.{Answer}
-use Rattle.chain.specs.declared.station.Answer.the-variants.{Accepted, Refused}
-use Rattle.chain.specs.declared.station.Station.{Station}
+use Rattle.cards.specs.Answers.{Report, refusal, acceptance, Reply}
+use Rattle.chain.specs.Calls.{Framed, stops, resetReply, switchReply, stepReply, frameReply}
+use Rattle.cards.specs.declared.station.Station.{Station}
 use Rattle.raster.specs.Pixels.{unpacked}
 use Rattle.events.specs.Events.{letterIn, widthIn, heightIn, countIn, kindIn, positionIn, eventFault}
 use Rattle.events.specs.Text.{F, L, R, S, E, numberOf, numbersOf, pixelsOf, line}
@@ -30,44 +29,67 @@ pictured (acceptance ns) words = line F (pixelsOf words)
 
 -- ## The card: an accepted one prints nothing
 
-abbrev pub openText : Answer → List ℕ
-openText Accepted = []
-openText (Refused k) = refusalLine k
-
-abbrev pub isOpen : Answer → Bool
-isOpen Accepted = true
-isOpen (Refused k) = false
+abbrev pub openText : Report → List ℕ
+openText (refusal k) = refusalLine k
+openText (acceptance ns) = []
 
 -- ## Events
 
--- the station after an event, the words of the framebuffer and of the history, what is printed, and whether the next event is read
+-- the station after an event, the words of the framebuffer and of the history, what is printed, whether the next event is read, and of how
+-- many pixels the scratch may have changed
 pub record Outcome : Type 0 where
   pub station : Station
   pub words : List ℕ
   pub past : List ℕ
   pub text : List ℕ
   pub more : Bool
+  pub free : ℕ
 
+-- of all but an accepted frame: no scratch is changed
 abbrev pub outcome : Station → (words past text : List ℕ) → Bool → Outcome
-outcome s words past text more = record { station = s; words = words; past = past; text = text; more = more }
+outcome s words past text more = record { station = s; words = words; past = past; text = text; more = more; free = 0 }
 
 abbrev pub answered : ℕ → Reply → (words past : List ℕ) → Outcome
 answered letter r words past = outcome (r .station) words past (spoken letter (r .answer)) true
 
--- a frame, whose words are all that is lent of the framebuffer
-abbrev pub shown : Framed → Outcome
-shown r = outcome (r .station) (r .words) (r .past) (pictured (r .answer) (r .words)) true
+-- an accepted frame of count words, which are all that is lent of the framebuffer
+abbrev pub shown : ℕ → Framed → Outcome
+shown count r = record {
+  station = r .station;
+  words = r .words;
+  past = r .past;
+  text = pictured (r .answer) (r .words);
+  more = true;
+  free = count;
+}
 
 -- 6,144 f32 words and 1,024 u32 words are lent to each frame, and the whole history
-abbrev pub frameReplied : List ℕ → Station → (past : List ℕ) → Framed
-frameReplied bytes s past = frameReply (widthIn bytes) (heightIn bytes) s (unpacked (countIn bytes) (drop 3 bytes)) past 6144 1024
+abbrev pub frameReplied : (w h : ℕ) → Station → (pixels past : List ℕ) → Framed
+frameReplied w h s pixels past = frameReply w h s (unpacked (h * w) pixels) past 6144 1024
+
+-- a frame that the station refuses leaves all that is lent; `taken` is what else becomes of it
+abbrev pub asked : (w h : ℕ) → Station → (words past : List ℕ) → Outcome → Outcome
+asked w h s words past taken =
+    unless (stops s w h (h * w) (length past) 6144 1024) (λ k. outcome s words past (refusalLine k) true) taken
+
+abbrev pub showPlayed : (w h : ℕ) → Station → (pixels words past : List ℕ) → Outcome
+showPlayed w h s pixels words past = asked w h s words past (shown (h * w) (frameReplied w h s pixels past))
 
 -- the other words of the framebuffer stay
 abbrev pub among : ℕ → List ℕ → Outcome → Outcome
-among count words o = outcome (o .station) (o .words ++ drop count words) (o .past) (o .text) (o .more)
+among count words o = record {
+  station = o .station;
+  words = o .words ++ drop count words;
+  past = o .past;
+  text = o .text;
+  more = o .more;
+  free = o .free;
+}
 
 abbrev pub framePlayed : List ℕ → Station → (words past : List ℕ) → Outcome
-framePlayed bytes s words past = among (countIn bytes) words (shown (frameReplied bytes s past))
+framePlayed bytes s words past =
+    asked (widthIn bytes) (heightIn bytes) s words past
+    (among (countIn bytes) words (shown (countIn bytes) (frameReplied (widthIn bytes) (heightIn bytes) s (drop 3 bytes) past)))
 
 -- an event without fault, by its letter
 unfoldable pub called : List ℕ → Station → (words past : List ℕ) → Outcome

@@ -3,11 +3,11 @@ use Prim.Native.Nat.{ℕ, zero, suc}
 use mathlib.Core.Bool.{cond}
 use mathlib.Core.List.{List, [], _++_}
 use lib.ListN.{length, take, drop, replicate}
-use Rattle.chain.specs.Card.{openOf}
-use Rattle.chain.specs.declared.reader.Opened.{Opened}
-use Rattle.chain.specs.declared.station.Station.{Station}
+use Rattle.cards.specs.Answers.{ok, Reply}
+use Rattle.cards.specs.Card.{openOf}
+use Rattle.cards.specs.declared.station.Station.{Station}
 use Rattle.events.specs.Events.{headWanted, cardIn, eventWanted}
-use Rattle.events.specs.Play.{Outcome, openText, isOpen, playedOf}
+use Rattle.events.specs.Play.{Outcome, openText, playedOf}
 
 -- the bytes of the event at the start of an input, as far as the input has them
 abbrev pub eventBytes : List ℕ → List ℕ
@@ -26,5 +26,5 @@ eventLines (suc n) input s words past =
 -- after the card; an input has no more events than bytes
 unfoldable pub printed : List ℕ → List ℕ
 printed input =
-    let o : Opened = openOf (cardIn (headBytes input)) in
-    openText (o .answer) ++ cond (isOpen (o .answer)) (eventLines (length input) (drop (headWanted input) input) (o .station) (replicate 1024 0) (replicate 8192 0)) []
+    let o : Reply = openOf (cardIn (headBytes input)) in
+    openText (o .answer) ++ cond (ok (o .answer)) (eventLines (length input) (drop (headWanted input) input) (o .station) (replicate 1024 0) (replicate 8192 0)) []

@@ -4,8 +4,8 @@ use mathlib.Core.Path.{_≡_}
 use mathlib.Core.Bool.{Bool}
 use mathlib.Core.List.{List}
 use lib.Ieee.{Float}
-use lib.ListN.{length}
-use Rattle.chain.specs.declared.station.Station.{Station}
+use lib.ListN.{length, drop}
+use Rattle.cards.specs.declared.station.Station.{Station}
 use Rattle.events.specs.Buffers.{Printed}
 use Rattle.events.specs.Play.{Outcome}
 use Rattle.events.specs.declared.play.Played.{Played}
@@ -31,8 +31,10 @@ pub record Lent (words : List ℕ) (floats : List Float) (ints out : List ℕ) :
   pub ints-room : length ints ≡ 1024
   pub out-room : length out ≡ 7170
 
--- the framebuffer and the history too; scratch may hold anything
-pub record Gives (o : Outcome) (r : Played) (words′ past′ : List ℕ) (out out′ : List ℕ) : Type 0 where
+-- the framebuffer and the history too, and the scratch words that stay: past the free ones, six f32 words and one u32 word for each pixel
+pub record Gives (o : Outcome) (r : Played) (words′ past′ : List ℕ) (floats floats′ : List Float) (ints ints′ out out′ : List ℕ) : Type 0 where
   pub words : words′ ≡ o .words
   pub past : past′ ≡ o .past
+  pub floats-stay : drop (6 * o .free) floats′ ≡ drop (6 * o .free) floats
+  pub ints-stay : drop (o .free) ints′ ≡ drop (o .free) ints
   pub says : Says (o .station) (o .text) (o .more) r out out′

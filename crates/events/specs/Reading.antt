@@ -4,7 +4,7 @@ use Prim.Native.Nat.{ℕ, _≤_}
 use mathlib.Core.Path.{_≡_}
 use mathlib.Core.List.{List}
 use lib.ListN.{length, take}
-use Rattle.chain.specs.declared.station.Station.{Station}
+use Rattle.cards.specs.declared.station.Station.{Station}
 use Rattle.events.specs.Events.{headWanted, cardIn, eventWanted}
 use Rattle.events.specs.Play.{playedOf}
 use Rattle.events.specs.Program.{eventBytes, headBytes}

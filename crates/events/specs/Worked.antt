@@ -3,22 +3,22 @@ use Prim.Native.Nat.{ℕ}
 use mathlib.Core.List.{List, [], _∷_}
 use mathlib.Core.Path.{_≡_, refl}
 use lib.Ieee.{ofBits, ofInt, sub, mul, div, lt}
+use Rattle.num.specs.Held.{sameHeld, fineHeld}
 use Rattle.num.specs.Refusals.{badSide, unless}
 use Rattle.num.specs.F32.{dec}
 use Rattle.passes.specs as Text
 use Rattle.passes.specs.Fold.{fold}
 use Rattle.num.specs.Rewrite.{rewrite}
 use Rattle.num.specs.Steps.{cutOf, plusZeroOf, limitOf}
-use Rattle.passes.specs.Flow.{sameHeld, fineHeld}
-use Rattle.chain.specs.Bits.{valueAt, fieldAt}
+use Rattle.cards.specs.Bits.{valueAt, fieldAt}
 use Rattle.chain.specs.Calls.{stops, lacks, shownBy, frameReplyBy}
-use Rattle.chain.specs.Card.{headerAt, recordsAt, endsAt, endAt, stationAt, openOf}
+use Rattle.cards.specs.Card.{headerAt, recordsAt, endsAt, endAt, stationAt, openOf}
 use Rattle.chain.specs.Chain.{wash, overBy, turnBy, depth}
-use Rattle.chain.specs.Normal.{settled, normalPass, normalChain, persists, goodStation}
-use Rattle.chain.specs.Passes.{passAt, scanlinesAt}
-use Rattle.chain.specs.Records.{recordAt}
-use Rattle.chain.specs.Settings.{finiteAt, limitedAt}
-use Rattle.chain.specs.Step.{refuseIf}
+use Rattle.cards.specs.Normal.{settled, normalPass, normalChain, persists, goodStation}
+use Rattle.cards.specs.Passes.{passAt, scanlinesAt}
+use Rattle.cards.specs.Records.{recordAt}
+use Rattle.cards.specs.Settings.{finiteAt, limitedAt}
+use Rattle.cards.specs.Step.{refuseIf}
 use Rattle.raster.specs.Pixels.{unpacked}
 use Rattle.events.specs.Events.{headWanted, cardIn, outside, frameWanted, eventWanted, frameFault, eventFault}
 use Rattle.events.specs.Play.{called, playedOf}

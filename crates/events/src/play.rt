@@ -3,27 +3,28 @@ ghost use mathlib.Core.Path.{_≡_};
 ghost use mathlib.Core.Bool.{true};
 ghost use Prim.Native.Nat.{_*_, _≤_};
 ghost use lib.ListN.{length};
-ghost use Rattle.chain.specs.Answers.{reported, reportedFrame, reportedStep};
-ghost use Rattle.chain.specs.Calls.{resetReply, switchReply, stepReply, frameReply};
-ghost use Rattle.chain.specs.Card.{openOf};
+ghost use Rattle.cards.specs.Answers.{ok, reported, opened};
+ghost use Rattle.chain.specs.Answers.{reportedFrame, reportedStep};
+ghost use Rattle.chain.specs.Calls.{resetReply, switchReply, stepReply};
+ghost use Rattle.cards.specs.Card.{openOf};
 ghost use Rattle.events.specs.Events.{cardIn, Whole};
-ghost use Rattle.events.specs.Play.{spoken, pictured, openText, isOpen, shown, framePlayed, playedOf};
+ghost use Rattle.events.specs.Play.{spoken, pictured, openText, showPlayed, framePlayed, playedOf};
 ghost use Rattle.events.specs.Buffers.{Printed};
 ghost use Rattle.events.specs.Promises.{Lent, Room, Says, Gives};
 ghost use Rattle.events.specs.Text.{L, R, S};
-ghost use Rattle.raster.specs.Pixels.{unpacked};
 use super::event::event_fault;
 use super::event::head_wanted;
 use super::text::frame_line;
 use super::text::letter_line;
 use super::text::number_line;
+use cards::reader;
+use cards::reader::Opened;
+use cards::station::Answer;
+use cards::station::Station;
 use chain::pipeline;
 use chain::pipeline::Cycle;
 use chain::pipeline::FrameAnswer;
-use chain::reader;
-use chain::reader::Opened;
-use chain::station::Answer;
-use chain::station::Station;
+use chain::refusals::stops;
 use raster::pixels::at;
 use raster::pixels::unpack;
 
@@ -85,7 +86,8 @@ fn reset(station: Station, out: &mut [u8]) -> Played
 
 fn switch(station: Station, kind: u8, on: bool, out: &mut [u8]) -> Played
     requires { ⌜ 6 ≤ length (now out) ⌝ }
-    ensures { λ r. ⌜ Says (switchReply kind on station .station) (spoken S (switchReply kind on station .answer)) true r (now (out .entry)) (now (out .exit)) ⌝ }
+    ensures { λ r. ⌜ Says (switchReply kind on station .station) (spoken S (switchReply kind on station .answer)) true
+        r (now (out .entry)) (now (out .exit)) ⌝ }
 {
     let called = pipeline::set_enabled(station, kind, on);
     let answer = called.answer;
@@ -113,7 +115,7 @@ fn step(station: Station, out: &mut [u8]) -> Played
     }
 }
 
-// A frame, whose words are all that is lent of the framebuffer.
+// A frame, whose words are all that is lent of the framebuffer. They are written once the station takes it.
 fn show(
     station: Station,
     pixels: &[u8],
@@ -126,8 +128,27 @@ fn show(
     out: &mut [u8],
 ) -> Played
     requires { ⌜ Room (height * width) (now words) (now pixels) (now floats) (now ints) (now out) ⌝ }
-    ensures { λ r. ⌜ Gives (shown (frameReply width height station (unpacked (height * width) (now (pixels .entry))) (now (history .entry)) 6144 1024)) r (now (words .exit)) (now (history .exit)) (now (out .entry)) (now (out .exit)) ⌝ }
+    ensures { λ r. ⌜ Gives (showPlayed width height station (now (pixels .entry)) (now (words .entry)) (now (history .entry)))
+        r (now (words .exit)) (now (history .exit)) (now (floats .entry)) (now (floats .exit))
+        (now (ints .entry)) (now (ints .exit)) (now (out .entry)) (now (out .exit)) ⌝ }
 {
+    let refusal = stops(
+        station,
+        width,
+        height,
+        words.len(),
+        history.len(),
+        floats.len(),
+        ints.len(),
+    );
+    if refusal != 0 {
+        let length = number_line(out, b'E', refusal);
+        return Played {
+            station,
+            length,
+            more: true,
+        };
+    }
     unpack(words, pixels);
     let applied = pipeline::apply(station, words, width, height, history, floats, ints);
     let answer = applied.answer;
@@ -151,7 +172,9 @@ fn frame(
     out: &mut [u8],
 ) -> Played
     requires { ⌜ Whole (now bytes) ⌝ ∗ ⌜ Lent (now framebuffer) (now floats) (now ints) (now out) ⌝ }
-    ensures { λ r. ⌜ Gives (framePlayed (now (bytes .entry)) station (now (framebuffer .entry)) (now (history .entry))) r (now (framebuffer .exit)) (now (history .exit)) (now (out .entry)) (now (out .exit)) ⌝ }
+    ensures { λ r. ⌜ Gives (framePlayed (now (bytes .entry)) station (now (framebuffer .entry)) (now (history .entry)))
+        r (now (framebuffer .exit)) (now (history .exit)) (now (floats .entry)) (now (floats .exit))
+        (now (ints .entry)) (now (ints .exit)) (now (out .entry)) (now (out .exit)) ⌝ }
 {
     let width = at(bytes, 1);
     let height = at(bytes, 2);
@@ -171,7 +194,7 @@ fn frame(
 
 // The card of an input that begins with these bytes, which are all that it had of the card. An empty card is torn.
 fn open(bytes: &[u8]) -> Opened
-    ensures { λ r. ⌜ r ≡ openOf (cardIn (now (bytes .entry))) ⌝ }
+    ensures { λ r. ⌜ opened r ≡ openOf (cardIn (now (bytes .entry))) ⌝ }
 {
     let end = head_wanted(bytes);
     if bytes.len() < end {
@@ -182,7 +205,8 @@ fn open(bytes: &[u8]) -> Opened
 
 // Opens the card. A refused one prints its line, and ends the reading.
 pub fn begin(bytes: &[u8], out: &mut [u8; 7170]) -> Played
-    ensures { λ r. ⌜ Says (openOf (cardIn (now (bytes .entry))) .station) (openText (openOf (cardIn (now (bytes .entry))) .answer)) (isOpen (openOf (cardIn (now (bytes .entry))) .answer)) r (now (out .entry)) (now (out .exit)) ⌝ }
+    ensures { λ r. ⌜ Says (openOf (cardIn (now (bytes .entry))) .station) (openText (openOf (cardIn (now (bytes .entry))) .answer))
+        (ok (openOf (cardIn (now (bytes .entry))) .answer)) r (now (out .entry)) (now (out .exit)) ⌝ }
 {
     let opened = open(bytes);
     let answer = opened.answer;
@@ -214,7 +238,9 @@ pub fn play(
     ints: &mut [u32; 1024],
     out: &mut [u8; 7170],
 ) -> Played
-    ensures { λ r. ⌜ Gives (playedOf (now (bytes .entry)) station (now (framebuffer .entry)) (now (history .entry))) r (now (framebuffer .exit)) (now (history .exit)) (now (out .entry)) (now (out .exit)) ⌝ }
+    ensures { λ r. ⌜ Gives (playedOf (now (bytes .entry)) station (now (framebuffer .entry)) (now (history .entry)))
+        r (now (framebuffer .exit)) (now (history .exit)) (now (floats .entry)) (now (floats .exit))
+        (now (ints .entry)) (now (ints .exit)) (now (out .entry)) (now (out .exit)) ⌝ }
 {
     if bytes.len() == 0 {
         return Played {

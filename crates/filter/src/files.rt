@@ -1,7 +1,7 @@
 // Frames: read, looked at, and shown.
 ghost use Rattle.io.specs.Counts.{Counts};
 use crate::says;
-use chain::station::Station;
+use cards::station::Station;
 use cli::input;
 use frames::Outcome;
 use libc::STDOUT_FILENO;

@@ -8,9 +8,9 @@ mod memory; // the buffers that are lent
 mod files; // frames read, looked at and shown
 mod says; // why something is refused
 
-use chain::reader;
-use chain::station::Answer;
-use chain::station::Station;
+use cards::reader;
+use cards::station::Answer;
+use cards::station::Station;
 use cli::input;
 use libc::STDERR_FILENO;
 

@@ -1,54 +1,50 @@
--- A file that shows no picture is left as it was: bytes come back from their words. Assumes nothing.
-use Prim.Native.Nat.{ℕ, _+_, _*_, _≤_, _<_}
-use mathlib.Core.Path.{_≡_, refl, sym, ap, _∙_, subst}
-use mathlib.Core.List.{List, _++_}
-use native.Mathlib.Omega.{arith}
-use lib.ListN.{length, getD, take, drop, length-drop, take-append-drop}
-use lib.Seq.{take-all, getD-drop}
-use Rattle.raster.specs.Pixels.{unpacked, packedBytes}
+-- A file that shows no picture is left as it was, and all else that is lent: a frame that the station takes is shown. Assumes nothing.
+use Prim.Native.Nat.{ℕ, zero, suc, _*_}
+use mathlib.Core.Path.{_≡_, refl, sym, ap, _∙_}
+use mathlib.Core.List.{List}
+use lib.ListN.{length, drop}
+use Rattle.num.specs.Refusals.{unless, accepts}
+use Rattle.raster.specs.Pixels.{unpacked}
 use Rattle.raster.specs.Ppm.{parseOf}
 use Rattle.raster.specs.declared.ppm.Parsed.{Parsed}
 use Rattle.raster.specs.declared.ppm.Parsed.the-variants as Parsed
-use Rattle.raster.proofs.Back.{bytes-back}
-use Rattle.raster.proofs.Taken.{taken-whole}
-use Rattle.chain.specs.Calls.{Report, refusal, acceptance, Framed, framed, frameReply}
-use Rattle.chain.proofs.Untouched.{refused-keeps}
-use Rattle.chain.specs.declared.station.Station.{Station}
-use Rattle.frames.specs.Frames.{Result, outcomeOf, shown, byParsed, filteredOf}
+use Rattle.chain.specs.Calls as Calls
+use Rattle.chain.specs.Calls.{Framed, stops, refusingFrame, shownBy, frameReplyBy}
+use Rattle.cards.specs.declared.station.Station.{Station}
+use Rattle.frames.specs.Frames.{Result, result, outcomeOf, shown, among, replied, byParsed, filteredOf}
 use Rattle.frames.specs.Claims.{UnshownKeeps}
-use Rattle.frames.specs.declared.Outcome.the-variants.{Shown}
+use Rattle.frames.specs.declared.Outcome.the-variants.{Shown, Refused}
 
--- the pixels that were unpacked, packed again behind the header
-same-file : (file : List ℕ) (start n : ℕ) → ((i : ℕ) → i < length file → getD file i 0 < 256) → start + 3 * n ≡ length file
-    → take start file ++ packedBytes (unpacked n (drop start file)) ≡ file
-same-file file start n small ends =
-    let rest : length (drop start file) ≡ 3 * n = simp length-drop (omega arith) in
-    let each : (i : ℕ) → i < length (drop start file) → getD (drop start file) i 0 < 256 =
-    λ i l. subst (λ (x : ℕ). x < 256) (sym (getD-drop start file i 0)) (small (start + i) (omega (arith, rest))) in
-    ap (λ (xs : List ℕ). take start file ++ xs) (bytes-back n (drop start file) each (omega (arith, rest)) ∙ take-all (3 * n) (drop start file) (omega (arith, rest)))
-    ∙ take-append-drop start file
+length-unpacked : (n : ℕ) (bytes : List ℕ) → length (unpacked n bytes) ≡ n
+unfolding unpacked
+length-unpacked zero bytes = refl
+length-unpacked (suc n) bytes = ap suc (length-unpacked n (drop 3 bytes))
+
+module _ (w h : ℕ) (s : Station) (pixels past : List ℕ) (floats ints : ℕ) where
+  abbrev words : List ℕ
+  words = unpacked (h * w) pixels
+
+  -- a frame that is not refused is shown
+  is-shown : stops s w h (h * w) (length past) floats ints ≡ 0 → Calls.shown w h s words past ≡ replied w h s pixels past floats ints
+  unfolding frameReplyBy
+  is-shown e =
+      let none : 0 ≡ stops s w h (length words) (length past) floats ints =
+      sym (ap (λ (n : ℕ). stops s w h n (length past) floats ints) (length-unpacked (h * w) pixels) ∙ e) in
+      accepts 0 (refusingFrame s words past) (Calls.shown w h s words past) none refl
 
 pub unshown-keeps : UnshownKeeps
-unfolding filteredOf
-unshown-keeps s file words past floats ints small = go (parseOf (length words) file) refl
+unfolding filteredOf unless shownBy
+unshown-keeps s file words past floats ints = go (parseOf (length words) file)
   where
-    answered : (w h start : ℕ) (r : Framed) (a : Report) → parseOf (length words) file ≡ Parsed.Frame w h start
-        → frameReply w h s (unpacked (h * w) (drop start file)) past floats ints ≡ r → r .answer ≡ a → ((n : ℕ) → outcomeOf a ≡ Shown n → ⊥)
-        → (take start file ++ packedBytes (r .words) ≡ file) × (r .station ≡ s) × (r .past ≡ past)
-    answered w h start r (acceptance ns) p e is unshown = absurd (unshown _ refl)
-    answered w h start r (refusal k) p e is unshown =
-        let kept : r ≡ framed (refusal k) s (unpacked (h * w) (drop start file)) past =
-        sym e ∙ refused-keeps .1 w h s (unpacked (h * w) (drop start file)) past floats ints k (ap (λ (x : Framed). x .answer) e ∙ is) in
-        let whole = taken-whole (length words) file w h start p in (
-          ap (λ (x : Framed). take start file ++ packedBytes (x .words)) kept ∙ same-file file start (h * w) small (whole .ends),
-          ap (λ (x : Framed). x .station) kept,
-          ap (λ (x : Framed). x .past) kept,
-        )
+    asks : (w h start n : ℕ) → stops s w h (h * w) (length past) floats ints ≡ n →
+        let r : Result = unless n (λ k. result (Refused k) s file words past)
+        (among start (h * w) file words (shown (h * w) (replied w h s (drop start file) past floats ints))) in
+        ((clipped : ℕ) → r .outcome ≡ Shown clipped → ⊥) → r ≡ result (r .outcome) s file words past
+    asks w h start zero e unshown = absurd (unshown _ (ap (λ (r : Framed). outcomeOf (r .answer)) (sym (is-shown w h s (drop start file) past floats ints e))))
+    asks w h start (suc n) e unshown = refl
 
-    go : (p : Parsed) → parseOf (length words) file ≡ p →
+    go : (p : Parsed) →
         let r : Result = byParsed p s file words past floats ints in
-        ((n : ℕ) → r .outcome ≡ Shown n → ⊥) → (r .file ≡ file) × (r .station ≡ s) × (r .past ≡ past)
-    go (Parsed.Refused k) e unshown = (refl, refl, refl)
-    go (Parsed.Frame w h start) e unshown =
-        let r = frameReply w h s (unpacked (h * w) (drop start file)) past floats ints in
-        answered w h start r (r .answer) e refl refl unshown
+        ((clipped : ℕ) → r .outcome ≡ Shown clipped → ⊥) → r ≡ result (r .outcome) s file words past
+    go (Parsed.Refused k) unshown = refl
+    go (Parsed.Frame w h start) unshown = asks w h start (stops s w h (h * w) (length past) floats ints) refl unshown

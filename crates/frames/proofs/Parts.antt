@@ -6,18 +6,22 @@ use mathlib.Core.List.{List, [], _∷_, _++_, append-nil}
 use native.Mathlib.Nat.{mul-le-mul}
 use native.Mathlib.Omega.{arith}
 use borrow.Author.Tests.{ne-eqb}
-use lib.ListN.{length, take, drop, length-drop}
-use lib.Seq.{length-take-le, take-all, drop-length}
+use lib.Ieee.{Float}
+use lib.ListN.{length, take, drop, length-drop, take-append-drop}
+use lib.Seq.{length-take-le, take-all}
+use Rattle.num.specs.Refusals.{unless, refuses, accepts}
 use Rattle.raster.specs.Claims.{Whole}
 use Rattle.raster.specs.Ppm.{parseOf}
 use Rattle.raster.specs.Pixels.{unpacked, packedBytes}
 use Rattle.raster.specs.declared.ppm.Parsed.{Parsed}
 use Rattle.raster.specs.declared.ppm.Parsed.the-variants as Parsed
-use Rattle.chain.specs.Calls.{Framed, framed, frameReply}
-use Rattle.chain.specs.declared.station.Station.{Station}
-use Rattle.frames.specs.Frames.{Result, filteredOf, byParsed, numberOf, outcomeOf, faultOf, Shows, Filters}
+use Rattle.chain.specs.Answers.{reportedFrame, stay, Applies}
+use Rattle.chain.specs.Calls.{Framed, stops, frameReply}
+use Rattle.chain.specs.declared.pipeline.Applied.{Applied}
+use Rattle.cards.specs.declared.station.Station.{Station}
+use Rattle.frames.specs.Frames.{Result, result, shown, among, replied, showsOf, byParsed, filteredOf, numberOf, outcomeOf, faultOf, Filters}
 use Rattle.frames.specs.declared.Outcome.{Outcome}
-use Rattle.frames.specs.declared.Outcome.the-variants.{NoFrame}
+use Rattle.frames.specs.declared.Outcome.the-variants.{NoFrame, Refused}
 use Rattle.frames.specs.declared.Filtered.{Filtered}
 
 pub drop-all : (k : ℕ) (xs : List ℕ) → length xs ≤ k → drop k xs ≡ []
@@ -31,51 +35,124 @@ drop-all (suc k) (x ∷ xs) l = drop-all k xs (omega arith)
 abbrev filtered : Outcome → Station → Filtered
 filtered o s = record { outcome = o; station = s }
 
--- a frame call left r, which is the definition's q, and its words were packed into all the bytes that were lent
-pub shows : (w h : ℕ) (s : Station) (words words′ past : List ℕ) (floats ints : ℕ) (r : Framed) (o : Outcome) (pixels pixels′ : List ℕ)
-    → words ≡ words′ → r ≡ frameReply w h s words past floats ints → o ≡ outcomeOf (r .answer)
-    → pixels′ ≡ packedBytes (r .words) ++ drop (3 * length (r .words)) pixels → length pixels ≤ 3 * length (r .words)
-    → Shows (frameReply w h s words′ past floats ints) (filtered o (r .station)) pixels′ (r .words) (r .past)
-shows w h s words words′ past floats ints r o pixels pixels′ given e a packed all =
-    let whole : pixels′ ≡ packedBytes (r .words) = packed ∙ ap (λ (xs : List ℕ). packedBytes (r .words) ++ xs) (drop-all (3 * length (r .words)) pixels all) ∙ append-nil (packedBytes (r .words)) in
-    subst (λ (ws : List ℕ). Shows (frameReply w h s ws past floats ints) (filtered o (r .station)) pixels′ (r .words) (r .past)) given
-    (subst (λ (q : Framed). Shows q (filtered o (r .station)) pixels′ (r .words) (r .past)) e (record { outcome = a; station = refl; pixels = whole; words = refl; past = refl }))
+module _ (w h : ℕ) (s : Station) (pixels words past : List ℕ) (floats : List Float) (ints : List ℕ) (k : ℕ)
+    (asks : k ≡ stops s w h (length words) (length past) (length floats) (length ints)) (all : length words ≡ h * w) where
+  abbrev refused : ℕ → Result
+  refused n = result (Refused n) s pixels words past
+
+  abbrev taken : Result
+  taken = shown (h * w) (replied w h s pixels past (length floats) (length ints))
+
+  number : k ≡ stops s w h (h * w) (length past) (length floats) (length ints)
+  number = rw (← all) asks
+
+  -- the station refuses the frame
+  pub unshown : (k ≡ 0 → ⊥)
+      → Filters (showsOf w h s pixels words past (length floats) (length ints)) (filtered (Refused k) s) pixels words past floats floats ints ints
+  unshown some =
+      subst (λ (x : Result). Filters x (filtered (Refused k) s) pixels words past floats floats ints ints) (refuses k refused taken number some)
+      (record {
+        outcome = refl;
+        station = refl;
+        file = refl;
+        words = refl;
+        past = refl;
+        floats-stay = refl;
+        ints-stay = refl;
+      })
+
+  -- the call on the frame's words left r, and they were packed into all the bytes that were lent
+  pub shows : (given : List ℕ) (r : Applied) (o : Outcome) (pixels′ words′ past′ : List ℕ) (floats′ : List Float) (ints′ : List ℕ) → k ≡ 0
+      → given ≡ unpacked (length words) pixels → Applies w h s given past floats ints r words′ past′ floats′ ints′
+      → o ≡ outcomeOf (reportedFrame (r .answer)) → pixels′ ≡ packedBytes words′ ++ drop (3 * length words′) pixels → length pixels ≤ 3 * length words′
+      → Filters (showsOf w h s pixels words past (length floats) (length ints)) (filtered o (r .station)) pixels′ words′ past′ floats floats′ ints ints′
+  shows given r o pixels′ words′ past′ floats′ ints′ none e a told packed fits =
+      let whole : pixels′ ≡ packedBytes words′ =
+      packed ∙ ap (λ (xs : List ℕ). packedBytes words′ ++ xs) (drop-all (3 * length words′) pixels fits) ∙ append-nil (packedBytes words′) in
+      let same : frameReply w h s given past (length floats) (length ints) ≡ replied w h s pixels past (length floats) (length ints) = rw (e, all) in
+      subst (λ (x : Result). Filters x (filtered o (r .station)) pixels′ words′ past′ floats floats′ ints ints′) (accepts k refused taken number none)
+      (subst (λ (q : Framed). Filters (shown (h * w) q) (filtered o (r .station)) pixels′ words′ past′ floats floats′ ints ints′) (a .replies ∙ same)
+      (record {
+        outcome = told;
+        station = refl;
+        file = whole;
+        words = refl;
+        past = refl;
+        floats-stay = stay (r .answer) (6 * (h * w)) floats floats′ (a .floats-stay);
+        ints-stay = stay (r .answer) (h * w) ints ints′ (a .ints-stay);
+      }))
 
 -- ## Filter
 
-module _ (s : Station) (file words past : List ℕ) (floats ints : ℕ) where
-  by-parsed : (p : Parsed) → p ≡ parseOf (length words) file → byParsed p s file words past floats ints ≡ filteredOf s file words past floats ints
+module _ (s : Station) (file words past : List ℕ) (floats : List Float) (ints : List ℕ) where
+  abbrev done : Result
+  done = filteredOf s file words past (length floats) (length ints)
+
+  by-parsed : (p : Parsed) → p ≡ parseOf (length words) file → byParsed p s file words past (length floats) (length ints) ≡ done
   unfolding filteredOf
-  by-parsed p e = ap (λ (q : Parsed). byParsed q s file words past floats ints) e
+  by-parsed p e = ap (λ (q : Parsed). byParsed q s file words past (length floats) (length ints)) e
 
   -- no frame: nothing changes
   pub no-frame : (p : Parsed) (k number : ℕ) → p ≡ parseOf (length words) file → p ≡ Parsed.Refused k → number ≡ numberOf p
-      → Filters (filteredOf s file words past floats ints) (filtered (NoFrame number) s) file words past
+      → Filters done (filtered (NoFrame number) s) file words past floats floats ints ints
   no-frame p k number e is n =
-      subst (λ (x : Result). Filters x (filtered (NoFrame number) s) file words past) (by-parsed (Parsed.Refused k) (sym is ∙ e))
-      (record { outcome = ap NoFrame (n ∙ ap numberOf is); station = refl; file = refl; words = refl; past = refl })
-
-  -- what is lent of the file, from the header's end on, leaves nothing behind it
-  after : (start : ℕ) (pixels′ : List ℕ) → take start file ++ (pixels′ ++ drop (length file - start) (drop start file)) ≡ take start file ++ pixels′
-  after start pixels′ =
-      ap (λ (xs : List ℕ). take start file ++ (pixels′ ++ xs)) (drop-all (length file - start) (drop start file) (simp length-drop (omega arith)))
-      ∙ ap (λ (xs : List ℕ). take start file ++ xs) (append-nil pixels′)
-
-  -- the pixels were all that follows the header, and the words the first of the framebuffer's
-  pub shown-in : (p : Parsed) (w h start : ℕ) (pixels : List ℕ) (r : Filtered) (pixels′ words′ past′ : List ℕ)
-      → p ≡ parseOf (length words) file → p ≡ Parsed.Frame w h start → pixels ≡ drop start file
-      → Shows (frameReply w h s (unpacked (h * w) pixels) past floats ints) r pixels′ words′ past′
-      → Filters (filteredOf s file words past floats ints) r (take start file ++ (pixels′ ++ drop (length file - start) (drop start file))) (words′ ++ drop (h * w) words) past′
-  shown-in p w h start pixels r pixels′ words′ past′ e is part g =
-      subst (λ (x : Result). Filters x r (take start file ++ (pixels′ ++ drop (length file - start) (drop start file))) (words′ ++ drop (h * w) words) past′)
-      (by-parsed (Parsed.Frame w h start) (sym is ∙ e))
+      subst (λ (x : Result). Filters x (filtered (NoFrame number) s) file words past floats floats ints ints) (by-parsed (Parsed.Refused k) (sym is ∙ e))
       (record {
-        outcome = rw (← part) (g .outcome);
-        station = rw (← part) (g .station);
-        file = after start pixels′ ∙ ap (λ (xs : List ℕ). take start file ++ xs) (g .pixels ∙ ap (λ (xs : List ℕ). packedBytes (frameReply w h s (unpacked (h * w) xs) past floats ints .words)) part);
-        words = rw (← part) (ap (λ (xs : List ℕ). xs ++ drop (h * w) words) (g .words));
-        past = rw (← part) (g .past);
+        outcome = ap NoFrame (n ∙ ap numberOf is);
+        station = refl;
+        file = refl;
+        words = refl;
+        past = refl;
+        floats-stay = refl;
+        ints-stay = refl;
       })
+
+  module _ (w h start : ℕ) (pixels′ words′ : List ℕ) where
+    -- what is lent comes back: of the file from the header's end on, with nothing behind it; of the framebuffer the first words
+    abbrev file′ : List ℕ
+    file′ = take start file ++ (pixels′ ++ drop (length file - start) (drop start file))
+
+    abbrev buffer′ : List ℕ
+    buffer′ = words′ ++ drop (h * w) words
+
+    file-back : file′ ≡ take start file ++ pixels′
+    file-back =
+        ap (λ (xs : List ℕ). take start file ++ (pixels′ ++ xs)) (drop-all (length file - start) (drop start file) (simp length-drop (omega arith)))
+        ∙ ap (λ (xs : List ℕ). take start file ++ xs) (append-nil pixels′)
+
+    pub shown-in : (p : Parsed) (pixels : List ℕ) (r : Filtered) (past′ : List ℕ) (floats′ : List Float) (ints′ : List ℕ)
+        → p ≡ parseOf (length words) file → p ≡ Parsed.Frame w h start → pixels ≡ drop start file
+        → Filters (showsOf w h s pixels (take (h * w) words) past (length floats) (length ints)) r pixels′ words′ past′ floats floats′ ints ints′
+        → Filters done r file′ buffer′ past′ floats floats′ ints ints′
+    unfolding unless
+    shown-in p pixels r past′ floats′ ints′ e is part g =
+        subst (λ (x : Result). Filters x r file′ buffer′ past′ floats floats′ ints ints′) (by-parsed (Parsed.Frame w h start) (sym is ∙ e))
+        (go (stops s w h (h * w) (length past) (length floats) (length ints)) (rw part at g))
+      where
+        taken : Result
+        taken = shown (h * w) (replied w h s (drop start file) past (length floats) (length ints))
+
+        go : (n : ℕ)
+            → Filters (unless n (λ k. result (Refused k) s (drop start file) (take (h * w) words) past) taken) r pixels′ words′ past′ floats floats′ ints ints′
+            → Filters (unless n (λ k. result (Refused k) s file words past) (among start (h * w) file words taken)) r file′ buffer′ past′ floats floats′ ints ints′
+        go zero g = record {
+          outcome = g .outcome;
+          station = g .station;
+          file = file-back ∙ ap (λ (xs : List ℕ). take start file ++ xs) (g .file);
+          words = ap (λ (xs : List ℕ). xs ++ drop (h * w) words) (g .words);
+          past = g .past;
+          floats-stay = g .floats-stay;
+          ints-stay = g .ints-stay;
+        }
+        go (suc n) g = record {
+          outcome = g .outcome;
+          station = g .station;
+          file = file-back ∙ ap (λ (xs : List ℕ). take start file ++ xs) (g .file) ∙ take-append-drop start file;
+          words = ap (λ (xs : List ℕ). xs ++ drop (h * w) words) (g .words) ∙ take-append-drop (h * w) words;
+          past = g .past;
+          floats-stay = g .floats-stay;
+          ints-stay = g .ints-stay;
+        }
 
 -- the count of a frame that is taken
 pub few : (most : ℕ) (file : List ℕ) (w h start : ℕ) → Whole most file w h start → h * w ≤ 1048576

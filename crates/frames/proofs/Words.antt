@@ -10,7 +10,7 @@ use lib.Dec.{leb, ltb}
 use lib.ListN.{length, getD, drop}
 use lib.Seq.{drop-cons}
 use Rattle.num.specs.Refusals.{neither}
-use Rattle.chain.proofs.Bools.{both}
+use Rattle.cards.specs.Bools.{both}
 use Rattle.raster.specs.Ppm.{isDigit}
 use Rattle.frames.specs.Area.{withDigit, nextNumber, broken, stepOf, unread, readOf, isLarge, namedBy, namedOf}
 use Rattle.frames.specs.declared.area.Named.the-variants.{Area, Fault}

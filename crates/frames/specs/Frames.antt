@@ -1,17 +1,19 @@
--- A file that holds one frame as binary PPM, under a station: what becomes of the file, the station, the framebuffer and the history. Scratch may hold
--- anything, before and after. Assumes nothing.
+-- A file that holds one frame as binary PPM, under a station: what becomes of the file, the station, and all that is lent. Assumes nothing.
 use Prim.Native.Nat.{ℕ, _*_}
 use mathlib.Core.Path.{_≡_}
 use mathlib.Core.Bool.{Bool, cond}
 use mathlib.Core.List.{List, _++_}
+use lib.Ieee.{Float}
 use lib.ListN.{length, getD, take, drop}
+use Rattle.num.specs.Refusals.{unless}
 use Rattle.raster.specs.Pixels.{unpacked, packedBytes}
 use lib.Dec.{eqb}
 use Rattle.raster.specs.Ppm.{pixelsCut, leftOver, parseOf}
 use Rattle.raster.specs.declared.ppm.Parsed.{Parsed}
 use Rattle.raster.specs.declared.ppm.Parsed.the-variants as Parsed
-use Rattle.chain.specs.Calls.{Report, refusal, acceptance, Framed, frameReply}
-use Rattle.chain.specs.declared.station.Station.{Station}
+use Rattle.cards.specs.Answers.{Report, refusal, acceptance}
+use Rattle.chain.specs.Calls.{Framed, stops, frameReply}
+use Rattle.cards.specs.declared.station.Station.{Station}
 use Rattle.frames.specs.declared.Outcome.{Outcome}
 use Rattle.frames.specs.declared.Outcome.the-variants.{Shown, NoFrame, Refused}
 use Rattle.frames.specs.declared.Filtered.{Filtered}
@@ -34,26 +36,59 @@ unread = 10
 abbrev pub faultOf : Bool → ℕ → ℕ
 faultOf more k = cond more (cond (eqb k 0) leftOver (cond (eqb k pixelsCut) unread k)) k
 
+-- what becomes of a file, of the station, of framebuffer and history, and of how many pixels the scratch may have changed
 pub record Result : Type 0 where
   pub outcome : Outcome
   pub station : Station
   pub file : List ℕ
   pub words : List ℕ
   pub past : List ℕ
+  pub free : ℕ
 
+-- nothing is changed
 abbrev pub result : Outcome → Station → (file words past : List ℕ) → Result
-result o s file words past = record { outcome = o; station = s; file = file; words = words; past = past }
+result o s file words past = record { outcome = o; station = s; file = file; words = words; past = past; free = 0 }
 
--- The pixels from `start` on are those of the picture; the framebuffer's words past the frame's stay.
-abbrev pub shown : (start count : ℕ) → (file words : List ℕ) → Framed → Result
-shown start count file words r =
-    result (outcomeOf (r .answer)) (r .station) (take start file ++ packedBytes (r .words)) (r .words ++ drop count words) (r .past)
+-- an accepted frame of count words, which are all that is lent of the framebuffer; of the file all that is lent is its pixels
+abbrev pub shown : ℕ → Framed → Result
+shown count r = record {
+  outcome = outcomeOf (r .answer);
+  station = r .station;
+  file = packedBytes (r .words);
+  words = r .words;
+  past = r .past;
+  free = count;
+}
+
+-- its pixels stand in the file from `start` on; the framebuffer's words past the frame's stay
+abbrev pub among : (start count : ℕ) → (file words : List ℕ) → Result → Result
+among start count file words x = record {
+  outcome = x .outcome;
+  station = x .station;
+  file = take start file ++ x .file;
+  words = x .words ++ drop count words;
+  past = x .past;
+  free = x .free;
+}
 
 -- `floats` and `ints` are the lengths of the scratches
+module _ (w h : ℕ) (s : Station) where
+  -- a frame that the station refuses leaves all that is lent; `taken` is what else becomes of it
+  abbrev pub asked : (file words past : List ℕ) → (floats ints : ℕ) → Result → Result
+  asked file words past floats ints taken =
+      unless (stops s w h (h * w) (length past) floats ints) (λ k. result (Refused k) s file words past) taken
+
+  abbrev pub replied : (pixels past : List ℕ) → (floats ints : ℕ) → Framed
+  replied pixels past floats ints = frameReply w h s (unpacked (h * w) pixels) past floats ints
+
+  abbrev pub showsOf : (pixels words past : List ℕ) → (floats ints : ℕ) → Result
+  showsOf pixels words past floats ints = asked pixels words past floats ints (shown (h * w) (replied pixels past floats ints))
+
 abbrev pub byParsed : Parsed → Station → (file words past : List ℕ) → (floats ints : ℕ) → Result
 byParsed (Parsed.Refused k) s file words past floats ints = result (NoFrame k) s file words past
 byParsed (Parsed.Frame w h start) s file words past floats ints =
-    shown start (h * w) file words (frameReply w h s (unpacked (h * w) (drop start file)) past floats ints)
+    asked w h s file words past floats ints
+    (among start (h * w) file words (shown (h * w) (replied w h s (drop start file) past floats ints)))
 
 -- a frame may have as many pixels as the framebuffer has words
 unfoldable pub filteredOf : Station → (file words past : List ℕ) → (floats ints : ℕ) → Result
@@ -61,21 +96,17 @@ filteredOf s file words past floats ints = byParsed (parseOf (length words) file
 
 -- ## What the functions promise
 
-pub record Filters (x : Result) (r : Filtered) (file′ words′ past′ : List ℕ) : Type 0 where
+-- the scratch words that stay are those past the free ones, six f32 words and one u32 word for each pixel
+pub record Filters (x : Result) (r : Filtered) (file′ words′ past′ : List ℕ) (floats floats′ : List Float) (ints ints′ : List ℕ) : Type 0 where
   pub outcome : r .outcome ≡ x .outcome
   pub station : r .station ≡ x .station
   pub file : file′ ≡ x .file
   pub words : words′ ≡ x .words
   pub past : past′ ≡ x .past
+  pub floats-stay : drop (6 * x .free) floats′ ≡ drop (6 * x .free) floats
+  pub ints-stay : drop (x .free) ints′ ≡ drop (x .free) ints
 
 -- a frame whose words, and the bytes of whose pixels, are all that is lent
 pub record Room (count : ℕ) (words pixels : List ℕ) : Type 0 where
   pub words-room : length words ≡ count
   pub pixels-room : length pixels ≡ 3 * count
-
-pub record Shows (x : Framed) (r : Filtered) (pixels′ words′ past′ : List ℕ) : Type 0 where
-  pub outcome : r .outcome ≡ outcomeOf (x .answer)
-  pub station : r .station ≡ x .station
-  pub pixels : pixels′ ≡ packedBytes (x .words)
-  pub words : words′ ≡ x .words
-  pub past : past′ ≡ x .past

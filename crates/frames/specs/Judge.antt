@@ -1,7 +1,7 @@
 -- The totals of rectangles of the frame that a file holds as binary PPM. Assumes nothing.
 use Prim.Native.Nat.{ℕ, _*_}
-use mathlib.Core.List.{List}
-use lib.ListN.{drop}
+use mathlib.Core.List.{List, _++_}
+use lib.ListN.{length, drop}
 use Rattle.areas.specs.Areas.{judged}
 use Rattle.areas.specs.declared.Answer.{Answer}
 use Rattle.areas.specs.declared.Answer.the-variants as Answer
@@ -16,18 +16,23 @@ abbrev pub judgedOf : Answer → Judged
 judgedOf (Answer.Read n) = Read n
 judgedOf (Answer.Refused k) = Refused k
 
--- with the result as it is left
-abbrev pub given : Answer × List ℕ → Judged × List ℕ
-given x = (judgedOf (x .0), x .1)
+-- with the framebuffer and the result as they are left
+abbrev pub given : List ℕ → Answer × List ℕ → Judged × List ℕ × List ℕ
+given words x = (judgedOf (x .0), words, x .1)
 
--- of a frame's pixels, three bytes each
-abbrev pub measuredOf : (w h : ℕ) → (pixels areas result : List ℕ) → Judged × List ℕ
-measuredOf w h pixels areas result = given (judged (unpacked (h * w) pixels) w h areas result)
+-- of a frame's pixels, three bytes each; its words are all that is lent of the framebuffer
+abbrev pub measuredOf : (w h : ℕ) → (pixels areas result : List ℕ) → Judged × List ℕ × List ℕ
+measuredOf w h pixels areas result =
+    given (unpacked (h * w) pixels) (judged (unpacked (h * w) pixels) w h areas result)
 
-abbrev pub byFrame : Parsed → (file areas result : List ℕ) → Judged × List ℕ
-byFrame (Parsed.Refused k) file areas result = (NoFrame k, result)
-byFrame (Parsed.Frame w h start) file areas result = measuredOf w h (drop start file) areas result
+-- the other words of the framebuffer stay
+abbrev pub among : ℕ → List ℕ → Judged × List ℕ × List ℕ → Judged × List ℕ × List ℕ
+among count words x = (x .0, x .1 ++ drop count words, x .2)
 
--- a frame of at most `most` pixels
-unfoldable pub inFile : ℕ → (file areas result : List ℕ) → Judged × List ℕ
-inFile most file areas result = byFrame (parseOf most file) file areas result
+abbrev pub byFrame : Parsed → (words file areas result : List ℕ) → Judged × List ℕ × List ℕ
+byFrame (Parsed.Refused k) words file areas result = (NoFrame k, words, result)
+byFrame (Parsed.Frame w h start) words file areas result = among (h * w) words (measuredOf w h (drop start file) areas result)
+
+-- a frame may have as many pixels as the framebuffer has words
+unfoldable pub inFile : (words file areas result : List ℕ) → Judged × List ℕ × List ℕ
+inFile words file areas result = byFrame (parseOf (length words) file) words file areas result

@@ -1,7 +1,6 @@
 // The totals of rectangles of the frame that a file holds as binary PPM.
 ghost use mathlib.Core.Path.{_≡_};
 ghost use Prim.Native.Nat.{_*_};
-ghost use lib.ListN.{length};
 ghost use Rattle.frames.specs.Frames.{Room};
 ghost use Rattle.frames.specs.Judge.{judgedOf, measuredOf, inFile};
 use super::number;
@@ -39,16 +38,16 @@ fn measure(
     result: &mut [u64],
 ) -> Judged
     requires { ⌜ Room (height * width) (now words) (now pixels) ⌝ }
-    ensures { λ r. ⌜ (r, now (result .exit)) ≡ measuredOf width height (now (pixels .entry)) (now (areas .entry)) (now (result .entry)) ⌝ }
+    ensures { λ r. ⌜ (r, now (words .exit), now (result .exit)) ≡ measuredOf width height (now (pixels .entry)) (now (areas .entry)) (now (result .entry)) ⌝ }
 {
     pixels::unpack(words, pixels);
     told(areas::totals(words, width, height, areas, result))
 }
 
-// Three totals for each rectangle, at the front of the result. A frame may have as many pixels as there are words, which are
-// scratch.
+// Three totals for each rectangle, at the front of the result. A frame may have as many pixels as there are words; the first
+// of them are the frame's then.
 pub fn totals(file: &[u8], words: &mut [u32], areas: &[u16], result: &mut [u64]) -> Judged
-    ensures { λ r. ⌜ (r, now (result .exit)) ≡ inFile (length (now (words .entry))) (now (file .entry)) (now (areas .entry)) (now (result .entry)) ⌝ }
+    ensures { λ r. ⌜ (r, now (words .exit), now (result .exit)) ≡ inFile (now (words .entry)) (now (file .entry)) (now (areas .entry)) (now (result .entry)) ⌝ }
 {
     let r = ppm::parse(file, words.len());
     let Parsed::Frame(width, height, start) = r else {

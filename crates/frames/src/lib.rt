@@ -2,18 +2,17 @@
 ghost use mathlib.Core.Path.{_≡_};
 ghost use Prim.Native.Nat.{_*_};
 ghost use lib.ListN.{length};
-ghost use Rattle.raster.specs.Pixels.{unpacked};
 ghost use Rattle.raster.specs.Ppm.{parseOf};
 ghost use Rattle.chain.specs.Answers.{reportedFrame};
-ghost use Rattle.chain.specs.Calls.{frameReply};
-ghost use Rattle.frames.specs.Frames.{Room, Shows, Filters, filteredOf, outcomeOf, numberOf, faultOf};
+ghost use Rattle.frames.specs.Frames.{Room, Filters, showsOf, filteredOf, outcomeOf, numberOf, faultOf};
 
 pub mod area; // a rectangle in words
 pub mod judge; // the totals of rectangles of the frame that a file holds
 
+use cards::station::Station;
 use chain::pipeline;
 use chain::pipeline::FrameAnswer;
-use chain::station::Station;
+use chain::refusals::stops;
 use raster::pixels;
 use raster::ppm;
 use raster::ppm::Parsed;
@@ -42,7 +41,7 @@ fn answered(answer: FrameAnswer) -> Outcome
     }
 }
 
-// A frame: its pixels and its words, just as many as it has.
+// A frame: its pixels and its words, just as many as it has. They are written once the station takes it.
 fn show(
     station: Station,
     pixels: &mut [u8],
@@ -54,8 +53,25 @@ fn show(
     ints: &mut [u32],
 ) -> Filtered
     requires { ⌜ Room (height * width) (now words) (now pixels) ⌝ }
-    ensures { λ r. ⌜ Shows (frameReply width height station (unpacked (height * width) (now (pixels .entry))) (now (history .entry)) (length (now (floats .entry))) (length (now (ints .entry)))) r (now (pixels .exit)) (now (words .exit)) (now (history .exit)) ⌝ }
+    ensures { λ r. ⌜ Filters (showsOf width height station (now (pixels .entry)) (now (words .entry)) (now (history .entry))
+        (length (now (floats .entry))) (length (now (ints .entry))))
+        r (now (pixels .exit)) (now (words .exit)) (now (history .exit)) (now (floats .entry)) (now (floats .exit)) (now (ints .entry)) (now (ints .exit)) ⌝ }
 {
+    let refusal = stops(
+        station,
+        width,
+        height,
+        words.len(),
+        history.len(),
+        floats.len(),
+        ints.len(),
+    );
+    if refusal != 0 {
+        return Filtered {
+            outcome: Outcome::Refused(refusal),
+            station,
+        };
+    }
     pixels::unpack(words, pixels);
     let applied = pipeline::apply(station, words, width, height, history, floats, ints);
     pixels::pack(pixels, words);
@@ -94,7 +110,7 @@ pub fn fault(file: &[u8], more: bool, most: usize) -> u8
     }
 }
 
-// Filters the frame that the file holds. A frame may have as many pixels as there are words.
+// Filters the frame that the file holds. A frame may have as many pixels as there are words. Where no picture is shown, all that is lent stays.
 pub fn filter(
     station: Station,
     file: &mut [u8],
@@ -103,7 +119,9 @@ pub fn filter(
     floats: &mut [f32],
     ints: &mut [u32],
 ) -> Filtered
-    ensures { λ r. ⌜ Filters (filteredOf station (now (file .entry)) (now (words .entry)) (now (history .entry)) (length (now (floats .entry))) (length (now (ints .entry)))) r (now (file .exit)) (now (words .exit)) (now (history .exit)) ⌝ }
+    ensures { λ r. ⌜ Filters (filteredOf station (now (file .entry)) (now (words .entry)) (now (history .entry))
+        (length (now (floats .entry))) (length (now (ints .entry))))
+        r (now (file .exit)) (now (words .exit)) (now (history .exit)) (now (floats .entry)) (now (floats .exit)) (now (ints .entry)) (now (ints .exit)) ⌝ }
 {
     let r = ppm::parse(file, words.len());
     let Parsed::Frame(width, height, start) = r else {

@@ -1,16 +1,16 @@
 -- Two lists compared place by place: those before the present place are alike, and what is left decides. Assumes nothing.
-use Prim.Native.Nat.{ℕ, zero, suc, _+_, _≤_, _<_, min}
-use native.Mathlib.Nat.{add-zero, zero-min, min-zero, suc-min-suc}
+use Prim.Native.Nat.{ℕ, zero, suc, _+_, _≤_, _<_}
+use native.Mathlib.Nat.{add-zero}
 use native.Mathlib.Numerals.{add-one}
 use native.Mathlib.Omega.{arith}
 use mathlib.Core.Bool.{true, false, cond}
 use mathlib.Core.List.{List, [], _∷_}
-use mathlib.Core.Path.{_≡_, refl, ap, ap₂, sym, _∙_}
+use mathlib.Core.Path.{_≡_, refl, ap₂, _∙_}
 use lib.ListN.{length, take, drop, getD, drop-of-length-le}
 use lib.Seq.{drop-drop, getD-drop, slice-cons, length-take-le}
-use Rattle.chain.proofs.Bools.{false-true}
-use Rattle.chain.proofs.Scans.{past}
-use Rattle.chain.specs.declared.station.Record.{Record}
+use Rattle.cards.specs.Bools.{false-true}
+use Rattle.cards.specs.Scans.{past}
+use Rattle.cards.specs.declared.station.Record.{Record}
 use Rattle.inspect.specs.Settings.{placed}
 use Rattle.inspect.specs.Difference.{isAlike, firstOf, sameSetting, settingsDifference, recordDifference, chainDifference}
 use Rattle.inspect.specs.declared.difference.Difference.the-variants.{Alike, Length}
@@ -103,12 +103,3 @@ module _ {m n i : ℕ} {a b : List Record} (t : Walked m n a b i) (a-fits : m �
   pub walked-all : m ≤ i → n ≤ i → chainDifference 0 (take m a) (take n b) ≡ Alike
   unfolding chainDifference
   walked-all x y = t .rest ∙ ap₂ (chainDifference i) (none-left m i a a-fits x) (none-left n i b b-fits y)
-
--- past the last record there is none
-take-min : (n : ℕ) (l : List Record) → take (min n (length l)) l ≡ take n l
-take-min zero l = ap (λ (j : ℕ). take j l) (zero-min (length l))
-take-min (suc n) [] = ap (λ (j : ℕ). take {A = Record} j []) (min-zero (suc n))
-take-min (suc n) (r ∷ l) = ap (λ (j : ℕ). take j (r ∷ l)) (suc-min-suc n (length l)) ∙ ap (λ (rs : List Record). r ∷ rs) (take-min n l)
-
-pub of-ten : (n k : ℕ) (l : List Record) → k ≡ min n 10 → length l ≡ 10 → take k l ≡ take n l
-of-ten n k l e ten = ap (λ (j : ℕ). take j l) (e ∙ ap (min n) (sym ten)) ∙ take-min n l

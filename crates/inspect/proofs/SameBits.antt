@@ -7,14 +7,14 @@ use borrow.Author.Tests.{eqb-true}
 use lib.Dec.{eqb}
 use lib.Ieee.{binary32, toBits}
 use lib.ListN.{length, getD}
-use Rattle.chain.specs.Alike.{chainOf}
-use Rattle.chain.specs.Passes.{kindOf}
-use Rattle.chain.specs.Written.{bits, passBits, recordBits, recordsBits, chainBits, pack, chainCard, cardOf}
-use Rattle.chain.specs.declared.station.Pass.{Pass}
-use Rattle.chain.specs.declared.station.Pass.the-variants.{Ntsc, Bloom, AutoGradient, Persistence, Lut, Curvature, ColorCorrection, Crt, Vignette, Scanlines}
-use Rattle.chain.specs.declared.station.Record.{Record}
-use Rattle.chain.specs.declared.station.Station.{Station}
-use Rattle.chain.proofs.Bools.{false-true}
+use Rattle.cards.specs.Alike.{chainOf}
+use Rattle.cards.specs.Passes.{kindOf}
+use Rattle.cards.specs.Written.{bits, passBits, recordBits, recordsBits, chainBits, pack, chainCard, cardOf}
+use Rattle.cards.specs.declared.station.Pass.{Pass}
+use Rattle.cards.specs.declared.station.Pass.the-variants.{Ntsc, Bloom, AutoGradient, Persistence, Lut, Curvature, ColorCorrection, Crt, Vignette, Scanlines}
+use Rattle.cards.specs.declared.station.Record.{Record}
+use Rattle.cards.specs.declared.station.Station.{Station}
+use Rattle.cards.specs.Bools.{false-true}
 use Rattle.inspect.specs.Difference.{isAlike, firstOf, sameSetting, sameSwitch, settingsDifference, recordDifference, chainDifference, differenceOf}
 use Rattle.inspect.specs.Settings.{settingsOf}
 use Rattle.inspect.specs.declared.difference.Difference.{Difference}

@@ -6,11 +6,11 @@ use mathlib.Core.Path.{_≡_, refl, ap₂, sym, subst, _∙_}
 use borrow.Author.Tests.{eq-eqb}
 use lib.Dec.{eqb, eqb·zero-suc, eqb·suc-zero, eqb·suc-suc}
 use lib.Ieee.{binary32, toBits}
-use Rattle.chain.specs.Alike.{chainOf}
-use Rattle.chain.specs.Passes.{kindOf}
-use Rattle.chain.specs.declared.station.Record.{Record}
-use Rattle.chain.specs.declared.station.Station.{Station}
-use Rattle.chain.proofs.Theorems.{written-alike}
+use Rattle.cards.specs.Alike.{chainOf}
+use Rattle.cards.specs.Passes.{kindOf}
+use Rattle.cards.specs.declared.station.Record.{Record}
+use Rattle.cards.specs.declared.station.Station.{Station}
+use Rattle.cards.proofs.Theorems.{written-alike}
 use Rattle.inspect.specs.Claims.{DifferenceAlike, DifferenceSymmetric}
 use Rattle.inspect.specs.Difference.{firstOf, sameSetting, sameSwitch, settingsDifference, recordDifference, chainDifference, differenceOf}
 use Rattle.inspect.specs.Settings.{settingsOf}

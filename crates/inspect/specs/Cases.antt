@@ -8,18 +8,21 @@ use lib.ListN.{replicate}
 use Rattle.num.specs.Cases.{Hold}
 use Rattle.num.specs.Const.{c0·0, c0·5, c1·0}
 use Rattle.num.specs.Steps.{clampOf, plusZeroOf, limitOf}
-use Rattle.chain.specs.Step.{refuseIf}
-use Rattle.chain.specs.Bits.{valueAt, fieldAt}
-use Rattle.chain.specs.Settings.{finiteAt, limitedAt}
-use Rattle.chain.specs.Passes.{passAt, scanlinesAt, vignetteAt}
-use Rattle.chain.specs.Records.{recordAt}
-use Rattle.chain.specs.Card.{stationOf, headerAt, recordsAt, endsAt, endAt, stationAt, openOf}
-use Rattle.chain.specs.declared.station.Pass.the-variants.{Bloom, Scanlines}
-use Rattle.chain.specs.declared.station.Record.{Record}
+use Rattle.cards.specs.Step.{refuseIf}
+use Rattle.cards.specs.Bits.{valueAt, fieldAt}
+use Rattle.cards.specs.Settings.{finiteAt, limitedAt}
+use Rattle.cards.specs.Passes.{passAt, scanlinesAt, vignetteAt}
+use Rattle.cards.specs.Records.{recordAt}
+use Rattle.cards.specs.Card.{stationOf, headerAt, recordsAt, endsAt, endAt, stationAt, openOf}
+use Rattle.cards.specs.declared.station.Pass.the-variants.{Bloom, Scanlines}
+use Rattle.cards.specs.declared.station.Record.{Record}
 use Rattle.inspect.specs.Difference.{settingsDifference, recordDifference, chainDifference, differenceOf}
 use Rattle.inspect.specs.Hexadecimal.{digitOf, hexOf, decodeAnswer, decodeInto}
+use Rattle.inspect.specs.Layout.{widthsOf, settingIn, endOf, inRecord, fieldFrom, fieldOf}
 use Rattle.inspect.specs.declared.difference.Difference.{Difference}
 use Rattle.inspect.specs.declared.difference.Difference.the-variants.{Alike, Length, Kind, Switch, Setting}
+use Rattle.inspect.specs.declared.layout.Field.{Field}
+use Rattle.inspect.specs.declared.layout.Field.the-variants as Field
 use Rattle.inspect.specs.declared.hexadecimal.Decoded.{Decoded}
 use Rattle.inspect.specs.declared.hexadecimal.Decoded.the-variants.{Bytes, Text, Long}
 
@@ -121,3 +124,32 @@ texts =
 pub texts-hold : Hold texts
 unfolding decodeAnswer decodeInto hexOf
 texts-hold = refl
+
+-- ## The field that a bit lies in
+
+-- persistence 0.5, depth 2, on; LUT, preset 3, strength 0, off
+abbrev pub fieldIn : ℕ → Field
+fieldIn at = fieldOf (0x12 ∷ 0x49 ∷ 0xf8 ∷ 0 ∷ 0 ∷ 0 ∷ 0x12 ∷ 0x98 ∷ 0 ∷ 0 ∷ 0 ∷ 0 ∷ []) at
+
+-- the first bit of each field, and the last of some
+abbrev pub fields : List (Field × Field)
+fields =
+    (fieldIn 0, Field.Version)
+    ∷ (fieldIn 3, Field.Version)
+    ∷ (fieldIn 4, Field.Passes)
+    ∷ (fieldIn 8, Field.Kind 0)
+    ∷ (fieldIn 12, Field.Switch 0 4)
+    ∷ (fieldIn 13, Field.Setting 0 4 0)
+    ∷ (fieldIn 44, Field.Setting 0 4 0)
+    ∷ (fieldIn 45, Field.Setting 0 4 1)
+    ∷ (fieldIn 53, Field.Kind 1)
+    ∷ (fieldIn 57, Field.Switch 1 5)
+    ∷ (fieldIn 58, Field.Setting 1 5 0)
+    ∷ (fieldIn 61, Field.Setting 1 5 1)
+    ∷ (fieldIn 92, Field.Setting 1 5 1)
+    ∷ (fieldIn 93, Field.Rest)
+    ∷ []
+
+pub fields-hold : Hold fields
+unfolding fieldOf fieldFrom inRecord settingIn endOf widthsOf fieldAt valueAt
+fields-hold = refl

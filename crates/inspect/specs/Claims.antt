@@ -3,9 +3,9 @@ use Prim.Native.Nat.{ℕ}
 use mathlib.Core.List.{List}
 use mathlib.Core.Logic.{_↔_}
 use mathlib.Core.Path.{_≡_}
-use Rattle.chain.specs.Card.{accepted, openOf}
-use Rattle.chain.specs.Written.{cardOf}
-use Rattle.chain.specs.declared.station.Station.{Station}
+use Rattle.cards.specs.Card.{accepted, openOf}
+use Rattle.cards.specs.Written.{cardOf}
+use Rattle.cards.specs.declared.station.Station.{Station}
 use Rattle.inspect.specs.Difference.{differenceOf}
 use Rattle.inspect.specs.declared.difference.Difference.the-variants.{Alike}
 

@@ -4,10 +4,10 @@ use mathlib.Core.Bool.{Bool, true, false, cond}
 use mathlib.Core.List.{List, [], _∷_}
 use lib.Dec.{eqb}
 use lib.Ieee.{binary32, toBits}
-use Rattle.chain.specs.Alike.{chainOf}
-use Rattle.chain.specs.Passes.{kindOf}
-use Rattle.chain.specs.declared.station.Record.{Record}
-use Rattle.chain.specs.declared.station.Station.{Station}
+use Rattle.cards.specs.Alike.{chainOf}
+use Rattle.cards.specs.Passes.{kindOf}
+use Rattle.cards.specs.declared.station.Record.{Record}
+use Rattle.cards.specs.declared.station.Station.{Station}
 use Rattle.inspect.specs.Settings.{settingsOf}
 use Rattle.inspect.specs.declared.settings.Setting as declared
 use Rattle.inspect.specs.declared.settings.Setting.the-variants.{Real, Whole, Absent}

@@ -1,9 +1,10 @@
 -- The settings of a pass: Settings. Exact decimal digits: Decimal. The first difference of two chains: Difference; what is proved of it: Claims.
--- Hexadecimal text: Hexadecimal. What private functions promise: Private. Worked cases: Cases.
+-- Hexadecimal text: Hexadecimal. The field that a bit lies in: Layout. What private functions promise: Private. Worked cases: Cases.
 pub mod Settings
 pub mod Decimal
 pub mod Difference
 pub mod Claims
 pub mod Hexadecimal
+pub mod Layout
 pub mod Private
 pub mod Cases

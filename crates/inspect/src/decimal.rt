@@ -5,7 +5,7 @@ ghost use Prim.Native.Nat.{_+_, _*_, _^_, _<_, _≤_};
 ghost use lib.ListN.{length};
 ghost use Rattle.inspect.specs.Decimal.{number, Digits, Exactly};
 ghost use Rattle.inspect.specs.Private.{Units};
-use chain::writer::real_bits;
+use cards::writer::real_bits;
 
 // The digits are now those of the number times `by`, and `more`.
 fn times(digits: &mut [u8], by: u8, more: u8)

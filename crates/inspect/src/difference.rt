@@ -1,16 +1,17 @@
 // The first difference of the chains of two stations.
 ghost use mathlib.Core.Path.{_≡_};
-ghost use Prim.Native.Nat.{_≤_, min};
+ghost use Prim.Native.Nat.{_≤_};
 ghost use lib.ListN.{take};
 ghost use Rattle.inspect.specs.Settings.{settingsOf};
 ghost use Rattle.inspect.specs.Difference.{isAlike, sameSetting, settingsDifference, recordDifference, chainDifference, differenceOf};
 use super::settings::Setting;
 use super::settings::setting_at;
-use chain::station::Pass;
-use chain::station::Record;
-use chain::station::Station;
-use chain::station::kind_of;
-use chain::writer::real_bits;
+use cards::station::Pass;
+use cards::station::Record;
+use cards::station::Station;
+use cards::station::few;
+use cards::station::kind_of;
+use cards::writer::real_bits;
 
 // Where two chains differ first; places are counted from 0.
 pub enum Difference {
@@ -118,13 +119,6 @@ fn chain_difference(a: [Record; 10], m: usize, b: [Record; 10], n: usize) -> Dif
         return Difference::Length(i);
     }
     Difference::Alike
-}
-
-// No more than ten records are there, whatever n says.
-fn few(n: usize) -> usize
-    ensures { λ r. ⌜ (r ≡ min n 10) × (r ≤ 10) ⌝ }
-{
-    if n < 10 { n } else { 10 }
 }
 
 // The first difference of the two chains.

@@ -2,7 +2,7 @@
 ghost use mathlib.Core.Path.{_≡_};
 ghost use mathlib.Core.List.{[], _∷_};
 ghost use Rattle.inspect.specs.Settings.{settingOf, placed};
-use chain::station::Pass;
+use cards::station::Pass;
 
 // A binary32 number, a whole number, or none where the pass has no setting.
 pub enum Setting {

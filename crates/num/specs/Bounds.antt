@@ -44,11 +44,15 @@ cut-le (fin false m e) = go (leb (m * up e) (1023 * down e)) refl
 pub round-step-within : (n : ℕ) (x : Float) → n ≤ 16777216 → T (within n x) → T (within n (roundOf x))
 unfolding within roundOf
 round-step-within n (fin s m e) small h =
-    round-within n s ((2 * (m * up e) + down e) / (2 * down e)) 1 small (lit< tt) (subst (λ (r : ℕ). (2 * (m * up e) + down e) / (2 * down e) ≤ r) (sym (mul-one n)) (nearest-le (m * up e) (down e) n (size-le n s m e h) (down-pos e)))
+    round-within n s ((2 * (m * up e) + down e) / (2 * down e)) 1 small (lit< tt)
+    (subst (λ (r : ℕ). (2 * (m * up e) + down e) / (2 * down e) ≤ r) (sym (mul-one n))
+    (nearest-le (m * up e) (down e) n (size-le n s m e h) (down-pos e)))
     (go s h)
   where
     nearest-le : (a c n : ℕ) → a ≤ n * c → 0 < c → (2 * a + c) / (2 * c) ≤ n
-    nearest-le a c n h p = le-of-suc-le-suc (div-lt-iff-lt-mul (mul-pos (lit< tt) p) .1 (fine a c (n * c) (suc n * (2 * c)) (suc-mul n (2 * c) ∙ ap (λ (x : ℕ). x + 2 * c) (mul-left-comm n 2 c)) h p))
+    nearest-le a c n h p =
+        le-of-suc-le-suc (div-lt-iff-lt-mul (mul-pos (lit< tt) p) .1
+        (fine a c (n * c) (suc n * (2 * c)) (suc-mul n (2 * c) ∙ ap (λ (x : ℕ). x + 2 * c) (mul-left-comm n 2 c)) h p))
       where
         fine : (a c r w : ℕ) → w ≡ 2 * r + 2 * c → a ≤ r → 0 < c → 2 * a + c < w
         fine a c r w e h p = omega arith
@@ -83,8 +87,10 @@ between n (inf true) hi v k a b = absurd (true≢false a)
 between n (inf false) (fin u i d) v k a b = absurd (true≢false b)
 between n (fin false m e) (fin true i d) v k a b = absurd (true≢false (v .0))
 between n (fin false m e) (fin false i d) v k a b =
-    within-plus n m e (cross (m * up e) (i * up d) (down e) (down d) n (down-pos d) (sym (mul-one (i * up d)) ∙ v .1) (ltb-false (i * up d * down e) (m * up e * down d) b))
-between n (fin true m e) hi v k a b = zero-value n (fin true m e) true 1 (lit< tt) (refl, none (m * up e * 1) (0 * down e) (ltb-false 0 (m * up e * 1 + 0 * down e) a))
+    within-plus n m e (cross (m * up e) (i * up d) (down e) (down d) n (down-pos d) (sym (mul-one (i * up d)) ∙ v .1)
+    (ltb-false (i * up d * down e) (m * up e * down d) b))
+between n (fin true m e) hi v k a b =
+    zero-value n (fin true m e) true 1 (lit< tt) (refl, none (m * up e * 1) (0 * down e) (ltb-false 0 (m * up e * 1 + 0 * down e) a))
   where
     none : (a b : ℕ) → a + b ≤ 0 → a ≡ b
     none a b h = omega arith
@@ -130,7 +136,7 @@ pub top-is : HasValue c255·0 false 255 1
 unfolding ofBits
 top-is = (refl, refl)
 
--- limited to 0 .. 1, times 255: a channel
+-- clamped to 0 .. 1, times 255: a channel
 top-within : T (within 255 c255·0)
 top-within = value-within 255 c255·0 top-is
 
@@ -186,7 +192,8 @@ cut-large nan h = refl
 cut-large (inf s) h = refl
 cut-large (fin true m e) h = refl
 cut-large (fin false m e) h =
-    sym (ap (λ (b : Bool). cond b (m * up e / down e) 0) (lt-leb (m * up e) (1023 * down e) (more (m * up e) (down e) (tests-le (1024 * down e) (m * up e * 1) true h) (down-pos e))))
+    sym (ap (λ (b : Bool). cond b (m * up e / down e) 0)
+    (lt-leb (m * up e) (1023 * down e) (more (m * up e) (down e) (tests-le (1024 * down e) (m * up e * 1) true h) (down-pos e))))
   where
     more : (a c : ℕ) → 1024 * c ≤ a * 1 → 0 < c → 1023 * c < a
     more a c h p = omega arith

@@ -1,5 +1,5 @@
--- The decimal constants of the original and of the steps here, by name: each is the binary32 nearest its decimal (`right`, at the end). A constant is written by its bit
--- pattern, as a literal of the code shows in a goal. Assumes nothing.
+-- The decimal constants of the original and of the steps here, by name: each is the binary32 nearest its decimal (`right`, at the
+-- end). A constant is written by its bit pattern, as a literal of the code shows in a goal. Assumes nothing.
 use mathlib.Core.List.{List, [], _∷_, map}
 use mathlib.Core.Path.{_≡_, refl}
 use lib.Ieee.{Float, binary32, ofBits}

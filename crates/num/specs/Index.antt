@@ -39,7 +39,9 @@ one-more-within nan k h g = absurd k
 one-more-within (inf true) k h g = absurd (true≢false h)
 one-more-within (inf false) k h g = absurd (true≢false g)
 one-more-within (fin false m e) k h g =
-    add-within 1 1 (fin false m e) (fin false 1 (pos 0)) (lit≤ tt) (within-plus 1 m e (subst (λ (a : ℕ). a ≤ 1 * down e) (mul-one (m * up e)) (ltb-false (1 * down e) (m * up e * 1) g))) (within-plus 1 1 (pos 0) (lit≤ tt))
+    add-within 1 1 (fin false m e) (fin false 1 (pos 0)) (lit≤ tt)
+    (within-plus 1 m e (subst (λ (a : ℕ). a ≤ 1 * down e) (mul-one (m * up e)) (ltb-false (1 * down e) (m * up e * 1) g)))
+    (within-plus 1 1 (pos 0) (lit≤ tt))
 one-more-within (fin true m e) k h g = go (ltb (m * up e * 1) (1 * down e))
   where
     none : m * up e * 1 - 1 * down e ≡ 0
@@ -48,9 +50,13 @@ one-more-within (fin true m e) k h g = go (ltb (m * up e * 1) (1 * down e))
     size : (a c : ℕ) → 1 * c - a ≤ 2 * (c * 1)
     size a c = omega arith
 
-    go : (q : Bool) → T (within 2 (cond q (round binary32 false (1 * down e - m * up e * 1) (down e * 1)) (round binary32 (ltb (1 * down e) (m * up e * 1)) (m * up e * 1 - 1 * down e) (down e * 1))))
+    go : (q : Bool)
+        → T (within 2 (cond q (round binary32 false (1 * down e - m * up e * 1) (down e * 1))
+        (round binary32 (ltb (1 * down e) (m * up e * 1)) (m * up e * 1 - 1 * down e) (down e * 1))))
     go true = round-within 2 false (1 * down e - m * up e * 1) (down e * 1) (lit≤ tt) (mul-pos (down-pos e) (lit< tt)) (size (m * up e * 1) (down e)) (inl refl)
-    go false = round-within 2 (ltb (1 * down e) (m * up e * 1)) (m * up e * 1 - 1 * down e) (down e * 1) (lit≤ tt) (mul-pos (down-pos e) (lit< tt)) (le-trans (le-of-eq none) zero-le) (inr none)
+    go false =
+        round-within 2 (ltb (1 * down e) (m * up e * 1)) (m * up e * 1 - 1 * down e) (down e * 1) (lit≤ tt)
+        (mul-pos (down-pos e) (lit< tt)) (le-trans (le-of-eq none) zero-le) (inr none)
 
 abbrev pub indexOf : ℕ → Float → ℕ
 indexOf w x = cutOf (roundOf ((x ⊕ c1·0) ⊗ c0·5 ⊗ whole (w - 1)))
@@ -62,7 +68,8 @@ index-within w x l k h g =
     let y = (x ⊕ c1·0) ⊗ c0·5 in
     let s : w - 1 ≤ 16777216 = omega arith in
     subst (λ (n : ℕ). T (within n (y ⊗ whole (w - 1)))) (one-mul (w - 1))
-    (mul-within 1 (w - 1) y (whole (w - 1)) (le-trans (le-of-eq (one-mul (w - 1))) s) (half-within 1 (x ⊕ c1·0) (lit≤ tt) (one-more-within x k h g)) (int-within (w - 1) s))
+    (mul-within 1 (w - 1) y (whole (w - 1)) (le-trans (le-of-eq (one-mul (w - 1))) s)
+    (half-within 1 (x ⊕ c1·0) (lit≤ tt) (one-more-within x k h g)) (int-within (w - 1) s))
 
 number-index-lt : (w : ℕ) (x : Float) → 0 < w → w ≤ 1024 → T (not (isNan x)) → lt x (neg c1·0) ≡ false → lt c1·0 x ≡ false → indexOf w x < w
 number-index-lt w x p l k h g =

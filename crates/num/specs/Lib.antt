@@ -1,7 +1,7 @@
 -- Definitions: F32, Const, Steps, Root, NearestRoot, and Private for the contracts of private functions. Laws that
 -- callers cite: Order, Within, Bounds, Index, Signs, Values; of rounding and ranges: Sized, Least, Quotients, Squares,
 -- Upto; how far a rounding moves: Units. Laws of loops that rewrite a slice: Rewrite; of sums: Sums. What calls refuse by, and
--- its laws: Refusals. Worked cases: Cases.
+-- its laws: Refusals. What a history holds: Held. Worked cases: Cases.
 pub mod F32
 pub mod Const
 pub mod Steps
@@ -23,4 +23,5 @@ pub mod Units
 pub mod Rewrite
 pub mod Sums
 pub mod Refusals
+pub mod Held
 pub mod Cases

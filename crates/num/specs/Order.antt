@@ -2,14 +2,15 @@
 -- it is when limited again. Assumes nothing.
 use mathlib.Core.Path.{_≡_, refl, sym, ap, _∙_, subst}
 use Prim.Native.Nat.{ℕ, _+_, _*_, _/_, _≤_, _<_, zero-le}
-use native.Mathlib.Nat.{zero-mul, mul-one, mul-comm, mul-pos, mul-assoc, mul-left-comm, add-mul, le-trans, le-of-lt, le-of-eq, le-refl, eq-of-mul-eq-mul-right, zero-div}
+use native.Mathlib.Nat.{zero-mul, mul-one, mul-comm, mul-pos, mul-assoc, mul-left-comm, add-mul, le-trans, le-of-lt}
+use native.Mathlib.Nat.{le-of-eq, le-refl, eq-of-mul-eq-mul-right, zero-div}
 use native.Mathlib.Omega.{arith}
 use mathlib.Core.Bool.{Bool, true, false, not, _&&_, _||_, cond, true≢false}
 use borrow.Author.Tests.{ltb-true, ltb-false, eqb-true, eqb-false, le-leb, le-ltb}
 use lib.IntN.{ℤ, pos}
 use lib.Dec.{T, leb, ltb, eqb, eqb→eq, lit<}
 use lib.Ieee.{Float, nan, inf, fin, binary32, up, down, below, level, lt, le, eq, isNan, ofBits}
-use lib.Ieee.Fits.{down-pos, and-l, and-r, and-i, eq→eqb}
+use lib.Ieee.Fits.{down-pos, and-r, and-i, eq→eqb}
 use lib.Ieee.Nearest.{div-mono}
 use lib.Ieee.Order.{round-mono}
 use Rattle.num.specs.Const.{c0·0}
@@ -42,9 +43,6 @@ tests-lt a b h = go (ltb a b) (eqb a b) refl refl h
     go true q e k h = absurd (true≢false h)
     go false true e k h = absurd (true≢false h)
     go false false e k h = omega (arith, ltb-false a b e, eqb-false a b k)
-
-pub level-eq : (a b : ℕ) (q : Bool) → (eqb a b && q) ≡ true → a ≡ b
-level-eq a b q h = eqb→eq a b (and-l (eqb a b) q (subst T (sym h) tt))
 
 -- ±b ≤ ±a where ±a is not below ±b
 turned : (s : Bool) (a : ℕ) (t : Bool) (b : ℕ) → below s a t b ≡ false → T (below t b s a || level t b s a)
@@ -162,7 +160,8 @@ cut-mono (fin false m e) nan h k = absurd h
 cut-mono (fin false m e) (inf true) h k = absurd h
 cut-mono (fin false m e) (inf false) h k = absurd k
 cut-mono (fin false m e) (fin true n d) h k =
-    let z : m * up e ≡ 0 = none-left (m * up e) (down d) (down-pos d) (eqb→eq (m * up e * down d) 0 (and-r (eqb (m * up e * down d) (n * up d * down e)) (eqb (m * up e * down d) 0) h)) in
+    let z : m * up e ≡ 0 = none-left (m * up e) (down d) (down-pos d)
+    (eqb→eq (m * up e * down d) 0 (and-r (eqb (m * up e * down d) (n * up d * down e)) (eqb (m * up e * down d) 0) h)) in
     go (leb (m * up e) (1023 * down e)) z
   where
     go : (b : Bool) → m * up e ≡ 0 → cond b (m * up e / down e) 0 ≤ 0
@@ -192,7 +191,9 @@ round-step-mono m e n d h =
     halves a c b d h = le-trans (le-of-eq (out a c d)) (le-trans (four (a * d) (b * c) (c * d) (d * c) h (mul-comm c d)) (le-of-eq (sym (out b d c))))
       where
         out : (a c d : ℕ) → (2 * a + c) * (2 * d) ≡ 4 * (a * d) + 2 * (c * d)
-        out a c d = add-mul (2 * a) c (2 * d) ∙ parts (a * d) (c * d) (2 * a * (2 * d)) (c * (2 * d)) (mul-assoc 2 a (2 * d) ∙ ap (λ (x : ℕ). 2 * x) (mul-left-comm a 2 d)) (mul-left-comm c 2 d)
+        out a c d =
+            add-mul (2 * a) c (2 * d) ∙ parts (a * d) (c * d) (2 * a * (2 * d)) (c * (2 * d))
+            (mul-assoc 2 a (2 * d) ∙ ap (λ (x : ℕ). 2 * x) (mul-left-comm a 2 d)) (mul-left-comm c 2 d)
           where
             parts : (p q u v : ℕ) → u ≡ 2 * (2 * p) → v ≡ 2 * q → u + v ≡ 4 * p + 2 * q
             parts p q u v e k = omega arith

@@ -207,7 +207,7 @@ module _ (q : ℕ) (Q : 0 < q) where
         round-moved p (n x * u) (n y) (x ⊘ y) small Y (lt-of-lt-of-le (mul-lt-mul-of-pos-right h one-pos) (le-of-eq (mul-right-comm (2 ^ p) (n y) u)))
         (div-at binary32 x y (n x) u (n y) u one-pos one-pos Y v w ∙ ap (round binary32 false (n x * u)) (mul-comm (n y) u))
 
--- ---- limited to 0..255 and cut
+-- ---- clamped to 0..255 and cut
 
 -- of i / d, which is no less than c - 1 and below c + 1
 module _ (c m : ℕ) (e : ℤ) (small : c ≤ 255) (low : c * down e ≤ m * up e + down e) (high : m * up e < (c + 1) * down e) where
@@ -238,9 +238,9 @@ module _ (c m : ℕ) (e : ℤ) (small : c ≤ 255) (low : c * down e ≤ m * up 
   unfolding ofBits
   above h = let l = lt-value 255 (pos 0) (m * up e) (down e) (down-pos e) x (refl, refl) h in omega arith
 
-  cut-limited : Close (cutOf (clampOf x c0·0 c255·0))
+  cut-clamped : Close (cutOf (clampOf x c0·0 c255·0))
   unfolding clampOf
-  cut-limited = go (lt x c0·0) (lt c255·0 x) refl refl
+  cut-clamped = go (lt x c0·0) (lt c255·0 x) refl refl
     where
       go : (p q : Bool) → lt x c0·0 ≡ p → lt c255·0 x ≡ q → Close (cutOf (cond p c0·0 (cond q c255·0 x)))
       go true q h k = let l = lt-value m e 0 1 (lit< tt) c0·0 zero-is h in absurd (omega arith)
@@ -256,6 +256,6 @@ cut-near c nan a u l U v low high = absurd v
 cut-near c (inf s) a u l U v low high = absurd v
 cut-near c (fin true m e) a u l U v low high = absurd (true≢false (v .0))
 cut-near c (fin false m e) a u l U v low high =
-    cut-limited c m e l
+    cut-clamped c m e l
     (le-of-mul-le-mul-right {k = u} (let k = mul-le-mul-right (down e) low in omega (arith, v .1)) U)
     (lt-of-mul-lt-mul-right u (let k = mul-lt-mul-of-pos-right high (down-pos e) in omega (arith, v .1)))

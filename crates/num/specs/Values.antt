@@ -31,7 +31,9 @@ add-at f (fin false m e) (fin false n g) a c b d C D v w =
     round-same f false (m * up e * down g + n * up g * down e) (down e * down g) (a * d + b * c) (c * d) (mul-pos (down-pos e) (down-pos g)) (mul-pos C D)
     (add-mul (m * up e * down g) (n * up g * down e) (c * d)
     ∙ ap (λ (k : ℕ). k + n * up g * down e * (c * d)) (regroup (m * up e) (down g) c d a (down e) (v .1))
-    ∙ ap (λ (k : ℕ). a * d * (down e * down g) + k) (ap (λ (k : ℕ). n * up g * down e * k) (mul-comm c d) ∙ regroup (n * up g) (down e) d c b (down g) (w .1) ∙ ap (λ (k : ℕ). b * c * k) (mul-comm (down g) (down e)))
+    ∙ ap (λ (k : ℕ). a * d * (down e * down g) + k)
+    (ap (λ (k : ℕ). n * up g * down e * k) (mul-comm c d) ∙ regroup (n * up g) (down e) d c b (down g) (w .1)
+    ∙ ap (λ (k : ℕ). b * c * k) (mul-comm (down g) (down e)))
     ∙ sym (add-mul (a * d) (b * c) (down e * down g)))
   where
     -- x * g over c * d, where x / h is a / c
@@ -77,7 +79,8 @@ whole-value n l = round-whole binary32 false n l
 
 pub half-value : (n : ℕ) → n < 16777216 → HasValue (round binary32 false n 2) false n 2
 half-value n l =
-    round-exact binary32 false n 2 n 148 (lit< tt) l (lt-of-lt-of-le (shl-lt 24 148 l) (pow-mono {i = 24 + 148} {j = 149 + 128} (lit≤ tt))) (sym (mul-assoc n (2 ^ 148) 2))
+    round-exact binary32 false n 2 n 148 (lit< tt) l
+    (lt-of-lt-of-le (shl-lt 24 148 l) (pow-mono {i = 24 + 148} {j = 149 + 128} (lit≤ tt))) (sym (mul-assoc n (2 ^ 148) 2))
 
 half-is : HasValue c0·5 false 1 2
 unfolding ofBits

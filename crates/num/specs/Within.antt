@@ -3,7 +3,9 @@
 use mathlib.Core.Path.{_≡_, refl, sym, ap, _∙_, subst}
 use mathlib.Core.Logic.{_⊎_, inl, inr}
 use Prim.Native.Nat.{ℕ, zero, suc, _+_, _-_, _*_, _^_, _≤_, _<_, zero-le}
-use native.Mathlib.Nat.{zero-mul, mul-one, mul-comm, mul-assoc, mul-right-comm, mul-mul-mul-comm, mul-pos, mul-le-mul, mul-le-mul-right, le-of-mul-le-mul-right, le-trans, le-of-eq, add-mul, lt-irrefl, zero-lt-suc, add-le-add, sub-le}
+use native.Mathlib.Nat.{zero-mul, mul-one, mul-comm, mul-assoc, mul-right-comm, mul-mul-mul-comm, mul-pos, mul-le-mul}
+use native.Mathlib.Nat.{mul-le-mul-right, le-of-mul-le-mul-right, le-trans, le-of-eq, add-mul, lt-irrefl, zero-lt-suc}
+use native.Mathlib.Nat.{add-le-add, sub-le}
 use native.Mathlib.Omega.{arith}
 use mathlib.Core.Bool.{Bool, true, false, not, _&&_, _||_, cond}
 use lib.IntN.{ℤ}
@@ -69,7 +71,8 @@ le-within n (fin t m e) (fin u k d) s v h =
     subst (λ (b : Bool). T (within n (fin b m e))) (sym s)
     (within-plus n m e
     (cross (m * up e) (k * up d) (down e) (down d) n (down-pos d) (sym (mul-one (k * up d)) ∙ v .1)
-    (tests-le (m * up e * down d) (k * up d * down e) true (subst (λ (b : Bool). T (le (fin b m e) (fin false k d))) s (subst (λ (b : Bool). T (le (fin t m e) (fin b k d))) (v .0) h)))))
+    (tests-le (m * up e * down d) (k * up d * down e) true
+    (subst (λ (b : Bool). T (le (fin b m e) (fin false k d))) s (subst (λ (b : Bool). T (le (fin t m e) (fin b k d))) (v .0) h)))))
 
 -- nothing, rounded, is a zero of either sign
 factor-zero : (m u : ℕ) → 0 < u → m * u ≡ 0 → m ≡ 0
@@ -85,7 +88,8 @@ unfolding within
 zero-value n (fin t m e) s c p v =
     let z : m ≡ 0 = factor-zero m (up e) (up-pos e) (factor-zero (m * up e) c p (v .1 ∙ zero-mul (down e))) in
     subst (λ (i : ℕ). T (within n (fin t i e))) (sym z)
-    (and-i (leb (0 * up e) (n * down e)) (not t || true) (le→leb (0 * up e) (n * down e) (subst (λ (i : ℕ). i ≤ n * down e) (sym (zero-mul (up e))) zero-le)) (or-true t))
+    (and-i (leb (0 * up e) (n * down e)) (not t || true)
+    (le→leb (0 * up e) (n * down e) (subst (λ (i : ℕ). i ≤ n * down e) (sym (zero-mul (up e))) zero-le)) (or-true t))
 
 round-zero : (n : ℕ) (s : Bool) (c : ℕ) → 0 < c → T (within n (round binary32 s 0 c))
 round-zero n s c p = zero-value n (round binary32 s 0 c) s c p (round-exact binary32 s 0 c 0 0 p (lit< tt) (lit< tt) (sym (zero-mul c)))
@@ -129,7 +133,8 @@ nothing : {a : ℕ} → Plain true a → a ≡ 0
 nothing (inl e) = absurd (subst T e tt)
 nothing (inr z) = z
 
-sum-within : (n : ℕ) (s : Bool) (a : ℕ) (t : Bool) (b c : ℕ) → n ≤ 16777216 → 0 < c → a + b ≤ n * c → Plain s a → Plain t b → T (within n (sum binary32 s a t b c))
+sum-within : (n : ℕ) (s : Bool) (a : ℕ) (t : Bool) (b c : ℕ) → n ≤ 16777216 → 0 < c → a + b ≤ n * c → Plain s a
+    → Plain t b → T (within n (sum binary32 s a t b c))
 unfolding sum
 sum-within n false a false b c small p h g k = round-within n false (a + b) c small p h (inl refl)
 sum-within n true a true b c small p h g k = round-within n true (a + b) c small p h (inr (both a b (nothing g) (nothing k)))
@@ -181,12 +186,14 @@ add-within n k (fin s m e) nan small h g = absurd g
 add-within n k (fin s m e) (inf _) small h g = absurd g
 add-within n k (fin s m e) (fin t i d) small h g =
     sum-within (n + k) s (m * up e * down d) t (i * up d * down e) (down e * down d) small (mul-pos (down-pos e) (down-pos d))
-    (le-trans (add-le-add (scaled (m * up e) n (down e) (down d) (size-le n s m e h)) (subst (λ (r : ℕ). i * up d * down e ≤ k * r) (mul-comm (down d) (down e)) (scaled (i * up d) k (down d) (down e) (size-le k t i d g))))
+    (le-trans (add-le-add (scaled (m * up e) n (down e) (down d) (size-le n s m e h))
+    (subst (λ (r : ℕ). i * up d * down e ≤ k * r) (mul-comm (down d) (down e)) (scaled (i * up d) k (down d) (down e) (size-le k t i d g))))
     (le-of-eq (sym (add-mul n k (down e * down d)))))
     (plain n s m e (down d) h) (plain k t i d (down e) g)
 
 -- a difference that is not negative
-difference-within : (n : ℕ) (s : Bool) (a : ℕ) (t : Bool) (b c : ℕ) → n ≤ 16777216 → 0 < c → a ≤ n * c → b ≤ a → Plain s a → Plain t b → T (within n (sum binary32 s a (not t) b c))
+difference-within : (n : ℕ) (s : Bool) (a : ℕ) (t : Bool) (b c : ℕ) → n ≤ 16777216 → 0 < c → a ≤ n * c → b ≤ a
+    → Plain s a → Plain t b → T (within n (sum binary32 s a (not t) b c))
 unfolding sum
 difference-within n false a false b c small p h l g k = go (ltb a b)
   where

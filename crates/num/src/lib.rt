@@ -4,4 +4,4 @@
 pub mod root; // the square root
 pub mod size; // whether a side of a picture is taken
 pub mod steps; // clamp, min, max, limit, abs
-pub mod whole; // cut, cut_limited, cut_unit, round, nearest
+pub mod whole; // cut, cut_clamped, cut_unit, round, nearest

@@ -1,4 +1,4 @@
-// Whole numbers of an `f32`: cut, also of a limited value, round, nearest. Definitions: specs/Steps.antt; those that only the
+// Whole numbers of an `f32`: cut, also of a clamped value, round, nearest. Definitions: specs/Steps.antt; those that only the
 // private functions here cite are in specs/Private.antt. None of them branches around another step or returns early, so that a
 // loop over any of the five becomes vector code.
 ghost use mathlib.Core.Path.{_≡_};
@@ -60,7 +60,7 @@ fn to_255(x: f32) -> f32
 }
 
 // `clamp` to 0..255 and then `cut`, in one step: neither has to look for a NaN.
-pub fn cut_limited(x: f32) -> u32
+pub fn cut_clamped(x: f32) -> u32
     ensures { λ r. ⌜ r ≡ cutOf (clampOf x c0·0 c255·0) ⌝ }
     ensures { λ r. ⌜ r ≤ 255 ⌝ }
 {

@@ -13,9 +13,9 @@ use Rattle.num.specs.Bounds.{unit-cut, clamp-cut, top-is}
 use Rattle.num.specs.Rewrite.{every, every-twice, rewrite-ext, getD-rewrite, length-rewrite}
 use Rattle.passes.specs as Text
 use Rattle.passes.specs.Arith.{plain}
-use Rattle.passes.specs.Painted.{Painted, painted, converted, fromLimited, fromUnit}
-use Rattle.passes.specs.Plain.Pixel.{packLimited, packUnit, clips}
-use Rattle.passes.specs.Private.{markLimited, markUnit, everyLimited, everyUnit, unmarked}
+use Rattle.passes.specs.Painted.{Painted, painted, converted, fromClamped, fromUnit}
+use Rattle.passes.specs.Plain.Pixel.{packClamped, packUnit, clips}
+use Rattle.passes.specs.Private.{markClamped, markUnit, everyClamped, everyUnit, unmarked}
 use Rattle.passes.specs.declared.pixel.Rgb.{Rgb}
 
 -- ---- by any conversion to a word below 2^24
@@ -39,9 +39,9 @@ module _ (pack count : Rgb → ℕ) (small : (c : Rgb) → pack c < 16777216) (c
 
 -- ---- by the two final conversions
 
-pub limited-small : (c : Rgb) → packLimited c < 16777216
-unfolding Text.Pixel.packLimited Text.Pixel.pack
-limited-small c = omega (arith, top (c .r), top (c .g), top (c .b))
+pub clamped-small : (c : Rgb) → packClamped c < 16777216
+unfolding Text.Pixel.packClamped Text.Pixel.pack
+clamped-small c = omega (arith, top (c .r), top (c .g), top (c .b))
   where
     top : (x : Float) → cutOf (clampOf x c0·0 c255·0) ≤ 255
     top x = clamp-cut 255 x c255·0 top-is
@@ -51,9 +51,9 @@ unfolding Text.Pixel.packUnit Text.Pixel.pack
 unit-small c = omega (arith, unit-cut (c .r), unit-cut (c .g), unit-cut (c .b))
 
 module _ (colour : ℕ → ℕ → Rgb) {out : Painted} (xs ys : List ℕ) where
-  pub collected-limited : ys ≡ everyLimited colour xs → out ≡ unmarked ys → out ≡ fromLimited plain colour xs
-  unfolding markLimited
-  collected-limited = collected packLimited (clips c255·0) limited-small colour xs ys
+  pub collected-clamped : ys ≡ everyClamped colour xs → out ≡ unmarked ys → out ≡ fromClamped plain colour xs
+  unfolding markClamped
+  collected-clamped = collected packClamped (clips c255·0) clamped-small colour xs ys
 
   pub collected-unit : ys ≡ everyUnit colour xs → out ≡ unmarked ys → out ≡ fromUnit plain colour xs
   unfolding markUnit

@@ -1,4 +1,5 @@
 -- Laws that the proofs of several functions cite.
+mod RowLoops
 mod Sums
 mod Offsets
 mod Chroma
@@ -9,4 +10,3 @@ mod Mirror
 mod Quarter
 mod Places
 mod Mixes
-mod Shifts

@@ -18,7 +18,7 @@ use Rattle.num.specs.F32.{_⊖_, _⊗_, _⊘_, whole}
 use Rattle.num.specs.Signs.{round-neg, square-neg, div-neg}
 use Rattle.num.specs.Values.{whole-value, half-value}
 use Rattle.passes.specs as Text
-use Rattle.passes.specs.Plain.Vignette.{square}
+use Rattle.passes.specs.Plain.Vignette.{offsetSquared}
 
 -- a quotient squared drops the sign of what is divided
 abbrev ratio : Float → Float → Float
@@ -91,8 +91,8 @@ middle n l =
 
 -- ---- the law
 
-square-is : (n k : ℕ) → n ≤ 1024 → k ≤ 1024 → square n k ≡ ratio (whole n ⊘ c2·0) (round binary32 false (gap n k) 2)
-unfolding Text.Vignette.square
+square-is : (n k : ℕ) → n ≤ 1024 → k ≤ 1024 → offsetSquared n k ≡ ratio (whole n ⊘ c2·0) (round binary32 false (gap n k) 2)
+unfolding Text.Vignette.offsetSquared
 square-is n k l m =
     let d = difference (whole k) (whole n ⊘ c2·0) n k (whole-value k (omega arith)) (middle n l) in
     ap (ratio (whole n ⊘ c2·0)) (d .1) ∙ ratio-sign (whole n ⊘ c2·0) (d .0) (gap n k) 2
@@ -101,7 +101,7 @@ square-is n k l m =
 abbrev pub nearer : ℕ → ℕ → ℕ
 nearer n k = min k (n - k)
 
-pub square-nearer : (n k : ℕ) → n ≤ 1024 → k ≤ n → square n (nearer n k) ≡ square n k
+pub square-nearer : (n k : ℕ) → n ≤ 1024 → k ≤ n → offsetSquared n (nearer n k) ≡ offsetSquared n k
 square-nearer n k l m =
     let same : gap n (nearer n k) ≡ gap n k = omega arith in
     square-is n (nearer n k) l (omega arith) ∙ ap (λ (g : ℕ). ratio (whole n ⊘ c2·0) (round binary32 false g 2)) same ∙ sym (square-is n k l (omega arith))

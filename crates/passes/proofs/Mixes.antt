@@ -10,8 +10,8 @@ use Rattle.num.specs.Rewrite.{fill, rewrite-ext}
 use Rattle.passes.specs as Text
 use Rattle.passes.specs.Plain.Persistence.{add, mix}
 use Rattle.passes.specs.Plain.Pixel.{channel, rgb, scaled, unpack}
-use Rattle.passes.specs.Rows.{lent-word}
 use Rattle.passes.specs.declared.pixel.Rgb.{Rgb}
+use Rattle.passes.proofs.RowLoops.{lent-word}
 
 channel-scaled : (which : ℕ) (w : Float) (c : Rgb) → channel which c ⊗ w ≡ channel which (scaled w c)
 unfolding Text.Pixel.channel

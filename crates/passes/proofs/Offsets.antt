@@ -8,7 +8,7 @@ use native.Mathlib.Nat.{add-zero, add-suc}
 use native.Mathlib.Numerals.{add-one}
 use native.Mathlib.Omega.{arith}
 use lib.Dec.{T, leb, ltb, lit≤}
-use lib.ListN.{length, take, drop, length-drop}
+use lib.ListN.{length, take, drop}
 use lib.Seq.{length-take-le, getD-take, getD-drop}
 use lib.Ieee.{Float, nan}
 use borrow.Author.Tests.{le-leb, lt-leb, lt-ltb, le-ltb, ltb-true}
@@ -17,9 +17,9 @@ use Rattle.num.specs.Rewrite.{Rewritten, rewrite, every, fill, length-rewrite, 
 use Rattle.num.specs.Rewrite.{getD-rewrite, getD-fill, mid, part}
 use Rattle.passes.specs as Text
 use Rattle.passes.specs.declared.blur.Four.{Four}
-use Rattle.passes.specs.Plain.Blur.{at, cell, weight, distance, inside, taken, step, total, weights, weighted}
-use Rattle.passes.specs.Plain.Blur.{ratio, blurBy, blurAt, Begins}
-use Rattle.passes.specs.Private.{fourWeights, onward}
+use Rattle.passes.specs.Plain.Blur.{weight, distance, inside, taken, step, total, weightSum, weighted}
+use Rattle.passes.specs.Plain.Blur.{quotient, blurAt}
+use Rattle.passes.specs.Private.{at, cell, blurBy, Begins, fourWeights, onward}
 
 lt-or-le : (a b : ℕ) → (a < b) ⊎ (b ≤ a)
 lt-or-le a zero = inr zero-le
@@ -62,11 +62,11 @@ total-same term term′ n radius x (suc k) h =
 
 pub blur-same : (sums f g : ℕ → Float) (n radius x : ℕ) → ((i : ℕ) → i < n → f i ≡ g i) → blurBy sums f n radius x ≡ blurBy sums g n radius x
 blur-same sums f g n radius x h =
-    ap (λ (s : Float). ratio s (sums x)) (total-same _ _ n radius x (2 * radius + 1) (λ i w l. ap (λ (v : Float). v ⊗ w) (h i l)))
+    ap (λ (s : Float). quotient s (sums x)) (total-same _ _ n radius x (2 * radius + 1) (λ i w l. ap (λ (v : Float). v ⊗ w) (h i l)))
 
 -- with the sums of weights that the definition has
-pub blur-by : (sums f : ℕ → Float) (n radius x : ℕ) → sums x ≡ weights n radius x → blurBy sums f n radius x ≡ blurAt f n radius x
-blur-by sums f n radius x e = ap (ratio (weighted f n radius x)) e
+pub blur-by : (sums f : ℕ → Float) (n radius x : ℕ) → sums x ≡ weightSum n radius x → blurBy sums f n radius x ≡ blurAt f n radius x
+blur-by sums f n radius x e = ap (quotient (weighted f n radius x)) e
 
 pub total-more : (term : ℕ → Float → Float) (n radius x k : ℕ) → total term n radius x (k + 1) ≡ step term n radius x k (total term n radius x k)
 unfolding Text.Blur.total
@@ -144,17 +144,6 @@ module _ (src : List Float) (radius : ℕ) where
       (line-step (k + 2) (start + i) m (from + 2) i c (w .c) _ (omega arith) (omega arith) (omega arith) l ec (ap (λ (f : Four). f .c) ew))
       (line-step (k + 3) (start + i) m (from + 3) i d (w .d) _ (omega arith) (omega arith) (omega arith) l ed (ap (λ (f : Four). f .d) ew)))
 
--- the places from i to j were lent to a rewriting by f, of which those before i are done
-pub further : {f : ℕ → Float → Float} {xs ys : List Float} {i : ℕ} (j : ℕ) (new : List Float) → Rewritten i f xs ys → i ≤ j → j ≤ length xs
-    → new ≡ every (λ d. f (i + d)) (take (j - i) (drop i ys)) → Rewritten j f xs (take i ys ++ (new ++ drop (j - i) (drop i ys)))
-further {f} {xs} {ys} {i} j new t h l e =
-    let whole : i + (j - i) ≡ j = omega arith in
-    subst (λ (n : ℕ). Rewritten n f xs (take i ys ++ (new ++ drop (j - i) (drop i ys)))) whole (part (j - i) (λ d. f (i + d)) new t (omega arith) (λ d v m. refl) e)
-
--- and they are j - i
-pub further-long : {f : ℕ → Float → Float} {xs ys : List Float} {i : ℕ} (j : ℕ) → Rewritten i f xs ys → j ≤ length xs → length (take (j - i) (drop i ys)) ≡ j - i
-further-long {ys = ys} {i = i} j t l = length-take-le (j - i) (drop i ys) (rw length-drop (omega (arith, t .kept)))
-
 -- the whole line: an edge, the middle, an edge
 module _ (acc src : List Float) (radius k : ℕ) (e : length acc ≡ length src) where
   abbrev fourfold : ℕ → Float → Float
@@ -231,7 +220,7 @@ begun {n} {x} {f} {before} e l h t = record {
 }
 
 -- its sums of weights, where they are lent
-pub weight-at : (line : List Float) (n radius x : ℕ) → Begins n (weights n radius) line → x < n → at (take n line) x ≡ weights n radius x
+pub weight-at : (line : List Float) (n radius x : ℕ) → Begins n (weightSum n radius) line → x < n → at (take n line) x ≡ weightSum n radius x
 weight-at line n radius x t l = getD-take n line x nan l ∙ t .value x l
 
 -- a line that was filled by f, blurred: at one place, as a line, and read from that line

@@ -79,3 +79,31 @@ copies-place zero (suc depth) frame l = rw (zero-mul (length frame)) (take-appen
 copies-place (suc j) (suc depth) frame l =
     let size : suc j * length frame ≡ length frame + j * length frame = omega (arith, suc-mul j (length frame)) in
     rw size (ap (take (length frame)) (drop-append-add frame (copies depth frame) (j * length frame)) ∙ copies-place j depth frame (le-of-suc-le-suc l))
+
+-- ## Shifting: each place gets what stood in the place before, and the first gets the frame
+
+-- what is carried to place j of a history `was` that gets a frame: the words that come there
+pub record Carried (depth j at : ℕ) (frame was carried is : List ℕ) : Type 0 where
+  pub written : Written (length frame) depth j at (frame ++ was) was is
+  pub size : length carried ≡ length frame
+  pub next : carried ≡ take (length frame) (drop at (frame ++ was))
+
+pub carried-none : (depth : ℕ) (frame was : List ℕ) → depth * length frame ≤ length was → Carried depth 0 0 frame was frame was
+carried-none depth frame was r = record {
+  written = none (length frame) depth (frame ++ was) was r (simp length-append (omega arith));
+  size = refl;
+  next = sym (take-append-seam frame was);
+}
+
+module _ {depth j k : ℕ} {frame was carried is : List ℕ} (t : Carried depth j k frame was carried is) where
+  -- the place and what is carried are exchanged
+  pub carried-more : (left new : List ℕ) → j < depth → new ≡ carried → left ≡ take (k + length frame - k) (drop k is)
+      → Carried depth (j + 1) (k + length frame) frame was left (take k is ++ (new ++ drop (k + length frame - k) (drop k is)))
+  carried-more left new l e f =
+      let n = length frame in
+      let m : k + n ≡ n + k = omega arith in
+      record {
+        written = more (t .written) new l (e ∙ t .next);
+        size = ap length f ∙ place-length (t .written) l;
+        next = f ∙ place (t .written) l ∙ ap (take n) (sym (rw m (drop-append-add frame was k)));
+      }

@@ -6,9 +6,11 @@ use native.Mathlib.Omega.{arith}
 use lib.ListN.{length, getD, take, drop}
 use lib.Ieee.{Float, nan}
 use Rattle.passes.specs.Plain.Pixel.{rgb}
-use Rattle.passes.specs.Rows.{lent-length, lent-word, sampled, getD-sampled, column, row, row-ends}
-use Rattle.passes.specs.Plain.Blur.{at, weights, blurBy, down}
-use Rattle.passes.specs.Plain.Bloom.{composite, brightOf, sample, horizontalBy, stored}
+use Rattle.passes.specs.Rows.{sampled, getD-sampled, column, row, row-ends}
+use Rattle.passes.specs.Plain.Blur.{weightSum, down}
+use Rattle.passes.specs.Plain.Bloom.{composite, brightOf, sample}
+use Rattle.passes.specs.Private.{at, blurBy, horizontalBy, stored}
+use Rattle.passes.proofs.RowLoops.{lent-length, lent-word}
 use Rattle.passes.proofs.Offsets.{blur-same}
 
 pub same-composite : (s : Float) {r r′ g g′ b b′ : Float} (p : ℕ) → r ≡ r′ → g ≡ g′ → b ≡ b′
@@ -44,4 +46,4 @@ module _ (w h radius : ℕ) (f : ℕ → ℕ → ℕ → Float) (before planes :
 
   pub down-is : (which x y : ℕ) → which < 3 → x < w → down h radius (stored planes w which) x y ≡ down h radius (f which) x y
   down-is which x y a b =
-      blur-same (weights h radius) (λ i. stored planes w which x i) (λ i. f which x i) h radius y (λ i l. stored-is which x i a b l)
+      blur-same (weightSum h radius) (λ i. stored planes w which x i) (λ i. f which x i) h radius y (λ i l. stored-is which x i a b l)

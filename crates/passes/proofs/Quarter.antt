@@ -12,7 +12,7 @@ use Rattle.num.specs.Rewrite.{length-rewrite}
 use Rattle.num.specs.F32.{_⊕_}
 use Rattle.num.specs.Root.{rootOf}
 use Rattle.passes.specs.Rows.{Frame, sampled, getD-sampled, row-ends}
-use Rattle.passes.specs.Plain.Vignette.{factor, square, factorAt}
+use Rattle.passes.specs.Plain.Vignette.{factor, offsetSquared, factorAt}
 use Rattle.passes.proofs.Mirror.{nearer, square-nearer}
 
 -- how many words it has
@@ -60,8 +60,8 @@ module _ {w h : ℕ} {frame : List ℕ} (scratch : List Float) (pre : Frame w h 
           (omega (arith, new-length, quarter-frame .area, row-ends v (h / 2 + 1) (nearer h y) b))
           ∙ ap (λ (z : List Float). getD z (nearer h y * v + nearer w x) nan) e
           ∙ getD-sampled v (h / 2 + 1) (take (words w h) scratch) (factorAt w h strength) (nearer w x) (nearer h y) nan (quarter-frame .area) a b
-          ∙ ap (λ (z : Float). factor strength (rootOf (z ⊕ square h (nearer h y)))) (square-nearer w x (pre .0 .wide) (omega arith))
-          ∙ ap (λ (z : Float). factor strength (rootOf (square w x ⊕ z))) (square-nearer h y (pre .0 .high) (omega arith));
+          ∙ ap (λ (z : Float). factor strength (rootOf (z ⊕ offsetSquared h (nearer h y)))) (square-nearer w x (pre .0 .wide) (omega arith))
+          ∙ ap (λ (z : Float). factor strength (rootOf (offsetSquared w x ⊕ z))) (square-nearer h y (pre .0 .high) (omega arith));
     }
 
     -- no word past the frame's count is written

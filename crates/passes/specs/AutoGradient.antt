@@ -6,7 +6,7 @@ use lib.ListN.{length}
 use Rattle.num.specs.Const.{c0·0, c0·30, c0·45, c1·0, c14·0, c18·0, c255·0, c5·0}
 use Rattle.passes.specs.Arith.{Arith}
 use Rattle.passes.specs.Fold.{fold}
-use Rattle.passes.specs.Painted.{Painted, fromLimited}
+use Rattle.passes.specs.Painted.{Painted, fromClamped}
 use Rattle.passes.specs.Pixel.{luma709, unpack}
 use Rattle.passes.specs.Position.{position}
 use Rattle.passes.specs.Rows.{placed}
@@ -30,11 +30,11 @@ module _ (A : Arith) where
 
   -- the warmth of row y of h, by the adaptive strength a
   unfoldable pub warm : ℕ → ℕ → F → F → F
-  warm h y vertical a = neg (position A y h) ⊗ vertical ⊗ a
+  warm h y vertical a = neg (position A h y) ⊗ vertical ⊗ a
 
   -- how much of its light column x of w keeps
   unfoldable pub fall : ℕ → F → F → ℕ → F
-  fall w horizontal a x = lit c1·0 ⊖ abs (position A x w) ⊗ horizontal ⊗ a
+  fall w horizontal a x = lit c1·0 ⊖ abs (position A w x) ⊗ horizontal ⊗ a
 
   -- the brightness factor of a column that keeps so much, in a row of warmth t
   unfoldable pub brightness : F → F → F
@@ -45,12 +45,12 @@ module _ (A : Arith) where
       let c = unpack A p in
       rgb (red c ⊗ factor ⊕ t ⊗ lit c18·0) (green c ⊗ factor ⊕ t ⊗ lit c5·0) (blue c ⊗ factor ⊖ t ⊗ lit c14·0)
 
-  -- the colour at column x and row y of h; `falls` gives how much of its light each column keeps
-  abbrev pub at : ℕ → (ℕ → F) → F → F → ℕ → ℕ → ℕ → Rgb
-  at h falls vertical a x y = let t = warm h y vertical a in shade t (brightness t (falls x))
+  -- the colour at column x and row y
+  abbrev pub colourAt : ℕ → ℕ → F → F → F → ℕ → ℕ → ℕ → Rgb
+  colourAt w h vertical horizontal a x y = let t = warm h y vertical a in shade t (brightness t (fall w horizontal a x))
 
   unfoldable pub shaded : ℕ → ℕ → F → F → F → List ℕ → Painted
-  shaded w h vertical horizontal a frame = fromLimited A (placed w (at h (fall w horizontal a) vertical a)) frame
+  shaded w h vertical horizontal a frame = fromClamped A (placed w (colourAt w h vertical horizontal a)) frame
 
   -- the mean is taken over the frame as it comes, by one sum from left to right
   unfoldable pub autoGradient : ℕ → ℕ → F → F → F → List ℕ → Painted

@@ -5,8 +5,8 @@ use mathlib.Core.Bool.{cond}
 use mathlib.Core.List.{List}
 use Rattle.num.specs.Const.{c0·0, c1·0, c255·0}
 use Rattle.passes.specs.Arith.{Arith}
-use Rattle.passes.specs.Blur.{blurBy, weights, down}
-use Rattle.passes.specs.Painted.{Painted, fromLimited}
+use Rattle.passes.specs.Blur.{blurAt, down}
+use Rattle.passes.specs.Painted.{Painted, fromClamped}
 use Rattle.passes.specs.Pixel.{unpack, scaled, channel, luma709}
 use Rattle.passes.specs.Rows.{placed}
 
@@ -37,13 +37,9 @@ module _ (A : Arith) where
   abbrev pub sample : F → List ℕ → ℕ → ℕ → ℕ → ℕ → F
   sample threshold frame w which x y = brightOf threshold which (cell w frame x y)
 
-  -- blurred along rows; `sums` gives the sum of the weights at each column
-  abbrev pub horizontalBy : (ℕ → F) → ℕ → ℕ → F → List ℕ → ℕ → ℕ → ℕ → F
-  horizontalBy sums w radius threshold frame which x y =
-      blurBy A sums (λ i. sample threshold frame w which i y) w radius x
-
+  -- blurred along rows
   abbrev pub horizontal : ℕ → ℕ → F → List ℕ → ℕ → ℕ → ℕ → F
-  horizontal w radius threshold frame = horizontalBy (weights A w radius) w radius threshold frame
+  horizontal w radius threshold frame which x y = blurAt A (λ i. sample threshold frame w which i y) w radius x
 
   -- three planes of samples, blurred along columns
   abbrev pub vertical : ℕ → ℕ → (ℕ → ℕ → ℕ → F) → ℕ → ℕ → Rgb
@@ -62,4 +58,4 @@ module _ (A : Arith) where
 
   unfoldable pub bloom : ℕ → ℕ → ℕ → F → ℕ → List ℕ → Painted
   bloom w h threshold strength radius frame =
-      fromLimited A (placed w (over h strength radius (horizontal w radius (whole threshold) frame))) frame
+      fromClamped A (placed w (over h strength radius (horizontal w radius (whole threshold) frame))) frame

@@ -44,19 +44,16 @@ module _ (A : Arith) where
   abbrev pub weighted : (ℕ → F) → ℕ → ℕ → ℕ → F
   weighted sample n radius x = total (λ i w. sample i ⊗ w) n radius x (2 * radius + 1)
 
-  abbrev pub weights : ℕ → ℕ → ℕ → F
-  weights n radius x = total (λ i w. w) n radius x (2 * radius + 1)
+  abbrev pub weightSum : ℕ → ℕ → ℕ → F
+  weightSum n radius x = total (λ i w. w) n radius x (2 * radius + 1)
 
   -- sum / weight where the weight is above 0, else 0
-  abbrev pub ratio : F → F → F
-  ratio sum w = cond (below (lit c0·0) w) (sum ⊘ w) (lit c0·0)
+  abbrev pub quotient : F → F → F
+  quotient sum w = cond (below (lit c0·0) w) (sum ⊘ w) (lit c0·0)
 
-  -- the blurred sample at x; `sums` gives the sum of the weights at each place
-  abbrev pub blurBy : (ℕ → F) → (ℕ → F) → ℕ → ℕ → ℕ → F
-  blurBy sums sample n radius x = ratio (weighted sample n radius x) (sums x)
-
+  -- the blurred sample at x
   abbrev pub blurAt : (ℕ → F) → ℕ → ℕ → ℕ → F
-  blurAt sample n radius x = blurBy (weights n radius) sample n radius x
+  blurAt sample n radius x = quotient (weighted sample n radius x) (weightSum n radius x)
 
   -- samples by column and row, blurred along columns of h
   abbrev pub down : ℕ → ℕ → (ℕ → ℕ → F) → ℕ → ℕ → F

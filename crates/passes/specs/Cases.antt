@@ -7,6 +7,7 @@ use Prim.Native.Nat.{ℕ, zero, suc, _+_, _*_}
 use lib.Ieee.{ofBits, ofInt, add, sub, mul, div, neg, lt, le}
 use Rattle.num.specs.Cases.{Hold}
 use Rattle.num.specs.Const.{c0·0, c0·30, c0·5, c1·0}
+use Rattle.num.specs.Held.{sized, sameHeld}
 use Rattle.num.specs.Root.{rootOf}
 use Rattle.num.specs.Steps.{clampOf, minOf, maxOf, absOf, cutOf, roundOf}
 use Rattle.passes.specs as Text
@@ -14,7 +15,7 @@ use Rattle.passes.specs.Fold.{fold}
 use Rattle.num.specs.Rewrite.{rewrite}
 use Rattle.num.specs.Sums.{sum}
 use Rattle.passes.specs.Painted.{Painted, painted, converted}
-use Rattle.passes.specs.Flow.{sized, sameHeld, Flow, flow}
+use Rattle.passes.specs.Flow.{Flow, flow}
 use Rattle.passes.specs.Plain.Scanlines as Scanlines
 use Rattle.passes.specs.Plain.Vignette as Vignette
 use Rattle.passes.specs.Plain.Crt as Crt
@@ -65,14 +66,14 @@ marked =
 
 pub marked-hold : Hold marked
 unfolding ofBits ofInt add sub mul div neg lt le clampOf minOf maxOf absOf cutOf roundOf rootOf rewrite fold
-    Text.Pixel.unpack Text.Pixel.unit Text.Pixel.pack Text.Pixel.packNearest Text.Pixel.packLimited Text.Pixel.packUnit
+    Text.Pixel.unpack Text.Pixel.unit Text.Pixel.pack Text.Pixel.packNearest Text.Pixel.packClamped Text.Pixel.packUnit
     Text.Pixel.dim Text.Pixel.luma709 Text.Position.position Text.Scanlines.scanlines Text.Scanlines.inRow
-    Text.Vignette.vignette Text.Vignette.square Text.Vignette.factor Text.Crt.crt Text.Crt.beam Text.Crt.phosphor
+    Text.Vignette.vignette Text.Vignette.offsetSquared Text.Vignette.factor Text.Crt.crt Text.Crt.beam Text.Crt.phosphor
     Text.Crt.offset Text.Crt.edge Text.Crt.shade Text.Curvature.curvature Text.Curvature.bend Text.Curvature.sample
     Text.Curvature.outside Text.AutoGradient.autoGradient Text.AutoGradient.shaded Text.AutoGradient.adaptive
     Text.AutoGradient.addLuma Text.AutoGradient.warm Text.AutoGradient.fall Text.AutoGradient.brightness Text.AutoGradient.shade sameHeld
     Text.Persistence.persistence Text.Persistence.decay Text.Persistence.total Text.Persistence.add Text.Persistence.mix
-    converted Text.Persistence.blended Text.Persistence.blend Persistence.copies Persistence.refilled
+    converted Text.Persistence.blend Persistence.copies Persistence.refilled
     Persistence.shifted Text.ColorCorrection.colorCorrection Text.ColorCorrection.colour
 marked-hold = refl
 
@@ -89,9 +90,9 @@ equals =
     ∷ []
 
 pub equals-hold : Hold equals
-unfolding threes ofBits ofInt add mul div lt clampOf cutOf rewrite Text.Pixel.unpack Text.Pixel.scaled Text.Pixel.channels Text.Pixel.pack
-    Text.Pixel.packLimited Text.Persistence.decay Text.Persistence.total Text.Persistence.add Text.Persistence.mix converted
-    Text.Persistence.blended Text.Persistence.blend
+unfolding threes ofBits ofInt add mul div lt clampOf cutOf rewrite Text.Pixel.unpack Text.Pixel.pack
+    Text.Pixel.packClamped Text.Persistence.decay Text.Persistence.total Text.Persistence.add Text.Persistence.mix converted
+    Text.Persistence.blend
 equals-hold = refl
 
 -- clipped channels (request P5), beside the words: strictly below 0 or strictly above the top end
@@ -119,13 +120,13 @@ clipped =
 
 pub clipped-hold : Hold clipped
 unfolding ofBits ofInt add sub mul div neg lt le clampOf absOf cutOf rewrite fold sum converted sameHeld
-    Text.Pixel.unpack Text.Pixel.unit Text.Pixel.pack Text.Pixel.packLimited Text.Pixel.packUnit Text.Pixel.clip Text.Pixel.clips
+    Text.Pixel.unpack Text.Pixel.unit Text.Pixel.pack Text.Pixel.packClamped Text.Pixel.packUnit Text.Pixel.clip Text.Pixel.clips
     Text.Pixel.channel Text.Pixel.luma601 Text.Pixel.luma709 Text.Position.position Text.ColorCorrection.colorCorrection
     Text.ColorCorrection.colour Text.Lut.lut Text.Lut.colour Text.Lut.transform Text.AutoGradient.autoGradient
     Text.AutoGradient.shaded Text.AutoGradient.adaptive Text.AutoGradient.addLuma Text.AutoGradient.warm Text.AutoGradient.fall
     Text.AutoGradient.brightness Text.AutoGradient.shade Text.Blur.weight Text.Blur.total Text.Bloom.bloom Text.Bloom.bright
     Text.Bloom.composite Text.Ntsc.ntsc Text.Ntsc.pixel Text.Ntsc.chroma Text.Persistence.persistence Text.Persistence.decay
-    Text.Persistence.total Text.Persistence.add Text.Persistence.mix Text.Persistence.blended Text.Persistence.blend
+    Text.Persistence.total Text.Persistence.add Text.Persistence.mix Text.Persistence.blend
     Persistence.copies Persistence.refilled Persistence.shifted
 clipped-hold = refl
 
@@ -150,18 +151,18 @@ unfolding ofBits ofInt add sub mul div clampOf cutOf roundOf rewrite Text.Pixel.
 presets-hold = refl
 
 -- NTSC, bleed 1, at strength 1.0 on three colours and at 0.0 on three greys, 3 by 1; bloom, strength 1.0, radius 1, 2
--- by 2, at thresholds 0, 254 and 255
+-- by 2, at thresholds 0, 254 and 255, the last with a word whose top byte is not 0
 abbrev pub blurs : List (List ℕ × List ℕ)
 blurs =
     (Ntsc.ntsc 3 c1·0 1 (0xff0000 ∷ 0x00ff00 ∷ 0x0000ff ∷ []) .words, 0x913c00 ∷ 0x70b070 ∷ 0x002c81 ∷ [])
     ∷ (Ntsc.ntsc 3 c0·0 1 (0x808080 ∷ 0x111111 ∷ 0xffffff ∷ []) .words, 0x807f80 ∷ 0x111011 ∷ 0xfffeff ∷ [])
     ∷ (Bloom.bloom 2 2 0 c1·0 1 (0x102030 ∷ 0 ∷ 0 ∷ 0x400000 ∷ []) .words, 0x112132 ∷ 0x010001 ∷ 0x010001 ∷ 0x410000 ∷ [])
     ∷ (Bloom.bloom 2 2 254 c1·0 1 (0xffffff ∷ 0 ∷ 0 ∷ 0 ∷ []) .words, 0xffffff ∷ 0x383838 ∷ 0x383838 ∷ 0x1c1c1c ∷ [])
-    ∷ (Bloom.bloom 2 2 255 c1·0 1 (0xffffff ∷ 0 ∷ 0 ∷ 0xfffffff ∷ []) .words, 0xffffff ∷ 0 ∷ 0 ∷ 0xffffff ∷ [])
+    ∷ (Bloom.bloom 2 2 255 c1·0 1 (0xffffff ∷ 0 ∷ 0 ∷ 0x0fffffff ∷ []) .words, 0xffffff ∷ 0 ∷ 0 ∷ 0xffffff ∷ [])
     ∷ []
 
 pub blurs-hold : Hold blurs
 unfolding ofBits ofInt add sub mul div neg lt le clampOf cutOf rewrite Text.Pixel.unpack Text.Pixel.pack
-    Text.Pixel.packLimited Text.Pixel.channel Text.Pixel.luma601 Text.Pixel.luma709 Text.Blur.weight Text.Blur.total
+    Text.Pixel.packClamped Text.Pixel.channel Text.Pixel.luma601 Text.Pixel.luma709 Text.Blur.weight Text.Blur.total
     Text.Ntsc.ntsc Text.Ntsc.pixel Text.Ntsc.chroma Text.Bloom.bloom Text.Bloom.bright Text.Bloom.composite converted
 blurs-hold = refl

@@ -28,7 +28,7 @@ module _ (A : Arith) where
   phosphor (suc zero) dim c = rgb (red c ⊗ dim) (green c) (blue c ⊗ dim)
   phosphor (suc (suc n)) dim c = rgb (red c ⊗ dim) (green c ⊗ dim) (blue c)
 
-  -- how far k is from the middle of 0..n - 1, times one over that middle
+  -- how far k is from the middle of 0..n - 1, times one over that middle, which is taken as at least 1
   unfoldable pub offset : ℕ → ℕ → F
   offset n k =
       let c = whole (n - 1) ⊗ lit c0·5 in
@@ -43,11 +43,11 @@ module _ (A : Arith) where
   shade column dim factor p = packNearest A (scaled A factor (phosphor column dim (unpack A p)))
 
   -- the word at column x and row y
-  abbrev pub at : ℕ → ℕ → F → ℕ → ℕ → ℕ → ℕ
-  at w h strength x y =
+  abbrev pub wordAt : ℕ → ℕ → F → ℕ → ℕ → ℕ → ℕ
+  wordAt w h strength x y =
       let dim = lit c1·0 ⊖ lit c0·035 ⊗ strength in
       let factor = beam (y % 3) strength ⊗ edge strength (offset w x) (offset h y) in
       shade (x % 3) dim factor
 
   unfoldable pub crt : ℕ → ℕ → F → List ℕ → List ℕ
-  crt w h strength frame = every (placed w (at w h strength)) frame
+  crt w h strength frame = every (placed w (wordAt w h strength)) frame

@@ -33,11 +33,11 @@ module _ (A : Arith) where
       sample w h copy (nx ⊗ distortion) (ny ⊗ distortion)
 
   -- the word at column x and row y
-  abbrev pub at : ℕ → ℕ → F → List ℕ → ℕ → ℕ → ℕ → ℕ
-  at w h amount copy x y p = bend w h amount copy (position A x w) (position A y h)
+  abbrev pub wordAt : ℕ → ℕ → F → List ℕ → ℕ → ℕ → ℕ → ℕ
+  wordAt w h amount copy x y p = bend w h amount copy (position A w x) (position A h y)
 
   abbrev pub bent : ℕ → ℕ → F → List ℕ → List ℕ → List ℕ
-  bent w h amount copy frame = every (placed w (at w h amount copy)) frame
+  bent w h amount copy frame = every (placed w (wordAt w h amount copy)) frame
 
   unfoldable pub curvature : ℕ → ℕ → F → List ℕ → List ℕ
   curvature w h amount frame = bent w h amount frame frame

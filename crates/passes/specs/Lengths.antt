@@ -7,9 +7,10 @@ use Prim.Native.Nat.{ℕ, _+_, _*_, _≤_}
 use native.Mathlib.Omega.{arith}
 use lib.ListN.{length}
 use lib.Ieee.{Float}
+use Rattle.num.specs.Held.{Held, sameHeld}
 use Rattle.num.specs.Rewrite.{length-rewrite}
 use Rattle.passes.specs.Arith.{plain}
-use Rattle.passes.specs.Painted.{Paints, limited-paints, unit-paints, onto}
+use Rattle.passes.specs.Painted.{Paints, clamped-paints, unit-paints, onto}
 use Rattle.passes.specs as Text
 use Rattle.passes.specs.Plain.Scanlines.{scanlines}
 use Rattle.passes.specs.Plain.Vignette.{vignette}
@@ -20,7 +21,7 @@ use Rattle.passes.specs.Plain.Lut.{lut}
 use Rattle.passes.specs.Plain.ColorCorrection.{colorCorrection}
 use Rattle.passes.specs.Plain.Ntsc.{ntsc}
 use Rattle.passes.specs.Plain.Bloom.{bloom}
-use Rattle.passes.specs.Flow.{Held, sameHeld, Flow, flow}
+use Rattle.passes.specs.Flow.{Flow, flow}
 use Rattle.passes.specs.Plain.Persistence.{persistence, blend, shifted, refilled}
 use Rattle.passes.specs.PersistenceLaws.{blend-paints, shifted-length, refilled-length}
 
@@ -43,7 +44,7 @@ module _ (w h : ℕ) (s : Float) (frame : List ℕ) where
 
   pub auto-gradient-paints : (vertical horizontal : Float) → Paints frame (autoGradient w h s vertical horizontal frame)
   unfolding Text.AutoGradient.autoGradient Text.AutoGradient.shaded
-  auto-gradient-paints vertical horizontal = limited-paints plain _ frame
+  auto-gradient-paints vertical horizontal = clamped-paints plain _ frame
 
   pub lut-paints : (preset : ℕ) → Paints frame (lut preset s frame)
   unfolding Text.Lut.lut
@@ -55,11 +56,11 @@ module _ (w h : ℕ) (s : Float) (frame : List ℕ) where
 
   pub ntsc-paints : (bleed : ℕ) → Paints frame (ntsc w s bleed frame)
   unfolding Text.Ntsc.ntsc
-  ntsc-paints bleed = limited-paints plain _ frame
+  ntsc-paints bleed = clamped-paints plain _ frame
 
   pub bloom-paints : (threshold radius : ℕ) → Paints frame (bloom w h threshold s radius frame)
   unfolding Text.Bloom.bloom
-  bloom-paints threshold radius = limited-paints plain _ frame
+  bloom-paints threshold radius = clamped-paints plain _ frame
 
 module _ (amount : Float) (k : ℕ) (size : Held) (x : Flow) where
   abbrev either : Bool → Flow

@@ -5,8 +5,8 @@ use mathlib.Core.List.{List}
 use Rattle.num.specs.Const.{c0·10001, c0·14713, c0·28886, c0·39465, c0·436, c0·51499, c0·58060, c0·615, c1·13983}
 use Rattle.num.specs.Const.{c2·03211}
 use Rattle.passes.specs.Arith.{Arith}
-use Rattle.passes.specs.Blur.{blurBy, weights}
-use Rattle.passes.specs.Painted.{Painted, fromLimited}
+use Rattle.passes.specs.Blur.{blurAt}
+use Rattle.passes.specs.Painted.{Painted, fromClamped}
 use Rattle.passes.specs.Pixel.{unpack, luma601}
 use Rattle.passes.specs.Rows.{placed}
 
@@ -42,11 +42,12 @@ module _ (A : Arith) where
       let v = blend strength (chroma 1 c) blurredV in
       colour (luma601 A c) u v
 
-  -- the colour at column x and row y; `sums` gives the sum of the weights at each column
-  abbrev pub at : (ℕ → F) → ℕ → F → ℕ → List ℕ → ℕ → ℕ → ℕ → Rgb
-  at sums w strength bleed frame x y =
-      pixel strength (blurBy A sums (λ i. sample 0 frame w i y) w bleed x)
-      (blurBy A sums (λ i. sample 1 frame w i y) w bleed x)
+  -- the colour at column x and row y
+  abbrev pub colourAt : ℕ → F → ℕ → List ℕ → ℕ → ℕ → ℕ → Rgb
+  colourAt w strength bleed frame x y =
+      let blurredU = blurAt A (λ i. sample 0 frame w i y) w bleed x in
+      let blurredV = blurAt A (λ i. sample 1 frame w i y) w bleed x in
+      pixel strength blurredU blurredV
 
   unfoldable pub ntsc : ℕ → F → ℕ → List ℕ → Painted
-  ntsc w strength bleed frame = fromLimited A (placed w (at (weights A w bleed) w strength bleed frame)) frame
+  ntsc w strength bleed frame = fromClamped A (placed w (colourAt w strength bleed frame)) frame

@@ -11,7 +11,7 @@ use Rattle.num.specs.Const.{c0·0, c1·0, c255·0}
 use Rattle.num.specs.Rewrite.{every, rewrite-ext, length-rewrite}
 use Rattle.num.specs.Sums.{sum, sum-ext, sum-bound}
 use Rattle.passes.specs.Arith.{Arith}
-use Rattle.passes.specs.Pixel.{packLimited, packUnit, clip, clips}
+use Rattle.passes.specs.Pixel.{packClamped, packUnit, clip, clips}
 use Rattle.passes.specs.Rows.{placed, place-in}
 
 pub record Painted : Type 0 where
@@ -28,8 +28,8 @@ converted pack count colour frame =
 
 -- the two final conversions: from 0..255, and from 0..1
 module _ (A : Arith) where
-  abbrev pub fromLimited : (ℕ → ℕ → A .Rgb) → List ℕ → Painted
-  fromLimited = converted (packLimited A) (clips A c255·0)
+  abbrev pub fromClamped : (ℕ → ℕ → A .Rgb) → List ℕ → Painted
+  fromClamped = converted (packClamped A) (clips A c255·0)
 
   abbrev pub fromUnit : (ℕ → ℕ → A .Rgb) → List ℕ → Painted
   fromUnit = converted (packUnit A) (clips A c1·0)
@@ -96,8 +96,8 @@ module _ (A : Arith) where
   unfolding clips
   clips-few top c = omega (arith, clip-few top (A .red c), clip-few top (A .green c), clip-few top (A .blue c))
 
-  pub limited-paints : (colour : ℕ → ℕ → A .Rgb) (frame : List ℕ) → Paints frame (fromLimited A colour frame)
-  limited-paints colour frame = converted-paints (packLimited A) (clips A c255·0) frame colour (clips-few c255·0)
+  pub clamped-paints : (colour : ℕ → ℕ → A .Rgb) (frame : List ℕ) → Paints frame (fromClamped A colour frame)
+  clamped-paints colour frame = converted-paints (packClamped A) (clips A c255·0) frame colour (clips-few c255·0)
 
   pub unit-paints : (colour : ℕ → ℕ → A .Rgb) (frame : List ℕ) → Paints frame (fromUnit A colour frame)
   unit-paints colour frame = converted-paints (packUnit A) (clips A c1·0) frame colour (clips-few c1·0)

@@ -5,9 +5,10 @@ use mathlib.Core.Bool.{cond}
 use mathlib.Core.List.{List, [], _++_}
 use lib.ListN.{length, take, drop}
 use Rattle.num.specs.Const.{c0·55, c1·0}
+use Rattle.num.specs.Held.{Held, sameHeld}
 use Rattle.passes.specs.Arith.{Arith}
-use Rattle.passes.specs.Flow.{Held, sameHeld, Flow, flow}
-use Rattle.passes.specs.Painted.{Painted, fromLimited, onto}
+use Rattle.passes.specs.Flow.{Flow, flow}
+use Rattle.passes.specs.Painted.{Painted, fromClamped, onto}
 use Rattle.passes.specs.Pixel.{scaled, unpack}
 
 -- ## The history
@@ -42,7 +43,7 @@ module _ (A : Arith) where
   total amount zero = lit c1·0
   total amount (suc k) = total amount k ⊕ decay amount k
 
-  -- the same, divided by the sum t
+  -- the weight of the older frame j, divided by the sum t
   abbrev pub weight : F → F → ℕ → F
   weight amount t j = decay amount j ⊘ t
 
@@ -60,11 +61,10 @@ module _ (A : Arith) where
   mix w ws past n i p zero = scaled A w (unpack A p)
   mix w ws past n i p (suc j) = add (mix w ws past n i p j) (ws j) (cell n past i j)
 
-  unfoldable pub blended : F → (ℕ → F) → ℕ → List ℕ → List ℕ → Painted
-  blended w ws k past frame = fromLimited A (λ i p. mix w ws past (length frame) i p k) frame
-
   unfoldable pub blend : F → ℕ → (past frame : List ℕ) → Painted
-  blend amount k past frame = let t = total amount k in blended (lit c1·0 ⊘ t) (weight amount t) k past frame
+  blend amount k past frame =
+      let t = total amount k in
+      fromClamped A (λ i p. mix (lit c1·0 ⊘ t) (weight amount t) past (length frame) i p k) frame
 
   -- of depth k, for a frame of that size; where the history holds frames of another it is begun anew, the frame stays as
   -- it is, and nothing is clipped

@@ -11,17 +11,17 @@ use Rattle.num.specs.Const.{c1·0, c255·0}
 use Rattle.num.specs.F32.{_⊘_}
 use Rattle.passes.specs as Text
 use Rattle.passes.specs.Arith.{plain}
-use Rattle.passes.specs.Painted.{Paints, converted-ext, limited-paints}
-use Rattle.passes.specs.Plain.Pixel.{packLimited, clips}
-use Rattle.passes.specs.Plain.Persistence.{total, weight, add, mix, blended, blend, copies, refilled, shifted}
+use Rattle.passes.specs.Painted.{Paints, converted-ext, clamped-paints}
+use Rattle.passes.specs.Plain.Pixel.{packClamped, clips}
+use Rattle.passes.specs.Plain.Persistence.{total, weight, add, mix, blend, copies, refilled, shifted}
 use Rattle.passes.specs.Rows.{row-ends}
 use Rattle.passes.specs.declared.pixel.Rgb.{Rgb}
 
 -- ## The picture
 
 pub blend-paints : (amount : Float) (k : ℕ) (past frame : List ℕ) → Paints frame (blend amount k past frame)
-unfolding Text.Persistence.blend Text.Persistence.blended
-blend-paints amount k past frame = limited-paints plain _ frame
+unfolding Text.Persistence.blend
+blend-paints amount k past frame = clamped-paints plain _ frame
 
 -- two mixes with the same weights of the same words
 pub mix-same : (w : Float) (ws vs : ℕ → Float) (past was : List ℕ) (n i p k : ℕ) → ((j : ℕ) → j < k → ws j ≡ vs j)
@@ -32,21 +32,13 @@ mix-same w ws vs past was n i p (suc k) f g =
     ap₂ (λ (x : Float) (q : ℕ). add (mix w ws past n i p k) x q) (f k (le-refl (suc k))) (g k (le-refl (suc k)))
     ∙ ap (λ (c : Rgb). add c (vs k) (getD was (k * n + i) 0)) (mix-same w ws vs past was n i p k (λ j l. f j (omega arith)) (λ j l. g j (omega arith)))
 
--- the weights of the k older frames alone count
-pub blended-same : (w : Float) (ws vs : ℕ → Float) (k : ℕ) (past frame : List ℕ) → ((j : ℕ) → j < k → ws j ≡ vs j)
-    → blended w ws k past frame ≡ blended w vs k past frame
-unfolding Text.Persistence.blended
-blended-same w ws vs k past frame f =
-    converted-ext packLimited (clips c255·0) frame _ _
-    (λ i p l. mix-same w ws vs past past (length frame) i p k f (λ j h. refl))
-
 -- the k places alone are read
 pub blend-take : (amount : Float) (k : ℕ) (past frame : List ℕ) → blend amount k (take (k * length frame) past) frame ≡ blend amount k past frame
-unfolding Text.Persistence.blend Text.Persistence.blended
+unfolding Text.Persistence.blend
 blend-take amount k past frame =
     let t = total amount k in
     let n = length frame in
-    converted-ext packLimited (clips c255·0) frame _ _
+    converted-ext packClamped (clips c255·0) frame _ _
     (λ i p l. mix-same (c1·0 ⊘ t) (weight amount t) (weight amount t) (take (k * n) past) past n i p k (λ j h. refl)
     (λ j h. getD-take (k * n) past (j * n + i) 0 (omega (arith, row-ends n k j h))))
 

@@ -41,11 +41,11 @@ module _ (A : Arith) where
   unfoldable pub packNearest : Rgb → ℕ
   packNearest c = pack (channels round c)
 
-  -- the final conversion from 0..255: limited, then cut
-  unfoldable pub packLimited : Rgb → ℕ
-  packLimited c = pack (channels (λ x. clamp x (lit c0·0) (lit c255·0)) c)
+  -- the final conversion from 0..255: clamped, then cut
+  unfoldable pub packClamped : Rgb → ℕ
+  packClamped c = pack (channels (λ x. clamp x (lit c0·0) (lit c255·0)) c)
 
-  -- the final conversion from 0..1: limited, times 255, then cut
+  -- the final conversion from 0..1: clamped, times 255, then cut
   unfoldable pub packUnit : Rgb → ℕ
   packUnit c = pack (channels (λ x. clamp x (lit c0·0) (lit c1·0) ⊗ lit c255·0) c)
 

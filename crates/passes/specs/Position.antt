@@ -12,4 +12,4 @@ module _ (A : Arith) where
   infixl 7 _⊘_
   -- k among 0..n - 1, as -1..1
   unfoldable pub position : ℕ → ℕ → F
-  position k n = whole k ⊘ whole (max (n - 1) 1) ⊗ lit c2·0 ⊖ lit c1·0
+  position n k = whole k ⊘ whole (max (n - 1) 1) ⊗ lit c2·0 ⊖ lit c1·0

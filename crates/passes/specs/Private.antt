@@ -1,36 +1,37 @@
--- What private functions of src/marks.rt, src/lut.rt, src/blur.rt and src/persistence.rt promise one another. No public contract
--- cites these. Definitions only.
+-- What private functions of src/marks.rt, src/lut.rt, src/blur.rt, src/ntsc.rt, src/bloom.rt and src/persistence.rt promise one
+-- another. No public contract of a pass cites these. Definitions only.
 use mathlib.Core.Path.{_≡_}
-use Prim.Native.Nat.{ℕ, zero, suc, _+_, _-_, _*_, _/_, _%_, _^_, _<_}
-use mathlib.Core.Bool.{cond, _&&_}
+use Prim.Native.Nat.{ℕ, zero, suc, _+_, _*_, _/_, _%_, _^_, _<_}
 use mathlib.Core.List.{List}
-use lib.Dec.{leb, ltb}
 use lib.ListN.{length, getD}
-use lib.Ieee.{Float}
+use lib.Ieee.{Float, nan}
 use Rattle.num.specs.Const.{c0·0, c1·0, c255·0}
-use Rattle.num.specs.F32.{_⊗_}
+use Rattle.num.specs.F32.{_⊕_, _⊗_}
 use Rattle.num.specs.Rewrite.{every}
 use Rattle.num.specs.Steps.{clampOf, cutOf}
 use Rattle.num.specs.Sums.{sum}
 use Rattle.passes.specs.declared.blur.Four.{Four}
 use Rattle.passes.specs.declared.pixel.Rgb.{Rgb}
 use Rattle.passes.specs.Painted.{Painted, painted}
-use Rattle.passes.specs.Plain.Blur.{distance, weight, step}
+use Rattle.passes.specs.Plain.Bloom as Bloom
+use Rattle.passes.specs.Plain.AutoGradient.{warm, brightness, shade}
+use Rattle.passes.specs.Plain.Blur.{distance, weight, step, weighted, quotient}
 use Rattle.passes.specs.Plain.Lut.{colour}
+use Rattle.passes.specs.Plain.Ntsc as Ntsc
 use Rattle.passes.specs.Plain.Persistence.{mix}
-use Rattle.passes.specs.Plain.Pixel.{packLimited, packUnit, clip, clips}
+use Rattle.passes.specs.Plain.Pixel.{channel, unpack, packClamped, packUnit, clip, clips}
 
 -- ---- words that are marked: the number of its clipped channels stands above each, in its top byte
 
-unfoldable pub markLimited : Rgb → ℕ
-markLimited c = packLimited c + clips c255·0 c * 16777216
+unfoldable pub markClamped : Rgb → ℕ
+markClamped c = packClamped c + clips c255·0 c * 16777216
 
 unfoldable pub markUnit : Rgb → ℕ
 markUnit c = packUnit c + clips c1·0 c * 16777216
 
 -- each word of a frame from its colour
-abbrev pub everyLimited : (ℕ → ℕ → Rgb) → List ℕ → List ℕ
-everyLimited colour words = every (λ i p. markLimited (colour i p)) words
+abbrev pub everyClamped : (ℕ → ℕ → Rgb) → List ℕ → List ℕ
+everyClamped colour words = every (λ i p. markClamped (colour i p)) words
 
 abbrev pub everyUnit : (ℕ → ℕ → Rgb) → List ℕ → List ℕ
 everyUnit colour words = every (λ i p. markUnit (colour i p)) words
@@ -59,6 +60,20 @@ pub record Greys (which preset : ℕ) (strength : Float) (words : List ℕ) : Ty
 unfoldable pub picked : (reds greens blues : ℕ → ℕ) → ℕ → ℕ
 picked reds greens blues p = ((reds (p / 65536 % 256) + greens (p / 256 % 256)) % 2 ^ 32 + blues (p % 256)) % 2 ^ 32
 
+-- ---- samples as they are stored
+
+-- of a line, and of a plane of width w
+abbrev pub at : List Float → ℕ → Float
+at line i = getD line i nan
+
+abbrev pub cell : List Float → ℕ → ℕ → ℕ → Float
+cell plane w x y = at plane (y * w + x)
+
+-- a line of 1024 places that begins with n values of f
+pub record Begins (n : ℕ) (f : ℕ → Float) (line : List Float) : Type 0 where
+  pub long : length line ≡ 1024
+  pub value : (x : ℕ) → x < n → at line x ≡ f x
+
 -- ---- the blur's offsets, four at a time
 
 -- the weights of the offsets k to k + 3
@@ -70,23 +85,62 @@ fourWeights radius k = record {
   d = weight radius (distance radius (k + 3));
 }
 
+-- a sum and the samples of four lines at place i, each times its weight
+abbrev pub fourAdded : List Float → List Float → List Float → List Float → Four → ℕ → Float → Float
+fourAdded a b c d w i sum = sum ⊕ at a i ⊗ w .a ⊕ at b i ⊗ w .b ⊕ at c i ⊗ w .c ⊕ at d i ⊗ w .d
+
 -- m offsets of x more, from offset k on
 unfoldable pub onward : (ℕ → Float → Float) → ℕ → ℕ → ℕ → ℕ → ℕ → Float → Float
 onward term n radius x k zero sum = sum
 onward term n radius x k (suc m) sum = step term n radius x (k + m) (onward term n radius x k m sum)
 
+-- the samples of a line
+abbrev pub lineOnward : List Float → (radius k m x : ℕ) → Float → Float
+lineOnward line radius k m x = onward (λ i w. at line i ⊗ w) (length line) radius x k m
+
+-- the rows of a plane of width n and height h, around row y, at column x
+abbrev pub rowsOnward : List Float → (n h radius y k m x : ℕ) → Float → Float
+rowsOnward plane n h radius y k m x = onward (λ i w. cell plane n x i ⊗ w) h radius y k m
+
+-- ---- the blur by sums of weights that are worked out before: `sums` gives that of each place
+
+abbrev pub blurBy : (ℕ → Float) → (ℕ → Float) → ℕ → ℕ → ℕ → Float
+blurBy sums sample n radius x = quotient (weighted sample n radius x) (sums x)
+
+-- NTSC: a component of a row, and the colour at column x and row y
+abbrev pub chromaBy : (ℕ → Float) → ℕ → List ℕ → ℕ → ℕ → Float
+chromaBy sums which row bleed x = blurBy sums (λ i. Ntsc.chroma which (unpack (getD row i 0))) (length row) bleed x
+
+abbrev pub ntscBy : (ℕ → Float) → ℕ → Float → ℕ → List ℕ → ℕ → ℕ → ℕ → Rgb
+ntscBy sums w strength bleed frame x y =
+    Ntsc.pixel strength (blurBy sums (λ i. Ntsc.sample 0 frame w i y) w bleed x)
+    (blurBy sums (λ i. Ntsc.sample 1 frame w i y) w bleed x)
+
+-- bloom: a channel of a row's bright part, and of the frame's
+abbrev pub brightBy : (ℕ → Float) → List ℕ → Float → ℕ → ℕ → ℕ → Float
+brightBy sums row threshold radius which x =
+    blurBy sums (λ i. Bloom.brightOf threshold which (getD row i 0)) (length row) radius x
+
+abbrev pub horizontalBy : (ℕ → Float) → ℕ → ℕ → Float → List ℕ → ℕ → ℕ → ℕ → Float
+horizontalBy sums w radius threshold frame which x y =
+    blurBy sums (λ i. Bloom.sample threshold frame w which i y) w radius x
+
+-- its planes: row y has its red samples, then its green ones, then its blue ones
+abbrev pub stored : List Float → ℕ → ℕ → ℕ → ℕ → Float
+stored planes w which x y = cell planes (3 * w) (which * w + x) y
+
+-- ---- the gradient with what each column keeps of its light, worked out once
+
+abbrev pub gradientBy : ℕ → (ℕ → Float) → Float → Float → ℕ → ℕ → ℕ → Rgb
+gradientBy h falls vertical a x y = let t = warm h y vertical a in shade t (brightness t (falls x))
+
 -- ---- persistence by rows
 
 -- the marked word of the picture at place i of a frame of n words
 unfoldable pub blendedWord : Float → (ℕ → Float) → ℕ → List ℕ → (n i p : ℕ) → ℕ
-blendedWord w ws k past n i p = markLimited (mix w ws past n i p k)
+blendedWord w ws k past n i p = markClamped (mix w ws past n i p k)
 
--- a row's shift: of each place of n words the row that begins at word `at` goes to the next place, and `row` to the first
-
--- what comes to word i of the history
-unfoldable pub came : (n at : ℕ) → (row past : List ℕ) → ℕ → ℕ
-came n at row past i = cond (ltb i n) (getD row (i - at) 0) (getD past (i - n) 0)
-
--- what stands there then, where p stood
-unfoldable pub rowShift : (n at : ℕ) → (row past : List ℕ) → ℕ → ℕ → ℕ
-rowShift n at row past i p = cond (leb at (i % n) && ltb (i % n) (at + length row)) (came n at row past i) p
+-- one channel of the mix at column x of a row that begins at word `start`
+abbrev pub mixedChannel : Float → List Float → List ℕ → List ℕ → (n start which x : ℕ) → Float
+mixedChannel w ws past row n start which x =
+    channel which (mix w (λ j. getD ws j nan) past n (start + x) (getD row x 0) (length ws))

@@ -6,7 +6,7 @@ use Prim.Native.Nat.{ℕ, _+_, _*_, _≤_, _<_}
 use native.Mathlib.Nat.{zero-mul, mul-one}
 use native.Mathlib.Omega.{arith}
 use mathlib.Core.Bool.{Bool, true, false, _&&_, _||_}
-use lib.Dec.{T, leb, ltb, eqb, leb→le, lit≤}
+use lib.Dec.{T, leb, ltb, eqb, leb→le}
 use lib.Ieee.Fits.{down-pos}
 use borrow.Author.Tests.{le-ltb, lt-ltb}
 use Rattle.num.specs.Order.{le-tests}
@@ -225,7 +225,7 @@ module _ {A : Arith} {G : Agrees A} where
         inside = one-less-within x (h .inside) (within-le x (h .inside));
       }
 
-  -- limited to 0..1, and to 0..255
+  -- clamped to 0..1, and to 0..255
   pub clamp-one : {n : ℕ} {a : A .F} {x : Float} → Has G n a x
       → Plus G 1 (A .clamp a (A .lit c0·0) (A .lit c1·0)) (clampOf x c0·0 c1·0)
   unfolding le ofBits

@@ -17,8 +17,8 @@ module _ (A : Arith) where
   inRow zero strength p = p
   inRow (suc n) strength p = dim A (lit c1·0 ⊖ strength) p
 
-  abbrev pub at : F → ℕ → ℕ → ℕ → ℕ
-  at strength x y = inRow (y % 2) strength
+  abbrev pub wordAt : F → ℕ → ℕ → ℕ → ℕ
+  wordAt strength x y = inRow (y % 2) strength
 
   unfoldable pub scanlines : ℕ → F → List ℕ → List ℕ
-  scanlines w strength frame = every (placed w (at strength)) frame
+  scanlines w strength frame = every (placed w (wordAt strength)) frame

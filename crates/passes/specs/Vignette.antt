@@ -16,8 +16,8 @@ module _ (A : Arith) where
   infixl 7 _⊗_
   infixl 7 _⊘_
   -- how far k is from the middle of n, in halves of n, squared
-  unfoldable pub square : ℕ → ℕ → F
-  square n k =
+  unfoldable pub offsetSquared : ℕ → ℕ → F
+  offsetSquared n k =
       let c = whole n ⊘ lit c2·0 in
       let d = (whole k ⊖ c) ⊘ c in
       d ⊗ d
@@ -28,7 +28,7 @@ module _ (A : Arith) where
   -- the factor at column x and row y
   abbrev pub factorAt : ℕ → ℕ → F → ℕ → ℕ → F
   factorAt w h strength x y =
-      let distance = root (square w x ⊕ square h y) in
+      let distance = root (offsetSquared w x ⊕ offsetSquared h y) in
       factor strength distance
 
   unfoldable pub vignette : ℕ → ℕ → F → List ℕ → List ℕ

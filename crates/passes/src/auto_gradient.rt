@@ -8,9 +8,8 @@ ghost use Rattle.num.specs.Rewrite.{fill};
 ghost use Rattle.passes.specs.Fold.{fold};
 ghost use Rattle.passes.specs.Rows.{Frame, placed};
 ghost use Rattle.passes.specs.Plain.AutoGradient as AutoGradient;
-ghost use Rattle.passes.specs.Plain.Blur.{at};
 ghost use Rattle.passes.specs.Painted.{painted};
-ghost use Rattle.passes.specs.Private.{markLimited, everyLimited};
+ghost use Rattle.passes.specs.Private.{at, markClamped, everyClamped, gradientBy};
 use crate::blur;
 use crate::marks;
 use crate::pixel;
@@ -50,7 +49,7 @@ fn warm(h: usize, y: usize, vertical: f32, a: f32) -> f32
     requires { ⌜ (y ≤ 1024) × (h ≤ 1024) ⌝ }
     ensures { λ r. ⌜ r ≡ AutoGradient.warm h y vertical a ⌝ }
 {
-    -rows::position(y, h) * vertical * a
+    -rows::position(h, y) * vertical * a
 }
 
 // How much of its light a column keeps.
@@ -58,7 +57,7 @@ fn fall(w: usize, x: usize, horizontal: f32, a: f32) -> f32
     requires { ⌜ (x ≤ 1024) × (w ≤ 1024) ⌝ }
     ensures { λ r. ⌜ r ≡ AutoGradient.fall w horizontal a x ⌝ }
 {
-    1.0 - num::steps::abs(rows::position(x, w)) * horizontal * a
+    1.0 - num::steps::abs(rows::position(w, x)) * horizontal * a
 }
 
 // The same for each column of a row that is as long as the line.
@@ -82,10 +81,10 @@ fn brightness(t: f32, kept: f32) -> f32
 }
 
 fn shade(t: f32, factor: f32, p: u32) -> u32
-    ensures { λ r. ⌜ r ≡ markLimited (AutoGradient.shade t factor p) ⌝ }
+    ensures { λ r. ⌜ r ≡ markClamped (AutoGradient.shade t factor p) ⌝ }
 {
     let c = pixel::unpack(p);
-    marks::limited(Rgb {
+    marks::clamped(Rgb {
         r: c.r * factor + t * 18.0,
         g: c.g * factor + t * 5.0,
         b: c.b * factor - t * 14.0,
@@ -96,7 +95,7 @@ fn shade(t: f32, factor: f32, p: u32) -> u32
 fn row(row: &mut [u32], kept: &[f32], t: f32)
     requires { ⌜ length (now kept) ≡ length (now row) ⌝ }
     ensures { λ _. ⌜ now (row .exit)
-        ≡ everyLimited (λ x. AutoGradient.shade t (AutoGradient.brightness t (at (now (kept .entry)) x))) (now (row .entry)) ⌝ }
+        ≡ everyClamped (λ x. AutoGradient.shade t (AutoGradient.brightness t (at (now (kept .entry)) x))) (now (row .entry)) ⌝ }
 {
     let mut x = 0usize;
     while x < row.len() {
@@ -107,7 +106,7 @@ fn row(row: &mut [u32], kept: &[f32], t: f32)
 
 fn rows(frame: &mut [u32], kept: &[f32], width: usize, height: usize, vertical: f32, a: f32)
     requires { ⌜ Frame width height (now frame) × (length (now kept) ≡ width) ⌝ }
-    ensures { λ _. ⌜ now (frame .exit) ≡ everyLimited (placed width (AutoGradient.at height (at (now (kept .entry))) vertical a)) (now (frame .entry)) ⌝ }
+    ensures { λ _. ⌜ now (frame .exit) ≡ everyClamped (placed width (gradientBy height (at (now (kept .entry))) vertical a)) (now (frame .entry)) ⌝ }
 {
     let mut y = 0;
     let mut at = 0;

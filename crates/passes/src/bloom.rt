@@ -5,10 +5,10 @@ ghost use lib.ListN.{length, getD, drop};
 ghost use Rattle.passes.specs.Plain.Pixel.{rgb};
 ghost use Rattle.num.specs.Rewrite.{fill};
 ghost use Rattle.passes.specs.Rows.{Frame, placed, sampled};
-ghost use Rattle.passes.specs.Plain.Blur.{at, blurBy, ratio};
+ghost use Rattle.passes.specs.Plain.Blur.{quotient};
 ghost use Rattle.passes.specs.Plain.Bloom as Bloom;
 ghost use Rattle.passes.specs.Painted.{painted};
-ghost use Rattle.passes.specs.Private.{markLimited, everyLimited};
+ghost use Rattle.passes.specs.Private.{at, brightBy, horizontalBy, stored, markClamped, everyClamped};
 use crate::blur;
 use crate::marks;
 use crate::pixel;
@@ -53,7 +53,7 @@ fn blurred_line(
     radius: usize,
 )
     requires { ⌜ (radius ≤ 64) × (length (now out) ≡ length (now row)) × (length (now line) ≡ length (now row)) × (length (now w) ≡ length (now row)) ⌝ }
-    ensures { λ _. ⌜ now (out .exit) ≡ fill (blurBy (at (now (w .entry))) (λ i. Bloom.brightOf threshold which (getD (now (row .entry)) i 0)) (length (now (row .entry))) radius) (now (out .entry)) ⌝ }
+    ensures { λ _. ⌜ now (out .exit) ≡ fill (brightBy (at (now (w .entry))) (now (row .entry)) threshold radius which) (now (out .entry)) ⌝ }
 {
     bright_line(line, row, threshold, which);
     blur::blur_line(out, line, w, radius);
@@ -69,7 +69,8 @@ fn horizontal_row(
     radius: usize,
 )
     requires { ⌜ (radius ≤ 64) × (length (now out) ≡ 3 * length (now row)) × (length (now line) ≡ length (now row)) × (length (now w) ≡ length (now row)) ⌝ }
-    ensures { λ _. ⌜ now (out .exit) ≡ sampled (length (now (row .entry))) (λ x which. blurBy (at (now (w .entry))) (λ i. Bloom.brightOf threshold which (getD (now (row .entry)) i 0)) (length (now (row .entry))) radius x) (now (out .entry)) ⌝ }
+    ensures { λ _. ⌜ now (out .exit)
+        ≡ sampled (length (now (row .entry))) (λ x which. brightBy (at (now (w .entry))) (now (row .entry)) threshold radius which x) (now (out .entry)) ⌝ }
 {
     let mut which = 0usize;
     let mut at = 0;
@@ -92,8 +93,10 @@ fn horizontal(
     threshold: f32,
     radius: usize,
 )
-    requires { ⌜ (radius ≤ 64) × (length (now planes) ≡ height * (3 * width)) × (length (now line) ≡ width) × (length (now w) ≡ width) ⌝ ∗ ⌜ Frame width height (now frame) ⌝ }
-    ensures { λ _. ⌜ now (planes .exit) ≡ sampled (3 * width) (λ i y. Bloom.horizontalBy (at (now (w .entry))) width radius threshold (now (frame .entry)) (i / width) (i % width) y) (now (planes .entry)) ⌝ }
+    requires { ⌜ (radius ≤ 64) × (length (now planes) ≡ height * (3 * width)) × (length (now line) ≡ width) × (length (now w) ≡ width) ⌝
+        ∗ ⌜ Frame width height (now frame) ⌝ }
+    ensures { λ _. ⌜ now (planes .exit) ≡ sampled (3 * width)
+        (λ i y. horizontalBy (at (now (w .entry))) width radius threshold (now (frame .entry)) (i / width) (i % width) y) (now (planes .entry)) ⌝ }
 {
     let mut y = 0;
     let mut at = 0;
@@ -117,10 +120,10 @@ fn horizontal(
 
 // A word with its glow.
 fn composite(p: u32, glow: Rgb, strength: f32) -> u32
-    ensures { λ r. ⌜ r ≡ markLimited (Bloom.composite strength glow p) ⌝ }
+    ensures { λ r. ⌜ r ≡ markClamped (Bloom.composite strength glow p) ⌝ }
 {
     let c = pixel::unpack(p);
-    marks::limited(Rgb {
+    marks::clamped(Rgb {
         r: c.r + glow.r * strength,
         g: c.g + glow.g * strength,
         b: c.b + glow.b * strength,
@@ -130,9 +133,9 @@ fn composite(p: u32, glow: Rgb, strength: f32) -> u32
 // A row with its glow: the three channels' sums over its columns, and its sum of weights.
 fn composite_row(row: &mut [u32], sums: &[f32], w: f32, strength: f32)
     requires { ⌜ length (now sums) ≡ 3 * length (now row) ⌝ }
-    ensures { λ _. ⌜ now (row .exit) ≡ everyLimited (λ x. Bloom.composite strength
-        (rgb (ratio (at (now (sums .entry)) x) w) (ratio (at (now (sums .entry)) (length (now (row .entry)) + x)) w)
-        (ratio (at (now (sums .entry)) (2 * length (now (row .entry)) + x)) w))) (now (row .entry)) ⌝ }
+    ensures { λ _. ⌜ now (row .exit) ≡ everyClamped (λ x. Bloom.composite strength
+        (rgb (quotient (at (now (sums .entry)) x) w) (quotient (at (now (sums .entry)) (length (now (row .entry)) + x)) w)
+        (quotient (at (now (sums .entry)) (2 * length (now (row .entry)) + x)) w))) (now (row .entry)) ⌝ }
 {
     let n = row.len();
     let mut x = 0usize;
@@ -159,7 +162,7 @@ fn composite_rows(
 )
     requires { ⌜ (radius ≤ 64) × (length (now planes) ≡ height * (3 * width)) × (length (now sums) ≡ 3 * width) ⌝ ∗ ⌜ Frame width height (now frame) ⌝ }
     ensures { λ _. ⌜ now (frame .exit)
-        ≡ everyLimited (placed width (Bloom.over height strength radius (Bloom.stored (now (planes .entry)) width))) (now (frame .entry)) ⌝ }
+        ≡ everyClamped (placed width (Bloom.over height strength radius (stored (now (planes .entry)) width))) (now (frame .entry)) ⌝ }
 {
     let mut y = 0;
     let mut at = 0;

@@ -7,8 +7,7 @@ ghost use Rattle.num.specs.Const.{c0·0};
 ghost use Rattle.num.specs.F32.{_⊕_, _⊗_};
 ghost use Rattle.num.specs.Rewrite.{rewrite, every, fill};
 ghost use Rattle.passes.specs.Plain.Blur as Blur;
-ghost use Rattle.passes.specs.Plain.Blur.{at, cell};
-ghost use Rattle.passes.specs.Private.{fourWeights, onward};
+ghost use Rattle.passes.specs.Private.{at, cell, Begins, fourWeights, fourAdded, lineOnward, rowsOnward, blurBy};
 
 // 1 - distance / (radius + 1)
 fn weight(radius: usize, distance: usize) -> f32
@@ -68,8 +67,10 @@ fn four_weights(radius: usize, k: usize) -> Four
 
 // Adds a[i] * w.a, then b[i] * w.b, then c[i] * w.c, then d[i] * w.d at each i.
 fn add_four(acc: &mut [f32], a: &[f32], b: &[f32], c: &[f32], d: &[f32], w: Four)
-    requires { ⌜ (length (now acc) ≡ length (now a)) × (length (now acc) ≡ length (now b)) × (length (now acc) ≡ length (now c)) × (length (now acc) ≡ length (now d)) ⌝ }
-    ensures { λ _. ⌜ now (acc .exit) ≡ every (λ i v. v ⊕ at (now (a .entry)) i ⊗ w .a ⊕ at (now (b .entry)) i ⊗ w .b ⊕ at (now (c .entry)) i ⊗ w .c ⊕ at (now (d .entry)) i ⊗ w .d) (now (acc .entry)) ⌝ }
+    requires { ⌜ (length (now acc) ≡ length (now a)) × (length (now acc) ≡ length (now b))
+        × (length (now acc) ≡ length (now c)) × (length (now acc) ≡ length (now d)) ⌝ }
+    ensures { λ _. ⌜ now (acc .exit)
+        ≡ every (fourAdded (now (a .entry)) (now (b .entry)) (now (c .entry)) (now (d .entry)) w) (now (acc .entry)) ⌝ }
 {
     let mut i = 0usize;
     while i < acc.len() {
@@ -113,7 +114,7 @@ fn add_sample(sum: f32, src: &[f32], radius: usize, x: usize, k: usize, w: f32) 
 // The samples at the offsets k to k + 3 of place x, added where they are inside; w has their weights.
 fn add_samples(sum: f32, src: &[f32], radius: usize, x: usize, k: usize, w: Four) -> f32
     requires { ⌜ (radius ≤ 64) × (k + 3 ≤ 2 * radius) × (x < length (now src)) × (w ≡ fourWeights radius k) ⌝ }
-    ensures { λ r. ⌜ r ≡ onward (λ i w. at (now (src .entry)) i ⊗ w) (length (now (src .entry))) radius x k 4 sum ⌝ }
+    ensures { λ r. ⌜ r ≡ lineOnward (now (src .entry)) radius k 4 x sum ⌝ }
 {
     let one = add_sample(sum, src, radius, x, k, w.a);
     let two = add_sample(one, src, radius, x, k + 1, w.b);
@@ -124,7 +125,7 @@ fn add_samples(sum: f32, src: &[f32], radius: usize, x: usize, k: usize, w: Four
 // The same at each place of a part of the line, which begins at place `start`.
 fn add_edge(part: &mut [f32], src: &[f32], radius: usize, start: usize, k: usize, w: Four)
     requires { ⌜ (radius ≤ 64) × (k + 3 ≤ 2 * radius) × (start + length (now part) ≤ length (now src)) × (w ≡ fourWeights radius k) ⌝ }
-    ensures { λ _. ⌜ now (part .exit) ≡ every (λ i. onward (λ j w. at (now (src .entry)) j ⊗ w) (length (now (src .entry))) radius (start + i) k 4) (now (part .entry)) ⌝ }
+    ensures { λ _. ⌜ now (part .exit) ≡ every (λ i. lineOnward (now (src .entry)) radius k 4 (start + i)) (now (part .entry)) ⌝ }
 {
     let mut i = 0usize;
     while i < part.len() {
@@ -135,8 +136,9 @@ fn add_edge(part: &mut [f32], src: &[f32], radius: usize, start: usize, k: usize
 
 // The same where all four are inside at each place.
 fn add_middle(part: &mut [f32], src: &[f32], radius: usize, start: usize, k: usize, w: Four)
-    requires { ⌜ (radius ≤ 64) × (k + 3 ≤ 2 * radius) × (radius ≤ start + k) × (start + length (now part) + k + 3 ≤ length (now src) + radius) × (w ≡ fourWeights radius k) ⌝ }
-    ensures { λ _. ⌜ now (part .exit) ≡ every (λ i. onward (λ j w. at (now (src .entry)) j ⊗ w) (length (now (src .entry))) radius (start + i) k 4) (now (part .entry)) ⌝ }
+    requires { ⌜ (radius ≤ 64) × (k + 3 ≤ 2 * radius) × (radius ≤ start + k)
+        × (start + length (now part) + k + 3 ≤ length (now src) + radius) × (w ≡ fourWeights radius k) ⌝ }
+    ensures { λ _. ⌜ now (part .exit) ≡ every (λ i. lineOnward (now (src .entry)) radius k 4 (start + i)) (now (part .entry)) ⌝ }
 {
     let from = start + k - radius;
     let end = from + part.len();
@@ -153,8 +155,9 @@ fn add_middle(part: &mut [f32], src: &[f32], radius: usize, start: usize, k: usi
 // The same at the places of a line before the right edge. At most three places have some of the four inside and some outside to
 // their left, and those before them have none inside.
 fn add_to_edge(acc: &mut [f32], src: &[f32], radius: usize, k: usize, w: Four)
-    requires { ⌜ (length (now acc) ≡ length (now src)) × (radius ≤ 64) × (k + 3 ≤ 2 * radius) × ((radius - k) + (k + 3 - radius) < length (now src)) × (w ≡ fourWeights radius k) ⌝ }
-    ensures { λ _. ⌜ now (acc .exit) ≡ rewrite (length (now (src .entry)) - (k + 3 - radius)) (λ x. onward (λ i w. at (now (src .entry)) i ⊗ w) (length (now (src .entry))) radius x k 4) (now (acc .entry)) ⌝ }
+    requires { ⌜ (length (now acc) ≡ length (now src)) × (radius ≤ 64) × (k + 3 ≤ 2 * radius)
+        × ((radius - k) + (k + 3 - radius) < length (now src)) × (w ≡ fourWeights radius k) ⌝ }
+    ensures { λ _. ⌜ now (acc .exit) ≡ rewrite (length (now (src .entry)) - (k + 3 - radius)) (lineOnward (now (src .entry)) radius k 4) (now (acc .entry)) ⌝ }
 {
     let first = monus(radius, k + 3);
     let to = monus(radius, k);
@@ -166,7 +169,7 @@ fn add_to_edge(acc: &mut [f32], src: &[f32], radius: usize, k: usize, w: Four)
 // The same at each place, where there are places at which all four are inside. The right edge is like the left one.
 fn add_four_offsets(acc: &mut [f32], src: &[f32], radius: usize, k: usize)
     requires { ⌜ (length (now acc) ≡ length (now src)) × (radius ≤ 64) × (k + 3 ≤ 2 * radius) × ((radius - k) + (k + 3 - radius) < length (now src)) ⌝ }
-    ensures { λ _. ⌜ now (acc .exit) ≡ every (λ x. onward (λ i w. at (now (src .entry)) i ⊗ w) (length (now (src .entry))) radius x k 4) (now (acc .entry)) ⌝ }
+    ensures { λ _. ⌜ now (acc .exit) ≡ every (lineOnward (now (src .entry)) radius k 4) (now (acc .entry)) ⌝ }
 {
     let w = four_weights(radius, k);
     add_to_edge(acc, src, radius, k, w);
@@ -178,7 +181,7 @@ fn add_four_offsets(acc: &mut [f32], src: &[f32], radius: usize, k: usize)
 // Adds samples from offset k on: at four offsets if there are places at which all are inside, else at one. Answers at how many.
 fn add_offsets(acc: &mut [f32], src: &[f32], radius: usize, k: usize) -> usize
     requires { ⌜ (length (now acc) ≡ length (now src)) × (radius ≤ 64) × (k ≤ 2 * radius) ⌝ }
-    ensures { λ r. ⌜ (0 < r) × (k + r ≤ 2 * radius + 1) × (now (acc .exit) ≡ every (λ x. onward (λ i w. at (now (src .entry)) i ⊗ w) (length (now (src .entry))) radius x k r) (now (acc .entry))) ⌝ }
+    ensures { λ r. ⌜ (0 < r) × (k + r ≤ 2 * radius + 1) × (now (acc .exit) ≡ every (lineOnward (now (src .entry)) radius k r) (now (acc .entry))) ⌝ }
 {
     let outside = monus(radius, k) + monus(k + 3, radius);
     if k + 3 <= 2 * radius {
@@ -230,7 +233,7 @@ fn add_weight(sum: f32, n: usize, radius: usize, x: usize, k: usize) -> f32
 // The sum of the weights at one place of a line of n samples.
 pub fn weight_sum(n: usize, radius: usize, x: usize) -> f32
     requires { ⌜ (radius ≤ 64) × (x < n) × (n ≤ 1024) ⌝ }
-    ensures { λ r. ⌜ r ≡ Blur.weights n radius x ⌝ }
+    ensures { λ r. ⌜ r ≡ Blur.weightSum n radius x ⌝ }
 {
     let mut sum = 0.0f32;
     let mut k = 0usize;
@@ -243,7 +246,7 @@ pub fn weight_sum(n: usize, radius: usize, x: usize) -> f32
 
 // sum / w where w is above 0, else 0
 pub fn quotient(sum: f32, w: f32) -> f32
-    ensures { λ r. ⌜ r ≡ Blur.ratio sum w ⌝ }
+    ensures { λ r. ⌜ r ≡ Blur.quotient sum w ⌝ }
 {
     if w > 0.0 { sum / w } else { 0.0 }
 }
@@ -251,7 +254,7 @@ pub fn quotient(sum: f32, w: f32) -> f32
 // Each sum divided by its weight.
 fn divide(sums: &mut [f32], w: &[f32])
     requires { ⌜ length (now sums) ≡ length (now w) ⌝ }
-    ensures { λ _. ⌜ now (sums .exit) ≡ every (λ i v. Blur.ratio v (at (now (w .entry)) i)) (now (sums .entry)) ⌝ }
+    ensures { λ _. ⌜ now (sums .exit) ≡ every (λ i v. Blur.quotient v (at (now (w .entry)) i)) (now (sums .entry)) ⌝ }
 {
     let mut i = 0usize;
     while i < sums.len() {
@@ -263,7 +266,7 @@ fn divide(sums: &mut [f32], w: &[f32])
 // Blurs a line. `w` gives each place's sum of weights.
 pub fn blur_line(out: &mut [f32], src: &[f32], w: &[f32], radius: usize)
     requires { ⌜ (radius ≤ 64) × (length (now out) ≡ length (now src)) × (length (now w) ≡ length (now src)) ⌝ }
-    ensures { λ _. ⌜ now (out .exit) ≡ fill (Blur.blurBy (at (now (w .entry))) (at (now (src .entry))) (length (now (src .entry))) radius) (now (out .entry)) ⌝ }
+    ensures { λ _. ⌜ now (out .exit) ≡ fill (blurBy (at (now (w .entry))) (at (now (src .entry))) (length (now (src .entry))) radius) (now (out .entry)) ⌝ }
 {
     accumulate(out, src, radius);
     divide(out, w);
@@ -282,7 +285,8 @@ fn row_of(plane: &[f32], width: usize, height: usize, i: usize) -> &[f32]
 // Adds the row at offset k of row y, unless it is outside.
 fn add_row(acc: &mut [f32], plane: &[f32], height: usize, radius: usize, y: usize, k: usize)
     requires { ⌜ (radius ≤ 64) × (k ≤ 2 * radius) × (y < height) × (height ≤ 1024) × (length (now plane) ≡ height * length (now acc)) ⌝ }
-    ensures { λ _. ⌜ now (acc .exit) ≡ every (λ x. Blur.step (λ i w. cell (now (plane .entry)) (length (now (acc .entry))) x i ⊗ w) height radius y k) (now (acc .entry)) ⌝ }
+    ensures { λ _. ⌜ now (acc .exit)
+        ≡ every (λ x. Blur.step (λ i w. cell (now (plane .entry)) (length (now (acc .entry))) x i ⊗ w) height radius y k) (now (acc .entry)) ⌝ }
 {
     if radius <= y + k {
         let i = y + k - radius;
@@ -296,8 +300,9 @@ fn add_row(acc: &mut [f32], plane: &[f32], height: usize, radius: usize, y: usiz
 
 // Adds the rows at the offsets k to k + 3 of row y, which are inside.
 fn add_four_rows(acc: &mut [f32], plane: &[f32], height: usize, radius: usize, y: usize, k: usize)
-    requires { ⌜ (radius ≤ 64) × (k + 3 ≤ 2 * radius) × (radius ≤ y + k) × (y + k + 3 < height + radius) × (height ≤ 1024) × (length (now plane) ≡ height * length (now acc)) ⌝ }
-    ensures { λ _. ⌜ now (acc .exit) ≡ every (λ x. onward (λ i w. cell (now (plane .entry)) (length (now (acc .entry))) x i ⊗ w) height radius y k 4) (now (acc .entry)) ⌝ }
+    requires { ⌜ (radius ≤ 64) × (k + 3 ≤ 2 * radius) × (radius ≤ y + k) × (y + k + 3 < height + radius)
+        × (height ≤ 1024) × (length (now plane) ≡ height * length (now acc)) ⌝ }
+    ensures { λ _. ⌜ now (acc .exit) ≡ every (rowsOnward (now (plane .entry)) (length (now (acc .entry))) height radius y k 4) (now (acc .entry)) ⌝ }
 {
     let i = y + k - radius;
     let n = acc.len();
@@ -321,7 +326,8 @@ fn add_rows(
     k: usize,
 ) -> usize
     requires { ⌜ (radius ≤ 64) × (k ≤ 2 * radius) × (y < height) × (height ≤ 1024) × (length (now plane) ≡ height * length (now acc)) ⌝ }
-    ensures { λ r. ⌜ (0 < r) × (k + r ≤ 2 * radius + 1) × (now (acc .exit) ≡ every (λ x. onward (λ i w. cell (now (plane .entry)) (length (now (acc .entry))) x i ⊗ w) height radius y k r) (now (acc .entry))) ⌝ }
+    ensures { λ r. ⌜ (0 < r) × (k + r ≤ 2 * radius + 1)
+        × (now (acc .exit) ≡ every (rowsOnward (now (plane .entry)) (length (now (acc .entry))) height radius y k r) (now (acc .entry))) ⌝ }
 {
     if k + 3 <= 2 * radius && radius <= y + k && y + k + 3 < height + radius {
         add_four_rows(acc, plane, height, radius, y, k);
@@ -334,7 +340,8 @@ fn add_rows(
 // The sums of the weighted samples of each column around the row y.
 pub fn accumulate_rows(acc: &mut [f32], plane: &[f32], height: usize, radius: usize, y: usize)
     requires { ⌜ (radius ≤ 64) × (y < height) × (height ≤ 1024) × (length (now plane) ≡ height * length (now acc)) ⌝ }
-    ensures { λ _. ⌜ now (acc .exit) ≡ fill (λ x. Blur.weighted (λ i. cell (now (plane .entry)) (length (now (acc .entry))) x i) height radius y) (now (acc .entry)) ⌝ }
+    ensures { λ _. ⌜ now (acc .exit)
+        ≡ fill (λ x. Blur.weighted (λ i. cell (now (plane .entry)) (length (now (acc .entry))) x i) height radius y) (now (acc .entry)) ⌝ }
 {
     clear(acc);
     let mut k = 0usize;
@@ -360,7 +367,7 @@ pub fn line3() -> [f32; 3072]
 // The sums of the weights of each place of a line of n samples.
 pub fn weight_line(n: usize, radius: usize) -> [f32; 1024]
     requires { ⌜ (radius ≤ 64) × (n ≤ 1024) ⌝ }
-    ensures { λ r. ⌜ Blur.Begins n (Blur.weights n radius) r ⌝ }
+    ensures { λ r. ⌜ Begins n (Blur.weightSum n radius) r ⌝ }
 {
     let mut out = line();
     let mut x = 0usize;

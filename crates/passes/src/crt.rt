@@ -41,7 +41,7 @@ fn phosphor(column: u16, dim: f32, c: Rgb) -> Rgb
     }
 }
 
-// How far k is from the middle of 0..n - 1.
+// How far k is from the middle of 0..n - 1, times one over that middle, which is taken as at least 1.
 fn offset(n: usize, k: usize) -> f32
     requires { ⌜ (k < n) × (n ≤ 1024) ⌝ }
     ensures { λ r. ⌜ r ≡ Crt.offset n k ⌝ }
@@ -66,7 +66,7 @@ fn shade(column: u16, dim: f32, factor: f32, p: u32) -> u32
 // One row of the frame. A column is below 1024, and its remainder in 16 bits is quicker than in 64.
 fn row(row: &mut [u32], y: usize, width: usize, height: usize, strength: f32)
     requires { ⌜ (y < height) × (height ≤ 1024) × (width ≤ 1024) × (length (now row) ≡ width) ⌝ }
-    ensures { λ _. ⌜ now (row .exit) ≡ every (λ x. Crt.at width height strength x y) (now (row .entry)) ⌝ }
+    ensures { λ _. ⌜ now (row .exit) ≡ every (λ x. Crt.wordAt width height strength x y) (now (row .entry)) ⌝ }
 {
     let dim = 1.0 - 0.035 * strength;
     let bright = beam(y % 3, strength);

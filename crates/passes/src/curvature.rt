@@ -52,12 +52,13 @@ fn bend(copy: &[u32], width: usize, height: usize, amount: f32, nx: f32, ny: f32
 // The words at these places are those of row y.
 fn places(line: &mut [u32], copy: &[u32], y: usize, width: usize, height: usize, amount: f32)
     requires { ⌜ (y < height) × (length (now line) ≡ width) × Frame width height (now copy) ⌝ }
-    ensures { λ _. ⌜ every (λ x p. getD (now (copy .entry)) p 0) (now (line .exit)) ≡ every (λ x. Curvature.at width height amount (now (copy .entry)) x y) (now (line .entry)) ⌝ }
+    ensures { λ _. ⌜ every (λ x p. getD (now (copy .entry)) p 0) (now (line .exit))
+        ≡ every (λ x. Curvature.wordAt width height amount (now (copy .entry)) x y) (now (line .entry)) ⌝ }
 {
-    let ny = rows::position(y, height);
+    let ny = rows::position(height, y);
     let mut x = 0;
     while x < line.len() {
-        line[x] = bend(copy, width, height, amount, rows::position(x, width), ny);
+        line[x] = bend(copy, width, height, amount, rows::position(width, x), ny);
         x += 1;
     }
 }
@@ -82,7 +83,7 @@ fn words(line: &mut [u32], copy: &[u32])
 
 fn row(row: &mut [u32], copy: &[u32], y: usize, width: usize, height: usize, amount: f32)
     requires { ⌜ (y < height) × (length (now row) ≡ width) × Frame width height (now copy) ⌝ }
-    ensures { λ _. ⌜ now (row .exit) ≡ every (λ x. Curvature.at width height amount (now (copy .entry)) x y) (now (row .entry)) ⌝ }
+    ensures { λ _. ⌜ now (row .exit) ≡ every (λ x. Curvature.wordAt width height amount (now (copy .entry)) x y) (now (row .entry)) ⌝ }
 {
     places(row, copy, y, width, height, amount);
     words(row, copy);
@@ -105,7 +106,8 @@ fn rows(frame: &mut [u32], copy: &[u32], width: usize, height: usize, amount: f3
 // The scratch past the frame's words stays.
 pub fn apply(frame: &mut [u32], scratch: &mut [u32], width: usize, height: usize, amount: f32)
     requires { ⌜ Frame width height (now frame) ⌝ ∗ ⌜ length (now frame) ≤ length (now scratch) ⌝ }
-    ensures { λ _. ⌜ (now (frame .exit) ≡ Curvature.curvature width height amount (now (frame .entry))) × (drop (length (now (frame .entry))) (now (scratch .exit)) ≡ drop (length (now (frame .entry))) (now (scratch .entry))) ⌝ }
+    ensures { λ _. ⌜ (now (frame .exit) ≡ Curvature.curvature width height amount (now (frame .entry)))
+        × (drop (length (now (frame .entry))) (now (scratch .exit)) ≡ drop (length (now (frame .entry))) (now (scratch .entry))) ⌝ }
 {
     let n = frame.len();
     rows::copy(&mut scratch[..n], frame);

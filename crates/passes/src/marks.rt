@@ -4,7 +4,7 @@ ghost use mathlib.Core.Path.{_≡_};
 ghost use Prim.Native.Nat.{_≤_};
 ghost use lib.ListN.{length};
 ghost use Rattle.passes.specs.Plain.Pixel as Pixel;
-ghost use Rattle.passes.specs.Private.{markLimited, markUnit, unmarked};
+ghost use Rattle.passes.specs.Private.{markClamped, markUnit, unmarked};
 ghost use Rattle.passes.specs.Painted.{painted};
 use crate::pixel;
 use crate::pixel::Rgb;
@@ -21,11 +21,11 @@ pub fn clip(x: f32, top: f32) -> u32
     }
 }
 
-// `pack_limited`, marked.
-pub fn limited(c: Rgb) -> u32
-    ensures { λ p. ⌜ p ≡ markLimited c ⌝ }
+// `pack_clamped`, marked.
+pub fn clamped(c: Rgb) -> u32
+    ensures { λ p. ⌜ p ≡ markClamped c ⌝ }
 {
-    pixel::pack_limited(c) + (clip(c.r, 255.0) + clip(c.g, 255.0) + clip(c.b, 255.0)) * 16777216
+    pixel::pack_clamped(c) + (clip(c.r, 255.0) + clip(c.g, 255.0) + clip(c.b, 255.0)) * 16777216
 }
 
 // `pack_unit`, marked.

@@ -5,10 +5,9 @@ ghost use lib.ListN.{length, getD};
 ghost use Rattle.passes.specs.Plain.Pixel.{unpack};
 ghost use Rattle.num.specs.Rewrite.{fill};
 ghost use Rattle.passes.specs.Rows.{Frame, placed};
-ghost use Rattle.passes.specs.Plain.Blur.{at, blurBy};
 ghost use Rattle.passes.specs.Plain.Ntsc as Ntsc;
 ghost use Rattle.passes.specs.Painted.{painted};
-ghost use Rattle.passes.specs.Private.{markLimited, everyLimited};
+ghost use Rattle.passes.specs.Private.{at, chromaBy, ntscBy, markClamped, everyClamped};
 use crate::blur;
 use crate::marks;
 use crate::pixel;
@@ -38,7 +37,7 @@ fn chroma_line(out: &mut [f32], row: &[u32], which: u8)
 
 // A word with its blurred chroma.
 fn pixel(p: u32, bu: f32, bv: f32, strength: f32) -> u32
-    ensures { λ r. ⌜ r ≡ markLimited (Ntsc.pixel strength bu bv p) ⌝ }
+    ensures { λ r. ⌜ r ≡ markClamped (Ntsc.pixel strength bu bv p) ⌝ }
 {
     let c = pixel::unpack(p);
     let y = pixel::luma601(c);
@@ -46,7 +45,7 @@ fn pixel(p: u32, bu: f32, bv: f32, strength: f32) -> u32
     let original_v = chroma(1, c);
     let u = original_u + (bu - original_u) * strength;
     let v = original_v + (bv - original_v) * strength;
-    marks::limited(Rgb {
+    marks::clamped(Rgb {
         r: y + 1.13983 * v,
         g: y - 0.39465 * u - 0.58060 * v,
         b: y + 2.03211 * u,
@@ -56,7 +55,7 @@ fn pixel(p: u32, bu: f32, bv: f32, strength: f32) -> u32
 // A row with its blurred components.
 fn blend_row(row: &mut [u32], u: &[f32], v: &[f32], strength: f32)
     requires { ⌜ (length (now u) ≡ length (now row)) × (length (now v) ≡ length (now row)) ⌝ }
-    ensures { λ _. ⌜ now (row .exit) ≡ everyLimited (λ x. Ntsc.pixel strength (at (now (u .entry)) x) (at (now (v .entry)) x)) (now (row .entry)) ⌝ }
+    ensures { λ _. ⌜ now (row .exit) ≡ everyClamped (λ x. Ntsc.pixel strength (at (now (u .entry)) x) (at (now (v .entry)) x)) (now (row .entry)) ⌝ }
 {
     let mut x = 0usize;
     while x < row.len() {
@@ -75,11 +74,11 @@ fn row(
     bleed: usize,
     strength: f32,
 )
-    requires { ⌜ (bleed ≤ 64) × (length (now line) ≡ length (now row)) × (length (now u) ≡ length (now row)) × (length (now v) ≡ length (now row)) × (length (now w) ≡ length (now row)) ⌝ }
-    ensures { λ _. ⌜ now (row .exit) ≡ everyLimited (λ x. Ntsc.pixel strength
-        (blurBy (at (now (w .entry))) (λ i. Ntsc.chroma 0 (unpack (getD (now (row .entry)) i 0))) (length (now (row .entry))) bleed x)
-        (blurBy (at (now (w .entry))) (λ i. Ntsc.chroma 1 (unpack (getD (now (row .entry)) i 0))) (length (now (row .entry))) bleed x))
-        (now (row .entry)) ⌝ }
+    requires { ⌜ (bleed ≤ 64) × (length (now line) ≡ length (now row)) × (length (now u) ≡ length (now row))
+        × (length (now v) ≡ length (now row)) × (length (now w) ≡ length (now row)) ⌝ }
+    ensures { λ _. ⌜ now (row .exit) ≡ everyClamped (λ x. Ntsc.pixel strength
+        (chromaBy (at (now (w .entry))) 0 (now (row .entry)) bleed x)
+        (chromaBy (at (now (w .entry))) 1 (now (row .entry)) bleed x)) (now (row .entry)) ⌝ }
 {
     chroma_line(line, row, 0);
     blur::blur_line(u, line, w, bleed);
@@ -99,9 +98,10 @@ fn rows(
     bleed: usize,
     strength: f32,
 )
-    requires { ⌜ (bleed ≤ 64) × (length (now line) ≡ width) × (length (now u) ≡ width) × (length (now v) ≡ width) × (length (now w) ≡ width) ⌝ ∗ ⌜ Frame width height (now frame) ⌝ }
+    requires { ⌜ (bleed ≤ 64) × (length (now line) ≡ width) × (length (now u) ≡ width) × (length (now v) ≡ width) × (length (now w) ≡ width) ⌝
+        ∗ ⌜ Frame width height (now frame) ⌝ }
     ensures { λ _. ⌜ now (frame .exit)
-        ≡ everyLimited (placed width (Ntsc.at (at (now (w .entry))) width strength bleed (now (frame .entry)))) (now (frame .entry)) ⌝ }
+        ≡ everyClamped (placed width (ntscBy (at (now (w .entry))) width strength bleed (now (frame .entry)))) (now (frame .entry)) ⌝ }
 {
     let mut y = 0;
     let mut at = 0;

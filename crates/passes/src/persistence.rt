@@ -1,17 +1,16 @@
-// Persistence: each frame is mixed with the frames before it. The history is lent, frame j at word j * count, newest first. It is
-// walked once, by rows: a row of the frame is mixed with its row in each place of the history, and these then shift by one place.
+// Persistence: each frame is mixed with the frames before it. The history is lent, frame j at word j * count, newest first. The frame
+// is mixed row by row with its rows in each place of the history; then the places shift by one, each as a whole.
 ghost use mathlib.Core.Path.{_≡_};
 ghost use Prim.Native.Nat.{_+_, _*_, _≤_, _<_};
 ghost use lib.ListN.{length, getD, drop};
 ghost use lib.Ieee.{nan};
 ghost use Rattle.num.specs.F32.{_⊕_, _⊗_};
-ghost use Rattle.num.specs.Rewrite.{rewrite, every, fill};
-ghost use Rattle.passes.specs.Plain.Blur.{at, Begins};
+ghost use Rattle.num.specs.Rewrite.{every, fill};
 ghost use Rattle.passes.specs.Flow.{flow};
 ghost use Rattle.passes.specs.Plain.Persistence as Persistence;
 ghost use Rattle.passes.specs.Plain.Pixel.{channel, rgb, unpack};
 ghost use Rattle.passes.specs.Painted.{painted};
-ghost use Rattle.passes.specs.Private.{markLimited, blendedWord, rowShift};
+ghost use Rattle.passes.specs.Private.{at, Begins, markClamped, blendedWord, mixedChannel};
 use crate::blur;
 use crate::marks;
 use crate::pixel;
@@ -82,7 +81,7 @@ fn mix_line(
     which: usize,
 )
     requires { ⌜ (length (now acc) ≡ length (now row)) × (at + length (now row) ≤ n) × (length (now ws) * n ≤ length (now history)) ⌝ }
-    ensures { λ _. ⌜ now (acc .exit) ≡ fill (λ x. channel which (Persistence.mix w (λ j. getD (now (ws .entry)) j nan) (now (history .entry)) n (at + x) (getD (now (row .entry)) x 0) (length (now (ws .entry))))) (now (acc .entry)) ⌝ }
+    ensures { λ _. ⌜ now (acc .exit) ≡ fill (mixedChannel w (now (ws .entry)) (now (history .entry)) (now (row .entry)) n at which) (now (acc .entry)) ⌝ }
 {
     let count = row.len();
     begin_line(acc, row, w, which);
@@ -107,7 +106,7 @@ fn channel_line(
     which: usize,
 ) -> [f32; 1024]
     requires { ⌜ (length (now row) ≤ 1024) × (at + length (now row) ≤ n) × (length (now ws) * n ≤ length (now history)) ⌝ }
-    ensures { λ r. ⌜ Begins (length (now (row .entry))) (λ x. channel which (Persistence.mix w (λ j. getD (now (ws .entry)) j nan) (now (history .entry)) n (at + x) (getD (now (row .entry)) x 0) (length (now (ws .entry))))) r ⌝ }
+    ensures { λ r. ⌜ Begins (length (now (row .entry))) (mixedChannel w (now (ws .entry)) (now (history .entry)) (now (row .entry)) n at which) r ⌝ }
 {
     let mut line = blur::line();
     mix_line(&mut line[..row.len()], row, at, n, w, ws, history, which);
@@ -118,11 +117,11 @@ fn channel_line(
 fn finish_row(row: &mut [u32], r: &[f32], g: &[f32], b: &[f32])
     requires { ⌜ (length (now row) ≤ length (now r)) × (length (now row) ≤ length (now g)) × (length (now row) ≤ length (now b)) ⌝ }
     ensures { λ _. ⌜ now (row .exit)
-        ≡ fill (λ x. markLimited (rgb (at (now (r .entry)) x) (at (now (g .entry)) x) (at (now (b .entry)) x))) (now (row .entry)) ⌝ }
+        ≡ fill (λ x. markClamped (rgb (at (now (r .entry)) x) (at (now (g .entry)) x) (at (now (b .entry)) x))) (now (row .entry)) ⌝ }
 {
     let mut i = 0usize;
     while i < row.len() {
-        row[i] = marks::limited(Rgb {
+        row[i] = marks::clamped(Rgb {
             r: r[i],
             g: g[i],
             b: b[i],
@@ -181,55 +180,34 @@ fn exchange(a: &mut [u32], b: &mut [u32])
     }
 }
 
-// The row that begins at word `at` of each place of n words shifts by one place, and `carry` becomes the newest; the oldest is left in it.
-fn shift_row(history: &mut [u32], carry: &mut [u32], at: usize, n: usize, depth: usize)
-    requires { ⌜ (at + length (now carry) ≤ n) × (depth * n ≤ length (now history)) ⌝ }
-    ensures { λ _. ⌜ now (history .exit) ≡ rewrite (depth * n) (rowShift n at (now (carry .entry)) (now (history .entry))) (now (history .entry)) ⌝ }
+// The places of the history shift by one: what is carried, the newest at first, is exchanged with each place in turn, and the
+// oldest is left in it.
+fn shift(history: &mut [u32], carried: &mut [u32], depth: usize)
+    requires { ⌜ depth * length (now carried) ≤ length (now history) ⌝ }
+    ensures { λ _. ⌜ now (history .exit) ≡ Persistence.shifted depth (now (carried .entry)) (now (history .entry)) ⌝ }
 {
-    let count = carry.len();
-    let mut start = at;
+    let count = carried.len();
+    let mut at = 0;
     let mut j = 0;
     while j < depth {
-        let end = start + count;
-        exchange(&mut history[start..end], carry);
-        start += n;
+        let end = at + count;
+        exchange(&mut history[at..end], carried);
+        at = end;
         j += 1;
     }
 }
 
-// Room for a row.
-fn row_line() -> [u32; 1024]
-    ensures { λ r. ⌜ length r ≡ 1024 ⌝ }
-{
-    [0; 1024]
-}
-
-// A row that begins at word `at` of a frame of n becomes the picture's, and the history gets it as it came.
-fn follow_row(row: &mut [u32], history: &mut [u32], at: usize, n: usize, w: f32, ws: &[f32])
-    requires { ⌜ (length (now row) ≤ 1024) × (at + length (now row) ≤ n) × (length (now ws) * n ≤ length (now history)) ⌝ }
-    ensures { λ _. ⌜ (now (row .exit) ≡ every (λ x. blendedWord w (λ j. getD (now (ws .entry)) j nan) (length (now (ws .entry)))
-        (now (history .entry)) n (at + x)) (now (row .entry)))
-        × (now (history .exit) ≡ rewrite (length (now (ws .entry)) * n) (rowShift n at (now (row .entry)) (now (history .entry))) (now (history .entry))) ⌝ }
-{
-    let count = row.len();
-    let mut carry = row_line();
-    rows::copy(&mut carry[..count], row);
-    blend_row(row, at, n, w, ws, history);
-    shift_row(history, &mut carry[..count], at, n, ws.len());
-}
-
 // The frame by rows that the lines have room for, whatever its width.
-fn follow_rows(frame: &mut [u32], history: &mut [u32], w: f32, ws: &[f32])
+fn blend_rows(frame: &mut [u32], w: f32, ws: &[f32], history: &[u32])
     requires { ⌜ length (now ws) * length (now frame) ≤ length (now history) ⌝ }
-    ensures { λ _. ⌜ (now (frame .exit) ≡ every (blendedWord w (λ j. getD (now (ws .entry)) j nan) (length (now (ws .entry)))
-        (now (history .entry)) (length (now (frame .entry)))) (now (frame .entry)))
-        × (now (history .exit) ≡ Persistence.shifted (length (now (ws .entry))) (now (frame .entry)) (now (history .entry))) ⌝ }
+    ensures { λ _. ⌜ now (frame .exit) ≡ every (blendedWord w (λ j. getD (now (ws .entry)) j nan) (length (now (ws .entry)))
+        (now (history .entry)) (length (now (frame .entry)))) (now (frame .entry)) ⌝ }
 {
     let n = frame.len();
     let mut at = 0;
     while at < n {
         let end = row_end(at, n);
-        follow_row(&mut frame[at..end], history, at, n, w, ws);
+        blend_row(&mut frame[at..end], at, n, w, ws, history);
         at = end;
     }
 }
@@ -241,16 +219,26 @@ fn line() -> [f32; 8]
     [0.0; 8]
 }
 
-// A frame of the held length: it becomes the picture, and the history gets it as it came. Returns how many channels were clipped.
-fn follow(frame: &mut [u32], history: &mut [u32], amount: f32, depth: usize) -> u32
-    requires { ⌜ (depth ≤ 8) × (depth * length (now frame) ≤ length (now history)) × (length (now frame) ≤ 1048576) ⌝ }
+// A frame of the held length: it becomes the picture, and the history gets it as it came, by way of a copy. Returns how many channels
+// were clipped.
+fn follow(
+    frame: &mut [u32],
+    history: &mut [u32],
+    carried: &mut [u32],
+    amount: f32,
+    depth: usize,
+) -> u32
+    requires { ⌜ (depth ≤ 8) × (depth * length (now frame) ≤ length (now history)) × (length (now carried) ≡ length (now frame))
+        × (length (now frame) ≤ 1048576) ⌝ }
     ensures { λ r. ⌜ (painted (now (frame .exit)) r ≡ Persistence.blend amount depth (now (history .entry)) (now (frame .entry)))
         × (now (history .exit) ≡ Persistence.shifted depth (now (frame .entry)) (now (history .entry))) ⌝ }
 {
+    rows::copy(carried, frame);
     let sum = total(amount, depth);
     let mut ws = line();
     weights(&mut ws[..depth], amount, sum);
-    follow_rows(frame, history, 1.0 / sum, &ws[..depth]);
+    blend_rows(frame, 1.0 / sum, &ws[..depth], history);
+    shift(history, carried, depth);
     marks::collect(frame)
 }
 
@@ -260,7 +248,7 @@ pub struct Kept {
     pub clipped: u32,
 }
 
-// A refill clips nothing. Words of the history past depth * count stay. Nothing is written to the scratch.
+// A refill clips nothing. Words of the history past depth * count stay.
 pub fn apply(
     frame: &mut [u32],
     history: &mut [u32],
@@ -277,7 +265,13 @@ pub fn apply(
 {
     let count = frame.len();
     if held == count as u32 {
-        let clipped = follow(frame, history, amount, depth as usize);
+        let clipped = follow(
+            frame,
+            history,
+            &mut scratch[..count],
+            amount,
+            depth as usize,
+        );
         return Kept { held, clipped };
     }
     refill(history, frame, depth as usize);

@@ -66,16 +66,16 @@ pub fn pack_nearest(c: Rgb) -> u32
     num::whole::nearest(c.r) * 65536 + num::whole::nearest(c.g) * 256 + num::whole::nearest(c.b)
 }
 
-// The final conversion from 0..255: each channel limited, then cut.
-pub fn pack_limited(c: Rgb) -> u32
-    ensures { λ p. ⌜ p ≡ Pixel.packLimited c ⌝ }
+// The final conversion from 0..255: each channel clamped, then cut.
+pub fn pack_clamped(c: Rgb) -> u32
+    ensures { λ p. ⌜ p ≡ Pixel.packClamped c ⌝ }
 {
-    num::whole::cut_limited(c.r) * 65536
-        + num::whole::cut_limited(c.g) * 256
-        + num::whole::cut_limited(c.b)
+    num::whole::cut_clamped(c.r) * 65536
+        + num::whole::cut_clamped(c.g) * 256
+        + num::whole::cut_clamped(c.b)
 }
 
-// The final conversion from 0..1: each channel limited, times 255, then cut.
+// The final conversion from 0..1: each channel clamped, times 255, then cut.
 pub fn pack_unit(c: Rgb) -> u32
     ensures { λ p. ⌜ p ≡ Pixel.packUnit c ⌝ }
 {

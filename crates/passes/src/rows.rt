@@ -12,9 +12,9 @@ fn last(n: usize) -> usize
 }
 
 // Where k lies among 0..n - 1, as -1..1.
-pub fn position(k: usize, n: usize) -> f32
-    requires { ⌜ (k ≤ 1024) × (n ≤ 1024) ⌝ }
-    ensures { λ r. ⌜ r ≡ Position.position k n ⌝ }
+pub fn position(n: usize, k: usize) -> f32
+    requires { ⌜ (n ≤ 1024) × (k ≤ 1024) ⌝ }
+    ensures { λ r. ⌜ r ≡ Position.position n k ⌝ }
 {
     k as u16 as f32 / last(n) as u16 as f32 * 2.0 - 1.0
 }

@@ -7,7 +7,7 @@ use crate::pixel;
 
 // One row of the frame.
 fn row(row: &mut [u32], y: usize, strength: f32)
-    ensures { λ _. ⌜ now (row .exit) ≡ every (λ x. Scanlines.at strength x y) (now (row .entry)) ⌝ }
+    ensures { λ _. ⌜ now (row .exit) ≡ every (λ x. Scanlines.wordAt strength x y) (now (row .entry)) ⌝ }
 {
     if y % 2 == 0 {
         return;

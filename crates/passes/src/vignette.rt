@@ -14,9 +14,9 @@ ghost use Rattle.passes.specs.Plain.Vignette as Vignette;
 use crate::pixel;
 
 // How far k is from the middle of n, in halves of n, squared.
-fn square(n: usize, k: usize) -> f32
+fn offset_squared(n: usize, k: usize) -> f32
     requires { ⌜ (n ≤ 1024) × (k ≤ 1024) ⌝ }
-    ensures { λ r. ⌜ r ≡ Vignette.square n k ⌝ }
+    ensures { λ r. ⌜ r ≡ Vignette.offsetSquared n k ⌝ }
 {
     let c = n as u16 as f32 / 2.0;
     let d = (k as u16 as f32 - c) / c;
@@ -32,11 +32,11 @@ fn factor(strength: f32, distance: f32) -> f32
 // The squares of the distances in one row up to its middle; yy is the row's own.
 fn squares(line: &mut [f32], width: usize, yy: f32)
     requires { ⌜ (width ≤ 1024) × (length (now line) ≤ 1024) ⌝ }
-    ensures { λ _. ⌜ now (line .exit) ≡ fill (λ x. Vignette.square width x ⊕ yy) (now (line .entry)) ⌝ }
+    ensures { λ _. ⌜ now (line .exit) ≡ fill (λ x. Vignette.offsetSquared width x ⊕ yy) (now (line .entry)) ⌝ }
 {
     let mut x = 0;
     while x < line.len() {
-        line[x] = square(width, x) + yy;
+        line[x] = offset_squared(width, x) + yy;
         x += 1;
     }
 }
@@ -55,7 +55,7 @@ fn factors(line: &mut [f32], strength: f32)
 // The factors of one row up to its middle.
 fn line(line: &mut [f32], width: usize, strength: f32, yy: f32)
     requires { ⌜ (width ≤ 1024) × (length (now line) ≤ 1024) ⌝ }
-    ensures { λ _. ⌜ now (line .exit) ≡ fill (λ x. Vignette.factor strength (rootOf (Vignette.square width x ⊕ yy))) (now (line .entry)) ⌝ }
+    ensures { λ _. ⌜ now (line .exit) ≡ fill (λ x. Vignette.factor strength (rootOf (Vignette.offsetSquared width x ⊕ yy))) (now (line .entry)) ⌝ }
 {
     squares(line, width, yy);
     num::root::roots(line);
@@ -71,7 +71,12 @@ fn lines(table: &mut [f32], wide: usize, high: usize, width: usize, height: usiz
     let mut at = 0;
     while y < high {
         let end = at + wide;
-        line(&mut table[at..end], width, strength, square(height, y));
+        line(
+            &mut table[at..end],
+            width,
+            strength,
+            offset_squared(height, y),
+        );
         at = end;
         y += 1;
     }

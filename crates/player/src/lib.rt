@@ -5,7 +5,7 @@ ghost use Prim.Native.Nat.{_+_, _≤_};
 ghost use mathlib.Core.Bool.{cond};
 ghost use lib.ListN.{length};
 ghost use Rattle.events.specs.Events.{headWanted, eventWanted};
-use chain::station::Station;
+use cards::station::Station;
 use events::event;
 use events::play;
 use events::play::Played;

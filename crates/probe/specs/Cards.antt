@@ -1,33 +1,23 @@
 -- A card's way through opening and writing. Assumes nothing.
-use Prim.Native.Nat.{ℕ, _+_}
+use Prim.Native.Nat.{ℕ}
 use mathlib.Core.List.{List}
-use Rattle.chain.specs.Card.{openOf}
-use Rattle.chain.specs.Write.{writeAnswer, writeInto}
-use Rattle.chain.specs.declared.station.Answer.{Answer}
-use Rattle.chain.specs.declared.station.Answer.the-variants.{Accepted, Refused}
-use Rattle.chain.specs.declared.station.Station.{Station}
-use Rattle.chain.specs.declared.writer.Written.{Written}
-use Rattle.chain.specs.declared.writer.Written.the-variants as W
+use Rattle.cards.specs.Answers.{Report, refusal, acceptance, told, left}
+use Rattle.cards.specs.Card.{openOf}
+use Rattle.cards.specs.Write.{writeReply, writeInto}
+use Rattle.cards.specs.declared.station.Station.{Station}
 
 -- the station, with a history of `held` words
 abbrev pub holding : Station → ℕ → Station
 holding s held = record { records = s .records; n = s .n; held = held }
 
--- a refusal's number is told by adding 256: no card is so long
-abbrev pub wrote : Written → ℕ
-wrote (W.Length n) = n
-wrote (W.Refused k) = 256 + k
+-- a refusal, else what comes after it
+abbrev pub andThen : Report → Report → Report
+andThen (refusal k) next = refusal k
+andThen (acceptance r) next = next
 
-abbrev pub told : Answer → ℕ → ℕ
-told Accepted n = n
-told (Refused k) n = 256 + k
-
-abbrev pub kept : Answer → List ℕ → List ℕ → List ℕ
-kept Accepted out new = new
-kept (Refused k) out new = out
-
+-- no card is so long that its length could be taken for a refusal
 abbrev pub answerOf : List ℕ → ℕ → List ℕ → ℕ
-answerOf card held out = let o = openOf card in told (o .answer) (wrote (writeAnswer (holding (o .station) held) out))
+answerOf card held out = let o = openOf card in told (andThen (o .answer) (writeReply (holding (o .station) held) out .answer))
 
 abbrev pub bytesOf : List ℕ → ℕ → List ℕ → List ℕ
-bytesOf card held out = let o = openOf card in kept (o .answer) out (writeInto (holding (o .station) held) out)
+bytesOf card held out = let o = openOf card in left (o .answer) out (writeInto (holding (o .station) held) out)

@@ -1,10 +1,10 @@
 // The export of a card's way through opening and writing.
 ghost use mathlib.Core.Path.{_≡_};
 ghost use Rattle.probe.specs.Cards.{answerOf, bytesOf};
-use chain::reader;
-use chain::station::Answer;
-use chain::writer;
-use chain::writer::Written;
+use cards::reader;
+use cards::station::Answer;
+use cards::writer;
+use cards::writer::Writing;
 
 // Opens a card, gives its station a history of `held` words, and writes it into `out`. Answers the length that was written, or
 // 256 and a refusal's number.
@@ -19,8 +19,10 @@ pub extern "C" fn probe_card(card: &[u8], held: u32, out: &mut [u8]) -> usize
         return 256 + k as usize;
     }
     station.held = held;
-    match writer::write(station, out) {
-        Written::Length(n) => n,
-        Written::Refused(k) => 256 + k as usize,
+    let written = writer::write(station, out);
+    let told = written.answer;
+    match told {
+        Writing::Length(n) => n,
+        Writing::Refused(k) => 256 + k as usize,
     }
 }

@@ -33,13 +33,13 @@ pub extern "C" fn probe_cut(xs: &[f32], out: &mut [u32])
 }
 
 #[no_mangle]
-pub extern "C" fn probe_cut_limited(xs: &[f32], out: &mut [u32])
+pub extern "C" fn probe_cut_clamped(xs: &[f32], out: &mut [u32])
     ensures { λ _. ⌜ now (out .exit) ≡ over (λ x. cutOf (clampOf x c0·0 c255·0)) (now (xs .entry)) (now (out .entry)) ⌝ }
 {
     let n = shorter(xs.len(), out.len());
     let mut i = 0;
     while i < n {
-        out[i] = num::whole::cut_limited(xs[i]);
+        out[i] = num::whole::cut_clamped(xs[i]);
         i += 1;
     }
 }

@@ -7,7 +7,7 @@ ghost use lib.ListN.{length};
 mod adler; // the checksum
 
 use adler::adler;
-use chain::station::Station;
+use cards::station::Station;
 use events::play::Played;
 use libc::STDIN_FILENO;
 use libc::STDOUT_FILENO;
@@ -134,7 +134,7 @@ fn report(t: Tally) {
 // The empty chain, until the first card.
 fn begin() -> Run {
     let card = [0x10u8; 1];
-    let opened = chain::reader::open(&card);
+    let opened = cards::reader::open(&card);
     let station = opened.station;
     let tally = Tally {
         answers: 0,

@@ -2,7 +2,7 @@
 // event does and what is printed is said by crate `events`.
 ghost use Prim.Native.Nat.{_≤_};
 ghost use lib.ListN.{length};
-use chain::station::Station;
+use cards::station::Station;
 use events::play::Played;
 use libc::STDOUT_FILENO;
 

@@ -8,6 +8,18 @@ pub type Number = u32;
 pub struct Refusal {
     pub number: Number,
     pub at: usize,
+    pub place: Place,
+}
+
+/// A field of a card. Passes are counted from 1, their settings from 0; of a pass that is known, its kind.
+#[derive(Clone, Copy)]
+pub enum Place {
+    Version,
+    Passes,
+    Kind(usize),
+    Switch(usize, u32),
+    Setting(usize, u32, usize),
+    Rest,
 }
 
 /// A card once it is opened.
@@ -72,9 +84,9 @@ struct Bits<'a> {
 
 impl Bits<'_> {
     /// A field: torn where its bits run past the end.
-    fn take(&mut self, width: usize) -> Result<u32, Refusal> {
+    fn take(&mut self, width: usize, place: Place) -> Result<u32, Refusal> {
         if self.at + width > 8 * self.card.len() {
-            return Err(refusal(1, self.at));
+            return Err(refusal(1, self.at, place));
         }
         let bits = (self.at..self.at + width).map(|p| self.card[p / 8] >> (7 - p % 8) & 1);
         self.at += width;
@@ -82,26 +94,26 @@ impl Bits<'_> {
     }
 }
 
-fn refusal(number: Number, at: usize) -> Refusal {
-    Refusal { number, at }
+fn refusal(number: Number, at: usize, place: Place) -> Refusal {
+    Refusal { number, at, place }
 }
 
 impl Field {
-    fn read(self, bits: &mut Bits) -> Result<Value, Refusal> {
-        let bad = refusal(6, bits.at);
+    fn read(self, bits: &mut Bits, place: Place) -> Result<Value, Refusal> {
+        let bad = refusal(6, bits.at, place);
         match self {
-            Field::Byte => Ok(Value::Whole(bits.take(8)?, 8)),
-            Field::Count(most) => match bits.take(8)? {
+            Field::Byte => Ok(Value::Whole(bits.take(8, place)?, 8)),
+            Field::Count(most) => match bits.take(8, place)? {
                 0 => Ok(Value::Whole(1, 8)),
                 count if count <= most => Ok(Value::Whole(count, 8)),
                 _ => Err(bad),
             },
-            Field::Preset => match bits.take(3)? {
+            Field::Preset => match bits.take(3, place)? {
                 7 => Err(bad),
                 preset => Ok(Value::Whole(preset, 3)),
             },
             Field::Limited(_) | Field::Within(..) | Field::Gain(_) => {
-                let x = f32::from_bits(bits.take(32)?);
+                let x = f32::from_bits(bits.take(32, place)?);
                 if !x.is_finite() {
                     return Err(bad);
                 }
@@ -127,24 +139,27 @@ pub fn open(card: &[u8]) -> Result<Opened, Number> {
 /// The same, with the place of a refusal.
 pub fn read(card: &[u8]) -> Result<Opened, Refusal> {
     let mut bits = Bits { card, at: 0 };
-    if bits.take(4)? != 1 {
-        return Err(refusal(2, 0));
+    if bits.take(4, Place::Version)? != 1 {
+        return Err(refusal(2, 0, Place::Version));
     }
-    let n = bits.take(4)?;
+    let n = bits.take(4, Place::Passes)?;
     if n > 10 {
-        return Err(refusal(3, 4));
+        return Err(refusal(3, 4, Place::Passes));
     }
     let mut records: Vec<Record> = Vec::new();
-    for _ in 0..n {
-        let at = bits.at;
-        let kind = bits.take(4)?;
-        let fields = fields(kind).ok_or(refusal(4, at))?;
+    for pass in 1..=n as usize {
+        let (at, place) = (bits.at, Place::Kind(pass));
+        let kind = bits.take(4, place)?;
+        let fields = fields(kind).ok_or(refusal(4, at, place))?;
         if records.iter().any(|record| record.kind == kind) {
-            return Err(refusal(5, at));
+            return Err(refusal(5, at, place));
         }
-        let on = bits.take(1)? == 1;
-        let settings: Result<Vec<Value>, Refusal> =
-            fields.iter().map(|field| field.read(&mut bits)).collect();
+        let on = bits.take(1, Place::Switch(pass, kind))? == 1;
+        let place = |setting: usize| Place::Setting(pass, kind, setting);
+        let fields = fields.iter().enumerate();
+        let settings: Result<Vec<Value>, Refusal> = fields
+            .map(|(setting, field)| field.read(&mut bits, place(setting)))
+            .collect();
         records.push(Record {
             kind,
             on,
@@ -154,8 +169,8 @@ pub fn read(card: &[u8]) -> Result<Opened, Refusal> {
     // Zero bits to the byte's end, and no byte after it.
     let end = bits.at;
     let rest = 8 * card.len() - end;
-    if rest >= 8 || bits.take(rest)? != 0 {
-        return Err(refusal(7, end));
+    if rest >= 8 || bits.take(rest, Place::Rest)? != 0 {
+        return Err(refusal(7, end, Place::Rest));
     }
     Ok(Opened { records })
 }

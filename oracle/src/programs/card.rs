@@ -3,7 +3,7 @@
 use super::cards::Given;
 use super::cases::{OfCard, OfPair};
 use super::process::Said;
-use crate::cards::paper::{self, Opened, Record, Refusal, Value};
+use crate::cards::paper::{self, Opened, Place, Record, Refusal, Value};
 use crate::met::Met;
 
 const USAGE: &str =
@@ -63,11 +63,24 @@ pub fn two(given: &[Given; 2], met: &mut Met<OfPair>) -> Said {
                 } else {
                     OfPair::Respelt
                 });
-                "alike: the two cards show the same picture".to_string()
+                alike(&a.records)
             }
         },
     };
     Said::output(titles + &last + "\n")
+}
+
+/// From when on two stations with these settings show the same picture: the point of document 01.
+fn alike(records: &[Record]) -> String {
+    let depth = |record: &Record| match record.settings[..] {
+        [_, Value::Whole(depth, _)] if record.kind == 4 && record.on => Some(depth),
+        _ => None,
+    };
+    let when = match records.iter().find_map(depth) {
+        None => "from the first shared frame on".to_string(),
+        Some(depth) => format!("after {depth} shared frames, or from a shared reset on"),
+    };
+    format!("alike: the same settings; the pictures are the same {when}")
 }
 
 /// The argument, and the card in words below it.
@@ -80,7 +93,7 @@ fn titled(argument: &str, card: &[u8]) -> String {
 }
 
 /// By the table of document 01.
-pub fn refused(Refusal { number, at }: Refusal) -> String {
+pub fn refused(Refusal { number, at, place }: Refusal) -> String {
     let word = match number {
         1 => "torn card",
         2 => "foreign card",
@@ -91,7 +104,18 @@ pub fn refused(Refusal { number, at }: Refusal) -> String {
         7 => "long card",
         _ => panic!("no card is refused by {number}"),
     };
-    format!("refused: {number}, {word}; reading stopped at bit {at}")
+    let place = match place {
+        Place::Version => "the version".to_string(),
+        Place::Passes => "the number of passes".to_string(),
+        Place::Kind(pass) => format!("the kind of pass {pass}"),
+        Place::Switch(pass, kind) => format!("the switch of pass {pass}, {}", names(kind).0),
+        Place::Setting(pass, kind, setting) => {
+            let (name, settings) = names(kind);
+            format!("the {} of pass {pass}, {name}", settings[setting])
+        }
+        Place::Rest => "after the last pass".to_string(),
+    };
+    format!("refused: {number}, {word}; reading stopped at bit {at}: {place}")
 }
 
 fn described(opened: &Opened) -> String {

@@ -1,7 +1,7 @@
 -- Gradient. The sum of i lumas is at most 1024 i, for i up to 2^20: above 2^24, but 1024 i is a value of binary32, and
--- no rounding passes it (`exact-sum`). Divided by the count and by 255, both at least 1, and limited it is in 0..1, so
+-- no rounding passes it (`exact-sum`). Divided by the count and by 255, both at least 1, and clamped it is in 0..1, so
 -- the adaptive strength is too. Warmth is in -3..3, the brightness factor at most 16, a channel at most 4134: finite,
--- then limited to 0..255. Assumes nothing.
+-- then clamped to 0..255. Assumes nothing.
 use mathlib.Core.Path.{_≡_, sym, subst}
 use mathlib.Core.List.{List, [], _∷_}
 use Prim.Native.Nat.{ℕ, suc, _+_, _*_, _≤_, _<_}
@@ -15,7 +15,7 @@ use Rattle.num.specs.Within.{within}
 use Rattle.passes.specs.Arith.{Arith, Agrees, plain}
 use Rattle.passes.specs.AutoGradient.{addLuma, adaptive, warm, fall, brightness, shade, shaded, autoGradient}
 use Rattle.passes.specs.Fold.{fold}
-use Rattle.passes.specs.Inside.Shared.{loose, unpacked, limited-three, luma709-in, position-in}
+use Rattle.passes.specs.Inside.Shared.{loose, unpacked, clamped-three, luma709-in, position-in}
 use Rattle.passes.specs.Painted.{placed-same}
 use Rattle.passes.specs.Range.{Has, signed, lit, lit⁺, lit-big, whole-big, wide, plus, plus-exact, minus, times}
 use Rattle.passes.specs.Range.{over-one, negated, abs, times⁺}
@@ -55,6 +55,6 @@ module _ {A : Arith} (G : Agrees A) where
       times (times (negated (position-in G h y (f .high) m)) (signed (lit⁺ 1 vertical v)) tt) (signed a) tt in
       let less = times (times (abs (position-in G w x (f .wide) l)) (signed (lit⁺ 1 horizontal t)) tt) (signed a) tt in
       let bright = times (plus (signed one⁺) (times warmth (lit 1 c0·30 tt) tt) tt) (minus (signed one⁺) less tt) tt in
-      limited-three (plus (times (c .red) bright tt) (times warmth (lit 18 c18·0 tt) tt) tt)
+      clamped-three (plus (times (c .red) bright tt) (times warmth (lit 18 c18·0 tt) tt) tt)
       (plus (times (c .green) bright tt) (times warmth (lit 5 c5·0 tt) tt) tt)
       (minus (times (c .blue) bright tt) (times warmth (lit 14 c14·0 tt) tt) tt))

@@ -2,7 +2,7 @@
 -- above that of white, which is 255.0 exactly (three products and two sums, and rounding keeps the order). So at t =
 -- 255 no word is bright, and the division by zero that document 01 allows for, if rounding lifted white above 255, is
 -- never reached; for t up to 254 the divisor 255 - t is at least 1. A bright channel is in 0..255, blurred along rows
--- in -32895..32895, along columns in -4243455..4243455, laid over in -4243710..4243710: finite, then limited to 0..255.
+-- in -32895..32895, along columns in -4243455..4243455, laid over in -4243710..4243710: finite, then clamped to 0..255.
 -- Assumes nothing.
 use mathlib.Core.Path.{_≡_, refl, subst}
 use mathlib.Core.List.{List}
@@ -23,7 +23,7 @@ use Rattle.passes.specs.Arith.{Arith, Agrees, plain}
 use Rattle.passes.specs.Bloom as Bloom
 use Rattle.passes.specs.Blur.{blurAt}
 use Rattle.passes.specs.Inside.Blur.{blur-in}
-use Rattle.passes.specs.Inside.Shared.{Tint, tint, loose, unpacked, scaled-in, channel-in, limited-three}
+use Rattle.passes.specs.Inside.Shared.{Tint, tint, loose, unpacked, scaled-in, channel-in, clamped-three}
 use Rattle.passes.specs.Inside.Shared.{luma709-in, cell-same}
 use Rattle.passes.specs.Pixel.{unpack, luma709, scaled}
 use Rattle.passes.specs.Painted.{placed-same}
@@ -112,7 +112,7 @@ module _ {A : Arith} (G : Agrees A) where
       placed-same _ _ _ _ frame w h _ _ (f .area) (λ x y p i j.
       let c = loose (unpacked G p) in
       let v = tint (blurred 0 x y i j) (blurred 1 x y i j) (blurred 2 x y i j) in
-      limited-three (glow (c .red) (v .red)) (glow (c .green) (v .green)) (glow (c .blue) (v .blue)))
+      clamped-three (glow (c .red) (v .red)) (glow (c .green) (v .green)) (glow (c .blue) (v .blue)))
     where
       across : (which x y : ℕ) → x < w → y < h
           → Has G 32895 (Bloom.horizontal A w radius (A .whole threshold) frame which x y)

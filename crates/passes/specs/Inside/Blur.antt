@@ -1,6 +1,6 @@
 -- The blur of NTSC and bloom, of a radius up to 64. A weight 1 - d / (radius + 1) is in 0..1, and 1 at the centre,
 -- which is always inside: from the centre on the sum of the weights is at least 1, and it is at most 129. So the
--- ratio's test passes. Of samples in -b..b the weighted sum is in -129 b..129 b, and the quotient too. Assumes nothing.
+-- quotient's test passes. Of samples in -b..b the weighted sum is in -129 b..129 b, and the quotient too. Assumes nothing.
 use mathlib.Core.Path.{_≡_, refl, sym, ap, _∙_, subst}
 use mathlib.Core.Logic.{_⊎_, inl, inr}
 use Prim.Native.Nat.{ℕ, zero, suc, _+_, _-_, _*_, _≤_, _<_}

@@ -1,5 +1,5 @@
 -- Colour correction, with brightness in -1..1, contrast and saturation in 0..4. A level is in -1029..1029, its luma in
--- -3087..3087, a saturated channel in -19551..19551: finite, then limited to 0..1 and times 255. Gamma has no step.
+-- -3087..3087, a saturated channel in -19551..19551: finite, then clamped to 0..1 and times 255. Gamma has no step.
 -- Assumes nothing.
 use mathlib.Core.Path.{_≡_}
 use mathlib.Core.List.{List}

@@ -1,5 +1,5 @@
 -- CRT. The middle c is at most 1024, so the greater of c and 1 is at least 1, and an offset is in -2048..2048; the
--- squares are at most 2^22, their sum at most 2^23, and the edge is limited to 0..1. Beam and phosphor are 1 less
+-- squares are at most 2^22, their sum at most 2^23, and the edge is clamped to 0..1. Beam and phosphor are 1 less
 -- something in 0..1. So a channel stays in 0..255, and what is rounded and cut is finite and in 0..255. Assumes
 -- nothing.
 use mathlib.Core.Path.{_≡_}

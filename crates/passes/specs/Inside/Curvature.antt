@@ -8,7 +8,7 @@ use Prim.Native.Nat.{ℕ, _+_, _-_, _*_, _≤_, _<_}
 use native.Mathlib.Omega.{arith}
 use mathlib.Core.Bool.{Bool, true, false, _||_, cond}
 use lib.Dec.{T, lit≤}
-use lib.ListN.{length, getD}
+use lib.ListN.{getD}
 use lib.Ieee.{Float, lt, neg, ofBits}
 use Rattle.num.specs.Bounds.{widen, round-step-within}
 use Rattle.num.specs.Const.{c0·5, c1·0}

@@ -1,6 +1,6 @@
 -- LUT, for every preset number. A channel over 255 is at most 255 (the divisor is at least 1), a luma at most 765, what
 -- is rounded for Game Boy at most 2295 and then divided by 3; each treatment is in -4096..4096, blended with the
--- original in -4606..4606: finite, then limited to 0..1 and times 255. Assumes nothing.
+-- original in -4606..4606: finite, then clamped to 0..1 and times 255. Assumes nothing.
 use mathlib.Core.Path.{_≡_}
 use mathlib.Core.List.{List}
 use Prim.Native.Nat.{ℕ, zero, suc}

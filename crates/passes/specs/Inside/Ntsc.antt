@@ -1,5 +1,5 @@
 -- NTSC, of a bleed up to 64. A chroma is in -765..765, blurred in -98685..98685, blended in -100215..100215, a colour
--- in -301410..301410: finite, then limited to 0..255. The blur reads columns that are inside the row. Assumes nothing.
+-- in -301410..301410: finite, then clamped to 0..255. The blur reads columns that are inside the row. Assumes nothing.
 use mathlib.Core.Path.{_≡_}
 use mathlib.Core.List.{List}
 use Prim.Native.Nat.{ℕ, zero, suc, _+_, _*_, _≤_, _<_}
@@ -12,7 +12,7 @@ use Rattle.num.specs.Within.{within}
 use Rattle.passes.specs.Arith.{Arith, Agrees, plain}
 use Rattle.passes.specs.Blur.{blurAt}
 use Rattle.passes.specs.Inside.Blur.{blur-in}
-use Rattle.passes.specs.Inside.Shared.{Tint, loose, unpacked, limited-three, luma601-in, cell-same}
+use Rattle.passes.specs.Inside.Shared.{Tint, loose, unpacked, clamped-three, luma601-in, cell-same}
 use Rattle.passes.specs.Ntsc as Ntsc
 use Rattle.passes.specs.Painted.{placed-same}
 use Rattle.passes.specs.Range.{Has, signed, lit, lit⁺, plus, minus, times, negated}
@@ -40,7 +40,7 @@ module _ {A : Arith} (G : Agrees A) where
       let luma = signed (luma601-in c) in
       let u = blend (chroma-in 0 (loose c)) (blurred 0 x y i j) in
       let v = blend (chroma-in 1 (loose c)) (blurred 1 x y i j) in
-      limited-three (plus luma (times (lit 2 c1·13983 tt) v tt) tt)
+      clamped-three (plus luma (times (lit 2 c1·13983 tt) v tt) tt)
       (minus (minus luma (times (lit 1 c0·39465 tt) u tt) tt) (times (lit 1 c0·58060 tt) v tt) tt)
       (plus luma (times (lit 3 c2·03211 tt) u tt) tt))
     where

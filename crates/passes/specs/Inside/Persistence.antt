@@ -1,6 +1,6 @@
 -- Persistence, of a depth up to 8 with its amount in 0..1. A decay is in 0..1. The sum of the weights begins at 1 and
 -- no later term takes from it, so it is in 1..9, and each weight in 0..1. A mix with j older frames is at most 255 (j +
--- 1): finite, then limited to 0..255. The word i of the older frame j is word j * n + i of the history, which has k * n
+-- 1): finite, then clamped to 0..255. The word i of the older frame j is word j * n + i of the history, which has k * n
 -- at least. Assumes nothing.
 use mathlib.Core.Path.{_≡_, ap, subst}
 use mathlib.Core.List.{List}
@@ -14,14 +14,15 @@ use lib.ListN.{length, getD}
 use lib.Ieee.{Float, ofBits}
 use Rattle.num.specs.Const.{c0·55, c1·0}
 use Rattle.num.specs.F32.{_⊘_}
+use Rattle.num.specs.Held.{Held, sameHeld}
 use Rattle.num.specs.Least.{Least, more-least}
 use Rattle.num.specs.Sized.{exact}
 use Rattle.num.specs.Within.{within}
 use Rattle.passes.specs.Arith.{Arith, Agrees, plain}
-use Rattle.passes.specs.Flow.{Held, sameHeld, Flow, flow}
-use Rattle.passes.specs.Inside.Shared.{Tint, tint, loose, unpacked, scaled-in, limited-same}
+use Rattle.passes.specs.Flow.{Flow, flow}
+use Rattle.passes.specs.Inside.Shared.{Tint, tint, loose, unpacked, scaled-in, clamped-same}
 use Rattle.passes.specs.Painted.{Painted, painted, converted-same}
-use Rattle.passes.specs.Persistence.{decay, total, weight, add, mix, blended, blend, shifted, refilled}
+use Rattle.passes.specs.Persistence.{decay, total, weight, add, mix, blend, shifted, refilled}
 use Rattle.passes.specs.Persistence.{persistence}
 use Rattle.passes.specs.Range.{Plus, Big, signed, lit⁺, plus, plus⁺, times⁺, over⁺, one⁺}
 use Rattle.passes.specs.Rows.{row-ends}
@@ -85,11 +86,11 @@ module _ {A : Arith} (G : Agrees A) where
   pub persistence-inside : (amount : Float) (k : ℕ) (size : Held) (x : Flow) → T (within 1 amount) → k ≤ 8
       → k * length (x .frame .words) ≤ length (x .past)
       → persistence A (A .lit amount) k size x ≡ persistence plain amount k size x
-  unfolding persistence blend blended
+  unfolding persistence blend
   persistence-inside amount k size x s few room =
       let words = x .frame .words in
       ap (λ (y : Painted). cond (sameHeld (x .held) size)
       (flow (painted (y .words) (x .frame .clipped + y .clipped)) size (shifted k words (x .past)))
       (flow (x .frame) size (refilled k words (x .past))))
       (converted-same _ _ _ _ words _ _
-      (λ i p l. limited-same (mix-in amount s k few (x .past) (length words) i p k l (le-refl k) room)))
+      (λ i p l. clamped-same (mix-in amount s k few (x .past) (length words) i p k l (le-refl k) room)))

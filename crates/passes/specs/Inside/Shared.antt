@@ -7,7 +7,7 @@ use Prim.Native.Nat.{ℕ, zero, suc, _+_, _-_, _*_, _/_, _%_, _≤_, _<_, max}
 use native.Mathlib.Omega.{arith}
 use mathlib.Core.Bool.{Bool, true, false, _&&_, _||_, cond, true≢false}
 use lib.Dec.{T, leb, lit≤}
-use lib.ListN.{length, getD}
+use lib.ListN.{getD}
 use lib.Ieee.{Float, ofBits}
 use Rattle.num.specs.Const.{c0·0, c0·0722, c0·114, c0·2126, c0·299, c0·587, c0·7152, c1·0, c2·0, c255·0}
 use Rattle.num.specs.F32.{_⊗_, _⊘_}
@@ -15,7 +15,7 @@ use Rattle.num.specs.Bounds.{widen, cut-within}
 use Rattle.num.specs.Steps.{clampOf, cutOf}
 use Rattle.num.specs.Within.{within}
 use Rattle.passes.specs.Arith.{Arith, Agrees, plain}
-use Rattle.passes.specs.Pixel.{scaled, channel, pack, packNearest, packLimited, packUnit, clip, clips, unpack, unit, dim}
+use Rattle.passes.specs.Pixel.{scaled, channel, pack, packNearest, packClamped, packUnit, clip, clips, unpack, unit, dim}
 use Rattle.passes.specs.Pixel.{luma601, luma709}
 use Rattle.passes.specs.Position.{position}
 use Rattle.passes.specs.Range.{Has, Plus, signed, lit, lit⁺, lit-big, whole⁺, share⁺, plus, minus, times, plus⁺}
@@ -47,8 +47,8 @@ pub record Tint⁺ {A : Arith} (G : Agrees A) (n : ℕ) (c : A .Rgb) (d : Rgb) :
   pub blue : Plus G n (A .blue c) (d .b)
 
 -- the final conversion from 0..255 makes the same of them: the word, and the number of clipped channels
-abbrev pub Limited : (A : Arith) → A .Rgb → Rgb → Type 0
-Limited A c d = (packLimited A c ≡ packLimited plain d) × (clips A c255·0 c ≡ clips plain c255·0 d)
+abbrev pub Clamped : (A : Arith) → A .Rgb → Rgb → Type 0
+Clamped A c d = (packClamped A c ≡ packClamped plain d) × (clips A c255·0 c ≡ clips plain c255·0 d)
 
 module _ {A : Arith} {G : Agrees A} where
   moved : {n : ℕ} {a b : A .F} {x : Float} → b ≡ a → Has G n a x → Has G n b x
@@ -118,18 +118,18 @@ module _ {A : Arith} {G : Agrees A} where
   clips-same k top t r g b = ap₂ _+_ (ap₂ _+_ (clip-same k top t r) (clip-same k top t g)) (clip-same k top t b)
 
   -- channels of different bounds
-  limited : {n m l : ℕ} {c : A .Rgb} {d : Rgb}
-      → Has G n (A .red c) (d .r) → Has G m (A .green c) (d .g) → Has G l (A .blue c) (d .b) → Limited A c d
-  unfolding packLimited
-  limited h g k = (packed (tint⁺ (clamp-top h) (clamp-top g) (clamp-top k)), clips-same 255 c255·0 top⁺ h g k)
+  clamped : {n m l : ℕ} {c : A .Rgb} {d : Rgb}
+      → Has G n (A .red c) (d .r) → Has G m (A .green c) (d .g) → Has G l (A .blue c) (d .b) → Clamped A c d
+  unfolding packClamped
+  clamped h g k = (packed (tint⁺ (clamp-top h) (clamp-top g) (clamp-top k)), clips-same 255 c255·0 top⁺ h g k)
 
-  pub limited-three : {n m l : ℕ} {a b c : A .F} {x y z : Float} → Has G n a x → Has G m b y → Has G l c z
-      → Limited A (A .rgb a b c) (plain .rgb x y z)
-  limited-three {n} {m} {l} {a} {b} {c} h g k =
-      limited (moved (G .red a b c) h) (moved (G .green a b c) g) (moved (G .blue a b c) k)
+  pub clamped-three : {n m l : ℕ} {a b c : A .F} {x y z : Float} → Has G n a x → Has G m b y → Has G l c z
+      → Clamped A (A .rgb a b c) (plain .rgb x y z)
+  clamped-three {n} {m} {l} {a} {b} {c} h g k =
+      clamped (moved (G .red a b c) h) (moved (G .green a b c) g) (moved (G .blue a b c) k)
 
-  pub limited-same : {n : ℕ} {c : A .Rgb} {d : Rgb} → Tint G n c d → Limited A c d
-  limited-same h = limited (h .red) (h .green) (h .blue)
+  pub clamped-same : {n : ℕ} {c : A .Rgb} {d : Rgb} → Tint G n c d → Clamped A c d
+  clamped-same h = clamped (h .red) (h .green) (h .blue)
 
   pub unit-same : {n : ℕ} {c : A .Rgb} {d : Rgb} → Tint G n c d
       → (packUnit A c ≡ packUnit plain d) × (clips A c1·0 c ≡ clips plain c1·0 d)
@@ -182,7 +182,7 @@ module _ {A : Arith} (G : Agrees A) where
 
   -- ---- places
 
-  pub position-in : (n k : ℕ) → n ≤ 1024 → k < n → Has G 3 (position A k n) (position plain k n)
+  pub position-in : (n k : ℕ) → n ≤ 1024 → k < n → Has G 3 (position A n k) (position plain n k)
   unfolding position ofBits
   position-in n k l m =
       minus (times (signed (share⁺ k (max (n - 1) 1) (omega arith) (omega arith) (omega arith))) (lit 2 c2·0 tt) tt)

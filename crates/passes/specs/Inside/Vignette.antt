@@ -10,7 +10,7 @@ use mathlib.Core.Bool.{false}
 use lib.Dec.{T, lit≤}
 use lib.Ieee.{Float, ofBits}
 use Rattle.num.specs.Const.{c2·0}
-use Rattle.num.specs.F32.{_⊖_, _⊘_, whole}
+use Rattle.num.specs.F32.{_⊘_, whole}
 use Rattle.num.specs.Least.{half-least}
 use Rattle.num.specs.Sized.{exact}
 use Rattle.num.specs.Squares.{plus-signed, square-signed}
@@ -20,7 +20,7 @@ use Rattle.passes.specs.Inside.Shared.{dimmed}
 use Rattle.passes.specs.Range.{Has, Plus, signed, lit⁺, lit-big, whole⁺, difference, over, plus⁺, times⁺, over⁺}
 use Rattle.passes.specs.Range.{square⁺, root⁺, least-one, one-less}
 use Rattle.passes.specs.Rows.{Frame, placed-ext}
-use Rattle.passes.specs.Vignette.{square, factor, vignette}
+use Rattle.passes.specs.Vignette.{offsetSquared, factor, vignette}
 
 -- how far k is from the middle of n, in halves of n
 abbrev apart : (B : Arith) → ℕ → ℕ → B .F
@@ -35,12 +35,12 @@ module _ {A : Arith} (G : Agrees A) where
       over (difference (whole⁺ 1024 k (omega arith) (lit≤ tt)) c tt)
       (record { is = c .is; least = half-least n (omega arith) (omega arith) }) (exact 2048 (lit≤ tt))
 
-  square-in : (n k : ℕ) → n ≤ 1024 → k < n → Plus G 4194304 (square A n k) (square plain n k)
-  unfolding square
+  square-in : (n k : ℕ) → n ≤ 1024 → k < n → Plus G 4194304 (offsetSquared A n k) (offsetSquared plain n k)
+  unfolding offsetSquared
   square-in n k l m = square⁺ (apart-in n k l m) tt
 
-  square-plus : (n k : ℕ) → n ≤ 1024 → k < n → Signed false (square plain n k)
-  unfolding square
+  square-plus : (n k : ℕ) → n ≤ 1024 → k < n → Signed false (offsetSquared plain n k)
+  unfolding offsetSquared
   square-plus n k l m = square-signed 2048 (apart plain n k) (apart-in n k l m .size)
 
   pub vignette-inside : (w h : ℕ) (strength : Float) (frame : List ℕ) → Frame w h frame → T (within 1 strength)
@@ -51,6 +51,6 @@ module _ {A : Arith} (G : Agrees A) where
       let a = square-in w x (f .wide) l in
       let b = square-in h y (f .high) m in
       let positive =
-      plus-signed 4194304 4194304 (square plain w x) (square plain h y) (signed a .size) (signed b .size)
+      plus-signed 4194304 4194304 (offsetSquared plain w x) (offsetSquared plain h y) (signed a .size) (signed b .size)
       (square-plus w x (f .wide) l) (square-plus h y (f .high) m) in
       dimmed G (one-less (least-one (times⁺ (root⁺ (plus⁺ a b tt) positive tt) (lit⁺ 1 strength s) tt))) p)

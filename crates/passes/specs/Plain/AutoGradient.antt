@@ -25,8 +25,8 @@ brightness = Text.AutoGradient.brightness plain
 abbrev pub shade : Float → Float → ℕ → Rgb
 shade = Text.AutoGradient.shade plain
 
-abbrev pub at : ℕ → (ℕ → Float) → Float → Float → ℕ → ℕ → ℕ → Rgb
-at = Text.AutoGradient.at plain
+abbrev pub colourAt : ℕ → ℕ → Float → Float → Float → ℕ → ℕ → ℕ → Rgb
+colourAt = Text.AutoGradient.colourAt plain
 
 abbrev pub shaded : ℕ → ℕ → Float → Float → Float → List ℕ → Painted
 shaded = Text.AutoGradient.shaded plain

@@ -1,11 +1,10 @@
 -- Bloom at binary32: the text of ../Bloom.antt over `plain`. Definitions only.
-use Prim.Native.Nat.{ℕ, _*_, _+_}
+use Prim.Native.Nat.{ℕ}
 use mathlib.Core.List.{List}
 use lib.Ieee.{Float}
 use Rattle.passes.specs as Text
 use Rattle.passes.specs.Arith.{plain}
 use Rattle.passes.specs.Painted.{Painted}
-use Rattle.passes.specs.Plain.Blur.{cell}
 use Rattle.passes.specs.declared.pixel.Rgb.{Rgb}
 
 abbrev pub intensity : Float → Float → Float
@@ -19,9 +18,6 @@ brightOf = Text.Bloom.brightOf plain
 
 abbrev pub sample : Float → List ℕ → ℕ → ℕ → ℕ → ℕ → Float
 sample = Text.Bloom.sample plain
-
-abbrev pub horizontalBy : (ℕ → Float) → ℕ → ℕ → Float → List ℕ → ℕ → ℕ → ℕ → Float
-horizontalBy = Text.Bloom.horizontalBy plain
 
 abbrev pub horizontal : ℕ → ℕ → Float → List ℕ → ℕ → ℕ → ℕ → Float
 horizontal = Text.Bloom.horizontal plain
@@ -37,8 +33,3 @@ over = Text.Bloom.over plain
 
 abbrev pub bloom : ℕ → ℕ → ℕ → Float → ℕ → List ℕ → Painted
 bloom = Text.Bloom.bloom plain
-
--- ---- the planes as they are stored: row y has its red samples, then its green ones, then its blue ones
-
-abbrev pub stored : List Float → ℕ → ℕ → ℕ → ℕ → Float
-stored planes w which x y = cell planes (3 * w) (which * w + x) y

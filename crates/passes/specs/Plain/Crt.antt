@@ -21,8 +21,8 @@ edge = Text.Crt.edge plain
 abbrev pub shade : ℕ → Float → Float → ℕ → ℕ
 shade = Text.Crt.shade plain
 
-abbrev pub at : ℕ → ℕ → Float → ℕ → ℕ → ℕ → ℕ
-at = Text.Crt.at plain
+abbrev pub wordAt : ℕ → ℕ → Float → ℕ → ℕ → ℕ → ℕ
+wordAt = Text.Crt.wordAt plain
 
 abbrev pub crt : ℕ → ℕ → Float → List ℕ → List ℕ
 crt = Text.Crt.crt plain

@@ -15,8 +15,8 @@ sample = Text.Curvature.sample plain
 abbrev pub bend : ℕ → ℕ → Float → List ℕ → Float → Float → ℕ
 bend = Text.Curvature.bend plain
 
-abbrev pub at : ℕ → ℕ → Float → List ℕ → ℕ → ℕ → ℕ → ℕ
-at = Text.Curvature.at plain
+abbrev pub wordAt : ℕ → ℕ → Float → List ℕ → ℕ → ℕ → ℕ → ℕ
+wordAt = Text.Curvature.wordAt plain
 
 abbrev pub bent : ℕ → ℕ → Float → List ℕ → List ℕ → List ℕ
 bent = Text.Curvature.bent plain

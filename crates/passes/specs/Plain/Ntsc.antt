@@ -16,8 +16,8 @@ sample = Text.Ntsc.sample plain
 abbrev pub pixel : Float → Float → Float → ℕ → Rgb
 pixel = Text.Ntsc.pixel plain
 
-abbrev pub at : (ℕ → Float) → ℕ → Float → ℕ → List ℕ → ℕ → ℕ → ℕ → Rgb
-at = Text.Ntsc.at plain
+abbrev pub colourAt : ℕ → Float → ℕ → List ℕ → ℕ → ℕ → ℕ → Rgb
+colourAt = Text.Ntsc.colourAt plain
 
 abbrev pub ntsc : ℕ → Float → ℕ → List ℕ → Painted
 ntsc = Text.Ntsc.ntsc plain

@@ -2,10 +2,11 @@
 use Prim.Native.Nat.{ℕ}
 use mathlib.Core.List.{List}
 use lib.Ieee.{Float}
+use Rattle.num.specs.Held.{Held}
 use Rattle.passes.specs as Text
 use Rattle.passes.specs.Arith.{plain}
 use Rattle.passes.specs.Painted.{Painted}
-use Rattle.passes.specs.Flow.{Held, Flow}
+use Rattle.passes.specs.Flow.{Flow}
 use Rattle.passes.specs.declared.pixel.Rgb.{Rgb}
 unfoldable pub use Rattle.passes.specs.Persistence.{copies, refilled, shifted}
 
@@ -23,9 +24,6 @@ add = Text.Persistence.add plain
 
 abbrev pub mix : Float → (ℕ → Float) → List ℕ → (n i p : ℕ) → ℕ → Rgb
 mix = Text.Persistence.mix plain
-
-abbrev pub blended : Float → (ℕ → Float) → ℕ → List ℕ → List ℕ → Painted
-blended = Text.Persistence.blended plain
 
 abbrev pub blend : Float → ℕ → (past frame : List ℕ) → Painted
 blend = Text.Persistence.blend plain

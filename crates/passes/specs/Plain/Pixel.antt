@@ -26,8 +26,8 @@ pack = Text.Pixel.pack plain
 abbrev pub packNearest : Rgb → ℕ
 packNearest = Text.Pixel.packNearest plain
 
-abbrev pub packLimited : Rgb → ℕ
-packLimited = Text.Pixel.packLimited plain
+abbrev pub packClamped : Rgb → ℕ
+packClamped = Text.Pixel.packClamped plain
 
 abbrev pub packUnit : Rgb → ℕ
 packUnit = Text.Pixel.packUnit plain

@@ -8,8 +8,8 @@ use Rattle.passes.specs.Arith.{plain}
 abbrev pub inRow : ℕ → Float → ℕ → ℕ
 inRow = Text.Scanlines.inRow plain
 
-abbrev pub at : Float → ℕ → ℕ → ℕ → ℕ
-at = Text.Scanlines.at plain
+abbrev pub wordAt : Float → ℕ → ℕ → ℕ → ℕ
+wordAt = Text.Scanlines.wordAt plain
 
 abbrev pub scanlines : ℕ → Float → List ℕ → List ℕ
 scanlines = Text.Scanlines.scanlines plain

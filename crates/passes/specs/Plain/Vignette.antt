@@ -5,8 +5,8 @@ use lib.Ieee.{Float}
 use Rattle.passes.specs as Text
 use Rattle.passes.specs.Arith.{plain}
 
-abbrev pub square : ℕ → ℕ → Float
-square = Text.Vignette.square plain
+abbrev pub offsetSquared : ℕ → ℕ → Float
+offsetSquared = Text.Vignette.offsetSquared plain
 
 abbrev pub factor : Float → Float → Float
 factor = Text.Vignette.factor plain

@@ -14,7 +14,7 @@ use lib.Ieee.{Float, nan, inf, fin, up, down, ofBits}
 use lib.Ieee.Exact.{HasValue}
 use lib.Ieee.Positive.{num, den, den-pos}
 use Rattle.num.specs.Const.{c0·0, c0·55, c1·0, c255·0}
-use Rattle.num.specs.F32.{_⊕_, _⊗_, _⊘_, whole}
+use Rattle.num.specs.F32.{_⊗_, _⊘_, whole}
 use Rattle.num.specs.Steps.{clampOf, cutOf}
 use Rattle.num.specs.Units.{one, one-pos, count, Counted, count-is, counted, Moved, step, one-is, sum-moved}
 use Rattle.num.specs.Units.{product-moved, times-moved, quotient-moved, Off, scale, unscale, cut-near}

@@ -14,12 +14,13 @@ use lib.Ieee.Exact.{HasValue}
 use lib.Ieee.Positive.{num, den}
 use Rattle.num.specs.Const.{c1·0}
 use Rattle.num.specs.F32.{_⊘_}
+use Rattle.num.specs.Held.{Held, sameHeld}
 use Rattle.num.specs.Rewrite.{getD-rewrite}
 use Rattle.passes.specs as Text
-use Rattle.passes.specs.Flow.{Held, sameHeld, Flow, flow}
+use Rattle.passes.specs.Flow.{Flow, flow}
 use Rattle.passes.specs.Painted.{Painted, converted, onto}
 use Rattle.passes.specs.Plain.Persistence.{total, weight, mix, blend, copies, refilled, shifted, persistence}
-use Rattle.passes.specs.Plain.Pixel.{packLimited}
+use Rattle.passes.specs.Plain.Pixel.{packClamped}
 use Rattle.passes.specs.PersistenceLaws.{blend-paints, blend-take}
 use Rattle.passes.specs.Still.{StillWord, Still}
 use Rattle.passes.specs.StillLaws.Words.{mix-equal, packed-still}
@@ -34,18 +35,18 @@ still-itself frame = (refl, λ i l. (inl refl, inl refl, inl refl))
 module _ (amount : Float) (own : HasValue amount false (num amount) (den amount)) (most : num amount ≤ den amount) (k : ℕ) (few : k ≤ 8) where
   word-still : (past : List ℕ) (n i p : ℕ) → ((j : ℕ) → j < k → getD past (j * n + i) 0 ≡ p) →
       let t = total amount k in
-      StillWord p (packLimited (mix (c1·0 ⊘ t) (weight amount t) past n i p k))
-  unfolding Text.Pixel.packLimited Text.Pixel.pack
+      StillWord p (packClamped (mix (c1·0 ⊘ t) (weight amount t) past n i p k))
+  unfolding Text.Pixel.packClamped Text.Pixel.pack
   word-still past n i p same =
       let t = total amount k in
-      subst (λ (c : Rgb). StillWord p (packLimited c)) (sym (mix-equal (c1·0 ⊘ t) (weight amount t) past n i p k same))
+      subst (λ (c : Rgb). StillWord p (packClamped c)) (sym (mix-equal (c1·0 ⊘ t) (weight amount t) past n i p k same))
       (packed-still p _ _ _ (channel-still amount own most k few (p / 65536 % 256) (omega arith))
       (channel-still amount own most k few (p / 256 % 256) (omega arith)) (channel-still amount own most k few (p % 256) (omega arith)))
 
   blend-still : (past frame : List ℕ)
       → ((i j : ℕ) → i < length frame → j < k → getD past (j * length frame + i) 0 ≡ getD frame i 0)
       → Still frame (blend amount k past frame .words)
-  unfolding Text.Persistence.blend Text.Persistence.blended converted
+  unfolding Text.Persistence.blend converted
   blend-still past frame same = (
     blend-paints amount k past frame .long,
     λ i l. subst (λ (q : ℕ). StillWord (getD frame i 0) q) (sym (getD-rewrite (length frame) _ frame i 0 l l))

@@ -23,7 +23,7 @@ equal w ws c (suc j) = equal w ws c j ⊕ whole c ⊗ ws j
 pub mix-equal : (w : Float) (ws : ℕ → Float) (past : List ℕ) (n i p k : ℕ)
     → ((j : ℕ) → j < k → getD past (j * n + i) 0 ≡ p)
     → mix w ws past n i p k ≡ rgb (equal w ws (p / 65536 % 256) k) (equal w ws (p / 256 % 256) k) (equal w ws (p % 256) k)
-unfolding Text.Persistence.mix Text.Persistence.add Text.Pixel.unpack Text.Pixel.scaled equal
+unfolding Text.Persistence.mix Text.Persistence.add Text.Pixel.unpack equal
 mix-equal w ws past n i p zero same = refl
 mix-equal w ws past n i p (suc k) same =
     ap₂ (λ (c : Rgb) (q : ℕ). add c (ws k) q) (mix-equal w ws past n i p k (λ j l. same j (omega arith))) (same k (le-refl (suc k)))

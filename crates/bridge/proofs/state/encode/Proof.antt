@@ -1,7 +1,7 @@
 -- `bridge::state::encode` meets its contract: the card is written into the zeros, or not at all. Assumes nothing.
 use borrow.Author.Needs.{needs}
 use native.Mathlib.Omega.{arith}
-use Rattle.bridge.proofs.Laid.{Wrote, unwritten, written, laid-down}
+use Rattle.bridge.proofs.Laid.{Wrote, unwritten, laid-card, laid-down}
 use Rattle.bridge.proofs.state.encode.Statement.{statement}
 use Rattle.bridge.proofs.state.encode.Tie as tie
 
@@ -11,10 +11,10 @@ returns c =
     unwritten _ (w .write .result) _ (w .write .ensures .0) (w .write .ensures .1) _ (c .enum-told .given .1)
 
 -- the card is written
-wrote : (c : tie.After-known-told) → Wrote (c .before .before .before .before .before .before .args .station) (c .before .written .given .0 .0) (c .before .before .before .before .write .last .1 .0)
+wrote : (c : tie.After-known-told) → Wrote (c .before .before .before .before .before .before .args .station) (c .before .answer .given .0 .0) (c .before .before .before .before .write .last .1 .0)
 wrote c =
     let w = c .before .before .before .before in
-    written _ (w .write .result) _ (w .write .ensures .0) (w .write .ensures .1) _ (c .before .written .given .1)
+    laid-card _ (w .write .result) _ (w .write .ensures .0) (w .write .ensures .1) _ (c .before .answer .given .1)
 
 cast-state : tie.Need-cast-state
 cast-state c = record { fits = omega (arith, wrote c .short) }

@@ -7,7 +7,7 @@ use borrow.Author.Needs.{needs}
 use Rattle.num.specs.Refusals.{area-fine}
 use Rattle.chain.proofs.Depths.{readies}
 use Rattle.chain.proofs.Goes.{Goes, goes, refused-frame, shown-frame}
-use Rattle.chain.proofs.Replies.{unmapped}
+use Rattle.cards.specs.Ten.{unmapped}
 use Rattle.chain.proofs.pipeline.apply.Statement.{statement}
 use Rattle.chain.proofs.pipeline.apply.Tie as tie
 

@@ -6,10 +6,11 @@ use borrow.Author.Needs.{needs}
 use lib.ListN.{length, getD}
 use Rattle.num.specs.Refusals.{refuses}
 use Rattle.chain.specs.Calls.{lacks}
-use Rattle.chain.specs.Passes.{kindOf}
+use Rattle.cards.specs.Passes.{kindOf}
 use Rattle.chain.proofs.PassCases.{stepped-kind}
-use Rattle.chain.proofs.Replies.{present, unmapped, cycles}
-use Rattle.chain.proofs.Scans.{past}
+use Rattle.cards.specs.Ten.{unmapped}
+use Rattle.chain.proofs.Replies.{present, cycles}
+use Rattle.cards.specs.Scans.{past}
 use Rattle.chain.proofs.pipeline.cycle_lut.Statement.{statement}
 use Rattle.chain.proofs.pipeline.cycle_lut.Tie as tie
 

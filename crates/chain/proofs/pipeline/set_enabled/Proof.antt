@@ -6,7 +6,8 @@ use borrow.Author.Needs.{needs}
 use lib.ListN.{length}
 use Rattle.num.specs.Refusals.{refuses}
 use Rattle.chain.specs.Calls.{lacks}
-use Rattle.chain.proofs.Replies.{present, unmapped, switches}
+use Rattle.cards.specs.Ten.{unmapped}
+use Rattle.chain.proofs.Replies.{present, switches}
 use Rattle.chain.proofs.pipeline.set_enabled.Statement.{statement}
 use Rattle.chain.proofs.pipeline.set_enabled.Tie as tie
 

@@ -8,8 +8,8 @@ use borrow.Author.Tests.{lt-ltb, le-ltb, not-true, not-false}
 use lib.Dec.{ltb}
 use Rattle.num.specs.Refusals.{badSide, side-fine, area-fine}
 use Rattle.chain.specs.Calls.{stops}
-use Rattle.chain.specs.Normal.{goodStation}
-use Rattle.chain.proofs.Good.{good}
+use Rattle.cards.specs.Normal.{goodStation}
+use Rattle.cards.specs.Good.{good}
 use Rattle.chain.proofs.refusals.stops.Statement.{statement}
 use Rattle.chain.proofs.refusals.stops.Tie as tie
 

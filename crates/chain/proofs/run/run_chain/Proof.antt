@@ -9,9 +9,9 @@ use Rattle.passes.specs.Painted.{painted}
 use Rattle.passes.specs.Rows.{Frame, frame-small}
 use Rattle.chain.specs.Chain.{turn, chain}
 use Rattle.chain.specs.Lent.{Ready}
-use Rattle.chain.specs.declared.station.Record.{Record}
+use Rattle.cards.specs.declared.station.Record.{Record}
 use Rattle.chain.proofs.Lending.{Running, relent, adding, turn-adds, turn-few}
-use Rattle.chain.proofs.Scans.{past}
+use Rattle.cards.specs.Scans.{past}
 use Rattle.chain.proofs.run.run_chain.Statement.{statement}
 use Rattle.chain.proofs.run.run_chain.Tie as tie
 

@@ -45,7 +45,7 @@ returns : tie.Need-returns
 returns c =
     let g = c .before .before .before .before .before .before .before .before .before .before in
     let t = g .before .before .before .before .before .before .before in
-    in-front (start t .args .bytes .now) (start t .args .station) (start t .args .framebuffer .now) (start t .args .history .now) (t .before .at .result) (t .at2 .result) _ (g .show .result) _ _ _ _
+    in-front (start t .args .bytes .now) (start t .args .station) (start t .args .framebuffer .now) (start t .args .history .now) (t .before .at .result) (t .at2 .result) _ (g .show .result) _ _ _ _ _ _ _ _
     (t .before .at .ensures .0) (t .at2 .ensures .0) (past-head t) (g .show .ensures)
 
 pub frame-spec : {M : Type 1} → statement M

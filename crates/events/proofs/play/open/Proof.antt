@@ -3,7 +3,7 @@ use borrow.Author.Needs.{needs}
 use borrow.Author.Tests.{lt-ltb, le-ltb}
 use mathlib.Core.Path.{sym, ap, _∙_}
 use native.Mathlib.Omega.{arith}
-use Rattle.chain.specs.Card.{openOf}
+use Rattle.cards.specs.Card.{openOf}
 use Rattle.events.specs.Events.{cardIn}
 use Rattle.events.proofs.Sizes.{some-wanted}
 use Rattle.events.proofs.play.open.Statement.{statement}

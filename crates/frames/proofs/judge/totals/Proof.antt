@@ -1,38 +1,37 @@
 -- `frames::judge::totals` meets its contract: a frame that is taken lies whole in the file, and its words in the scratch. Assumes nothing.
 use borrow.Author.Needs.{needs}
 use Prim.Native.Nat.{ℕ, _-_, _*_, _≤_}
-use mathlib.Core.List.{List}
+use mathlib.Core.List.{List, _++_}
 use mathlib.Core.Path.{_≡_, sym, ap, _∙_}
 use native.Mathlib.Omega.{arith}
 use lib.ListN.{length, drop}
-use Rattle.areas.specs.Areas.{judged}
 use Rattle.raster.specs.Claims.{Whole}
-use Rattle.raster.specs.Pixels.{unpacked}
 use Rattle.raster.specs.Ppm.{parseOf}
 use Rattle.raster.specs.declared.ppm.Parsed.{Parsed}
 use Rattle.raster.specs.declared.ppm.Parsed.the-variants as Parsed
 use Rattle.raster.proofs.Taken.{taken-whole}
 use Rattle.frames.specs.Frames.{numberOf}
-use Rattle.frames.specs.Judge.{given, byFrame, inFile}
+use Rattle.frames.specs.Judge.{measuredOf, among, byFrame, inFile}
 use Rattle.frames.specs.declared.judge.Judged.{Judged}
 use Rattle.frames.specs.declared.judge.Judged.the-variants.{NoFrame}
 use Rattle.frames.proofs.Parts.{few, lent, pixels, pixels-room}
 use Rattle.frames.proofs.judge.totals.Statement.{statement}
 use Rattle.frames.proofs.judge.totals.Tie as tie
 
-module _ (most : ℕ) (file areas result : List ℕ) {p : Parsed} (e : p ≡ parseOf most file) where
-  by-parsed : byFrame p file areas result ≡ inFile most file areas result
+module _ (words file areas result : List ℕ) {p : Parsed} (e : p ≡ parseOf (length words) file) where
+  by-parsed : byFrame p words file areas result ≡ inFile words file areas result
   unfolding inFile
-  by-parsed = ap (λ (q : Parsed). byFrame q file areas result) e
+  by-parsed = ap (λ (q : Parsed). byFrame q words file areas result) e
 
-  no-frame : {k number : ℕ} → p ≡ Parsed.Refused k → number ≡ numberOf p → (NoFrame number, result) ≡ inFile most file areas result
+  no-frame : {k number : ℕ} → p ≡ Parsed.Refused k → number ≡ numberOf p → (NoFrame number, words, result) ≡ inFile words file areas result
   no-frame {k} {number} is n =
-      ap (λ (m : ℕ). (NoFrame m, result)) (n ∙ ap numberOf is) ∙ ap (λ (q : Parsed). byFrame q file areas result) (sym is) ∙ by-parsed
+      ap (λ (m : ℕ). (NoFrame m, words, result)) (n ∙ ap numberOf is) ∙ ap (λ (q : Parsed). byFrame q words file areas result) (sym is) ∙ by-parsed
 
-  measured : {w h start : ℕ} {pixels : List ℕ} {x : Judged × List ℕ} → p ≡ Parsed.Frame w h start → pixels ≡ drop start file
-      → x ≡ given (judged (unpacked (h * w) pixels) w h areas result) → x ≡ inFile most file areas result
+  measured : {w h start : ℕ} {pixels : List ℕ} {r : Judged} {words′ result′ : List ℕ} → p ≡ Parsed.Frame w h start → pixels ≡ drop start file
+      → (r, words′, result′) ≡ measuredOf w h pixels areas result → (r, words′ ++ drop (h * w) words, result′) ≡ inFile words file areas result
   measured {w} {h} {start} is part g =
-      g ∙ ap (λ (xs : List ℕ). given (judged (unpacked (h * w) xs) w h areas result)) part ∙ ap (λ (q : Parsed). byFrame q file areas result) (sym is) ∙ by-parsed
+      ap (among (h * w) words) g ∙ ap (λ (xs : List ℕ). among (h * w) words (measuredOf w h xs areas result)) part
+      ∙ ap (λ (q : Parsed). byFrame q words file areas result) (sym is) ∙ by-parsed
 
 -- a frame was taken
 module _ (c : tie.After-known-told) where

@@ -3,7 +3,7 @@ use mathlib.Core.Bool.{true}
 use mathlib.Core.Path.{_≡_, sym, _∙_}
 use borrow.Author.Tests.{eq-eqb, ne-eqb, not-true, not-false}
 use lib.Dec.{eqb}
-use Rattle.chain.specs.Passes.{kindOf}
+use Rattle.cards.specs.Passes.{kindOf}
 use Rattle.inspect.specs.Difference.{sameSwitch, recordDifference}
 use Rattle.inspect.proofs.difference.record_difference.Statement.{statement}
 use Rattle.inspect.proofs.difference.record_difference.Tie as tie

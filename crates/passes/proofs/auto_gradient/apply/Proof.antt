@@ -12,10 +12,9 @@ use Rattle.num.specs.Rewrite.{getD-fill}
 use Rattle.passes.specs as Text
 use Rattle.passes.specs.Fold.{fold}
 use Rattle.passes.specs.Rows.{frame-small, placed, placed-ext}
-use Rattle.passes.specs.Plain.AutoGradient.{addLuma, adaptive, warm, fall, brightness, shade, at, shaded}
-use Rattle.passes.specs.Plain.Blur as Blur
-use Rattle.passes.specs.Private.{markLimited}
-use Rattle.passes.proofs.Collected.{collected-limited}
+use Rattle.passes.specs.Plain.AutoGradient.{addLuma, adaptive, warm, fall, brightness, shade, colourAt, shaded}
+use Rattle.passes.specs.Private.{at, markClamped}
+use Rattle.passes.proofs.Collected.{collected-clamped}
 use Rattle.passes.proofs.Offsets.{front}
 use Rattle.passes.proofs.auto_gradient.apply.Statement.{statement}
 use Rattle.passes.proofs.auto_gradient.apply.Tie as tie
@@ -51,12 +50,12 @@ module _ (c : tie.After-falls) where
   many : length kept ≡ width lines
   many = ap length begins ∙ c .falls .kept .0 ∙ part lines
 
-  keeps : (x : ℕ) → x < width lines → Blur.at kept x ≡ fall (width lines) (start lines .args .horizontal) (lines .before .adaptive .result) x
+  keeps : (x : ℕ) → x < width lines → at kept x ≡ fall (width lines) (start lines .args .horizontal) (lines .before .adaptive .result) x
   keeps x l =
       let line = take (width lines) (lines .line .result) in
       let horizontal = start lines .args .horizontal in
       let a = lines .before .adaptive .result in
-      ap (λ (z : List Float). Blur.at z x) (begins ∙ c .falls .ensures)
+      ap (λ (z : List Float). at z x) (begins ∙ c .falls .ensures)
       ∙ getD-fill (fall (length line) horizontal a) line x nan (omega (arith, part lines))
       ∙ ap (λ (n : ℕ). fall n horizontal a x) (part lines)
 
@@ -75,12 +74,12 @@ returns c =
     let a = s .args in
     let scene = lines f .before .adaptive .result in
     let same : scene ≡ adaptive (a .strength) (length (a .frame .now)) (fold addLuma c0·0 (a .frame .now)) = cc in
-    collected-limited (placed (a .width) (at (a .height) (fall (a .width) (a .horizontal) scene) (a .vertical) scene)) _ _
+    collected-clamped (placed (a .width) (colourAt (a .width) (a .height) (a .vertical) (a .horizontal) scene)) _ _
     (r .rows .ensures
     ∙ placed-ext (a .width) (a .height) (a .frame .now) _ _ (s .pre .area)
     (λ x y p l m.
     let t = warm (a .height) y (a .vertical) scene in
-    ap (λ (z : Float). markLimited (shade t (brightness t z) p)) (keeps f x l)))
+    ap (λ (z : Float). markClamped (shade t (brightness t z) p)) (keeps f x l)))
     (k .collect .ensures)
     ∙ ap (λ (z : Float). shaded (a .width) (a .height) (a .vertical) (a .horizontal) z (a .frame .now)) same
 

@@ -4,13 +4,12 @@ use native.Mathlib.Omega.{arith}
 use lib.ListN.{length}
 use Rattle.num.specs.Rewrite.{Rewritten, none, more, all}
 use Rattle.passes.specs.Plain.AutoGradient.{brightness, shade}
-use Rattle.passes.specs.Plain.Blur.{at}
-use Rattle.passes.specs.Private.{markLimited}
+use Rattle.passes.specs.Private.{at, markClamped}
 use Rattle.passes.proofs.auto_gradient.row.Statement.{statement}
 use Rattle.passes.proofs.auto_gradient.row.Tie as tie
 
 abbrev Inv-loop : tie.InvT-loop
-Inv-loop row₀ kept t x₀ row x = Rewritten x (λ k p. markLimited (shade t (brightness t (at kept k)) p)) row₀ row
+Inv-loop row₀ kept t x₀ row x = Rewritten x (λ k p. markClamped (shade t (brightness t (at kept k)) p)) row₀ row
 
 abbrev μ-loop : tie.MeasureT-loop
 μ-loop row₀ kept t x₀ row x = length row₀ - x

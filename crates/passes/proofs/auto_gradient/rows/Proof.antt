@@ -3,15 +3,14 @@ use Prim.Native.Nat.{_-_}
 use mathlib.Core.Path.{ap, sym, _∙_}
 use native.Mathlib.Omega.{arith}
 use lib.Ieee.{Float}
-use Rattle.passes.specs.Rows.{Rowed, no-rows, row-in, row-length, row-by, rows-all}
-use Rattle.passes.specs.Plain.AutoGradient.{at, brightness, shade}
-use Rattle.passes.specs.Plain.Blur as Blur
-use Rattle.passes.specs.Private.{markLimited}
+use Rattle.passes.proofs.RowLoops.{Rowed, no-rows, row-in, row-length, row-by, rows-all}
+use Rattle.passes.specs.Plain.AutoGradient.{brightness, shade}
+use Rattle.passes.specs.Private.{at, markClamped, gradientBy}
 use Rattle.passes.proofs.auto_gradient.rows.Statement.{statement}
 use Rattle.passes.proofs.auto_gradient.rows.Tie as tie
 
 abbrev Inv-loop : tie.InvT-loop
-Inv-loop fb₀ kept w h v a y₀ at₀ fb y k = Rowed w h y k (λ x y p. markLimited (at h (Blur.at kept) v a x y p)) fb₀ fb
+Inv-loop fb₀ kept w h v a y₀ at₀ fb y k = Rowed w h y k (λ x y p. markClamped (gradientBy h (at kept) v a x y p)) fb₀ fb
 
 abbrev μ-loop : tie.MeasureT-loop
 μ-loop fb₀ kept w h v a y₀ at₀ fb y k = h - y
@@ -41,7 +40,7 @@ loop-again c =
     let in-loop = r .before .before .before in
     let a = in-loop .before .before .before .before .args in
     row-by (in-loop .before .loop .inv) _ _ (in-loop .loop-test .taken)
-    (λ x p q. ap (λ (t : Float). markLimited (shade t (brightness t (Blur.at (a .kept .now) x)) p)) (r .before .warm .ensures)) (r .row .ensures)
+    (λ x p q. ap (λ (t : Float). markClamped (shade t (brightness t (at (a .kept .now) x)) p)) (r .before .warm .ensures)) (r .row .ensures)
 
 pub rows-spec : {M : Type 1} → statement M
 rows-spec =

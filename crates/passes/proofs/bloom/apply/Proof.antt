@@ -11,13 +11,13 @@ use borrow.Author.Needs.{needs}
 use Rattle.num.specs.F32.{whole}
 use Rattle.passes.specs as Text
 use Rattle.passes.specs.Rows.{frame-small, placed, placed-ext}
-use Rattle.passes.specs.Plain.Blur.{at, weights, down}
-use Rattle.passes.specs.Plain.Bloom.{composite, vertical, stored, sample, horizontal, horizontalBy}
+use Rattle.passes.specs.Plain.Blur.{weightSum, down}
+use Rattle.passes.specs.Plain.Bloom.{composite, vertical, sample, horizontal}
 use Rattle.passes.proofs.Offsets.{front, weight-at, blur-by, blur-same}
-use Rattle.passes.specs.Private.{markLimited}
+use Rattle.passes.specs.Private.{at, stored, horizontalBy, markClamped}
 use Rattle.passes.specs.declared.pixel.Rgb.{Rgb}
 use Rattle.passes.proofs.Planes.{same-composite, down-is}
-use Rattle.passes.proofs.Collected.{collected-limited}
+use Rattle.passes.proofs.Collected.{collected-clamped}
 use Rattle.passes.proofs.bloom.apply.Statement.{statement}
 use Rattle.passes.proofs.bloom.apply.Tie as tie
 
@@ -71,7 +71,7 @@ module _ (c : tie.After-horizontal) where
       ap (λ (z : List Float). down (a .height) (a .radius) (stored z (a .width) which) x y) shared
       ∙ down-is (a .width) (a .height) (a .radius) (horizontalBy sums (a .width) (a .radius) t (a .frame .now)) (take (words lines) (a .scratch .now)) (c .horizontal .last .0)
       (planes-long lines ∙ planes-sized lines) (c .horizontal .ensures) which x y i l
-      ∙ blur-same (weights (a .height) (a .radius)) (λ n. horizontalBy sums (a .width) (a .radius) t (a .frame .now) which x n)
+      ∙ blur-same (weightSum (a .height) (a .radius)) (λ n. horizontalBy sums (a .width) (a .radius) t (a .frame .now) which x n)
       (λ n. horizontal (a .width) (a .radius) t (a .frame .now) which x n) (a .height) (a .radius) y
       (λ n m. blur-by sums (λ k. sample t (a .frame .now) (a .width) which k n) (a .width) (a .radius) x (weight-at (line .result) (a .width) (a .radius) x (line .ensures) l))
 
@@ -102,11 +102,11 @@ returns c =
     let s = start (lines h) in
     let a = s .args in
     let glowing : ℕ → ℕ → ℕ → Rgb = λ x y. composite (a .strength) (vertical (a .height) (a .radius) (horizontal (a .width) (a .radius) (whole (a .threshold)) (a .frame .now)) x y) in (
-      collected-limited (placed (a .width) glowing) _ _
+      collected-clamped (placed (a .width) glowing) _ _
           (r .composite-rows .ensures
-          ∙ placed-ext (a .width) (a .height) (a .frame .now) (λ x y p. markLimited (composite (a .strength) (vertical (a .height) (a .radius) (stored (lent h) (a .width)) x y) p))
-          (λ x y p. markLimited (glowing x y p)) (s .pre .0 .area)
-          (λ x y p l m. ap markLimited (same-composite (a .strength) p (glows h 0 x y (omega arith) l) (glows h 1 x y (omega arith) l) (glows h 2 x y (omega arith) l))))
+          ∙ placed-ext (a .width) (a .height) (a .frame .now) (λ x y p. markClamped (composite (a .strength) (vertical (a .height) (a .radius) (stored (lent h) (a .width)) x y) p))
+          (λ x y p. markClamped (glowing x y p)) (s .pre .0 .area)
+          (λ x y p l m. ap markClamped (same-composite (a .strength) p (glows h 0 x y (omega arith) l) (glows h 1 x y (omega arith) l) (glows h 2 x y (omega arith) l))))
           (g .collect .ensures),
       drop-at (h .horizontal .last .0) (drop (words (lines h)) (a .scratch .now)) (words (lines h)) (written h),
     )

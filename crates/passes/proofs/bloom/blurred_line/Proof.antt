@@ -2,8 +2,8 @@
 use mathlib.Core.Path.{_∙_}
 use lib.ListN.{length, getD}
 use borrow.Author.Needs.{needs}
-use Rattle.passes.specs.Plain.Blur.{at}
 use Rattle.passes.specs.Plain.Bloom.{brightOf}
+use Rattle.passes.specs.Private.{at}
 use Rattle.passes.proofs.Offsets.{blur-fill}
 use Rattle.passes.proofs.bloom.blurred_line.Statement.{statement}
 use Rattle.passes.proofs.bloom.blurred_line.Tie as tie

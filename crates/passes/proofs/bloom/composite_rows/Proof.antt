@@ -8,31 +8,31 @@ use lib.ListN.{length, take, drop}
 use lib.Ieee.{Float, nan}
 use Rattle.passes.specs.Plain.Pixel.{rgb}
 use Rattle.num.specs.Rewrite.{fill, getD-fill}
-use Rattle.passes.specs.Rows.{Rowed, no-rows, row-in, row-length, row-by, rows-all}
-use Rattle.passes.specs.Plain.Blur.{at, cell, weighted, weights, ratio, down}
-use Rattle.passes.specs.Plain.Bloom.{composite, vertical, stored}
-use Rattle.passes.specs.Private.{markLimited}
+use Rattle.passes.specs.Plain.Blur.{weighted, weightSum, quotient, down}
+use Rattle.passes.specs.Plain.Bloom.{composite, vertical}
+use Rattle.passes.specs.Private.{at, cell, stored, markClamped}
+use Rattle.passes.proofs.RowLoops.{Rowed, no-rows, row-in, row-length, row-by, rows-all}
 use Rattle.passes.proofs.Planes.{same-composite}
 use Rattle.passes.proofs.bloom.composite_rows.Statement.{statement}
 use Rattle.passes.proofs.bloom.composite_rows.Tie as tie
 
 abbrev Inv-loop : tie.InvT-loop
 Inv-loop frame₀ planes sums₀ width height strength radius y₀ at₀ frame sums y k =
-    (length sums ≡ 3 * width) × Rowed width height y k (λ x y p. markLimited (composite strength (vertical height radius (stored planes width) x y) p)) frame₀ frame
+    (length sums ≡ 3 * width) × Rowed width height y k (λ x y p. markClamped (composite strength (vertical height radius (stored planes width) x y) p)) frame₀ frame
 
 abbrev μ-loop : tie.MeasureT-loop
 μ-loop frame₀ planes sums₀ width height strength radius y₀ at₀ frame sums y k = height - y
 
 -- a place of the sums, divided by the row's sum of weights, is a sample blurred along its column
 sum-down : (planes before sums : List Float) (w h radius y i j : ℕ) (q : Float) → length before ≡ 3 * w
-    → sums ≡ fill (λ x. weighted (λ k. cell planes (length before) x k) h radius y) before → q ≡ weights h radius y → i ≡ j → j < 3 * w
-    → ratio (at sums i) q ≡ down h radius (λ x y. cell planes (3 * w) x y) j y
+    → sums ≡ fill (λ x. weighted (λ k. cell planes (length before) x k) h radius y) before → q ≡ weightSum h radius y → i ≡ j → j < 3 * w
+    → quotient (at sums i) q ≡ down h radius (λ x y. cell planes (3 * w) x y) j y
 sum-down planes before sums w h radius y i j q e f g d l =
-    ap (λ (n : ℕ). ratio (at sums n) q) d
-    ∙ ap (λ (z : List Float). ratio (at z j) q) f
-    ∙ ap (λ (z : Float). ratio z q) (getD-fill (λ x. weighted (λ k. cell planes (length before) x k) h radius y) before j nan (omega arith))
-    ∙ ap (λ (n : ℕ). ratio (weighted (λ k. cell planes n j k) h radius y) q) e
-    ∙ ap (ratio (weighted (λ k. cell planes (3 * w) j k) h radius y)) g
+    ap (λ (n : ℕ). quotient (at sums n) q) d
+    ∙ ap (λ (z : List Float). quotient (at z j) q) f
+    ∙ ap (λ (z : Float). quotient z q) (getD-fill (λ x. weighted (λ k. cell planes (length before) x k) h radius y) before j nan (omega arith))
+    ∙ ap (λ (n : ℕ). quotient (weighted (λ k. cell planes n j k) h radius y) q) e
+    ∙ ap (quotient (weighted (λ k. cell planes (3 * w) j k) h radius y)) g
 
 loop-holds : tie.Need-loop-holds Inv-loop μ-loop
 loop-holds c = let p = c .before .before .before .pre in (p .0 .2, no-rows _ (p .1 .area))
@@ -70,11 +70,11 @@ loop-again c =
     let sums = s .accumulate-rows .last .0 in
     let g = q .weight-sum .result in
     let n : length part ≡ w = row-length (o .inv .1) t in
-    let down-at : (i j : ℕ) → i ≡ j → j < 3 * w → ratio (at sums i) g ≡ down (a .height) (a .radius) (λ x y. cell (a .planes .now) (3 * w) x y) j (o .y)
+    let down-at : (i j : ℕ) → i ≡ j → j < 3 * w → quotient (at sums i) g ≡ down (a .height) (a .radius) (λ x y. cell (a .planes .now) (3 * w) x y) j (o .y)
     = λ i j d l. sum-down (a .planes .now) (o .sums) sums w (a .height) (a .radius) (o .y) i j g (o .inv .0) (s .accumulate-rows .ensures) (q .weight-sum .ensures) d l in (
       s .accumulate-rows .kept .0 ∙ o .inv .0,
-      row-by (o .inv .1) (λ x p. markLimited (composite (a .strength) (rgb (ratio (at sums x) g) (ratio (at sums (length part + x)) g) (ratio (at sums (2 * length part + x)) g)) p)) _ t
-          (λ x p l. ap markLimited (same-composite (a .strength) p
+      row-by (o .inv .1) (λ x p. markClamped (composite (a .strength) (rgb (quotient (at sums x) g) (quotient (at sums (length part + x)) g) (quotient (at sums (2 * length part + x)) g)) p)) _ t
+          (λ x p l. ap markClamped (same-composite (a .strength) p
           (down-at x (0 * w + x) (omega (arith, zero-mul w)) (omega (arith, zero-mul w)))
           (down-at (length part + x) (1 * w + x) (omega (arith, one-mul w)) (omega (arith, one-mul w)))
           (down-at (2 * length part + x) (2 * w + x) (omega arith) (omega arith))))

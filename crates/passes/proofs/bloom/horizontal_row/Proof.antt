@@ -3,9 +3,9 @@ use Prim.Native.Nat.{_-_}
 use mathlib.Core.Path.{_≡_, _∙_}
 use native.Mathlib.Omega.{arith}
 use lib.ListN.{length, getD}
-use Rattle.passes.specs.Rows.{Rowed, no-rows, row-in, row-length, row-done, rows-all}
-use Rattle.passes.specs.Plain.Blur.{at, blurBy}
 use Rattle.passes.specs.Plain.Bloom.{brightOf}
+use Rattle.passes.specs.Private.{at, blurBy}
+use Rattle.passes.proofs.RowLoops.{Rowed, no-rows, row-in, row-length, row-done, rows-all}
 use Rattle.passes.proofs.bloom.horizontal_row.Statement.{statement}
 use Rattle.passes.proofs.bloom.horizontal_row.Tie as tie
 

@@ -5,7 +5,8 @@ use lib.ListN.{length}
 use borrow.Author.Needs.{needs}
 use Rattle.num.specs.F32.{_⊗_}
 use Rattle.passes.specs as Text
-use Rattle.passes.specs.Plain.Blur.{at, total}
+use Rattle.passes.specs.Plain.Blur.{total}
+use Rattle.passes.specs.Private.{at}
 use Rattle.passes.proofs.Offsets.{total-onward}
 use Rattle.passes.proofs.Sums.{Summed, summed-none, summed-on, summed-all}
 use Rattle.passes.proofs.blur.accumulate.Statement.{statement}

@@ -7,8 +7,8 @@ use borrow.Author.Needs.{needs}
 use Rattle.num.specs.F32.{_⊗_}
 use Rattle.num.specs.Rewrite.{every, fill}
 use Rattle.passes.specs as Text
-use Rattle.passes.specs.Plain.Blur.{cell, total, weighted}
-use Rattle.passes.specs.Private.{onward}
+use Rattle.passes.specs.Plain.Blur.{total, weighted}
+use Rattle.passes.specs.Private.{cell, onward}
 use Rattle.passes.proofs.Offsets.{total-onward}
 use Rattle.passes.proofs.Sums.{Summed, summed-none, summed-on, summed-all}
 use Rattle.passes.proofs.blur.accumulate_rows.Statement.{statement}

@@ -5,8 +5,8 @@ use native.Mathlib.Omega.{arith}
 use lib.ListN.{length}
 use lib.Ieee.{nan}
 use Rattle.num.specs.Rewrite.{Rewritten, none, more, all}
-use Rattle.passes.specs.Plain.Blur.{at}
 use Rattle.num.specs.F32.{_⊕_, _⊗_}
+use Rattle.passes.specs.Private.{at}
 use Rattle.passes.proofs.blur.add_four.Statement.{statement}
 use Rattle.passes.proofs.blur.add_four.Tie as tie
 

@@ -8,9 +8,9 @@ use lib.ListN.{length, take, drop}
 use lib.Ieee.{Float}
 use Rattle.num.specs.F32.{_⊗_}
 use Rattle.num.specs.Rewrite.{Rewritten, rewrite, every, length-rewrite}
-use Rattle.passes.specs.Plain.Blur.{at}
-use Rattle.passes.specs.Private.{onward}
-use Rattle.passes.proofs.Offsets.{fourfold-all, further, further-long}
+use Rattle.passes.specs.Private.{at, onward}
+use Rattle.passes.proofs.Offsets.{fourfold-all}
+use Rattle.passes.proofs.RowLoops.{further, further-long}
 use Rattle.passes.proofs.blur.add_four_offsets.Statement.{statement}
 use Rattle.passes.proofs.blur.add_four_offsets.Tie as tie
 
@@ -36,7 +36,7 @@ module _ (acc src : List Float) (radius k more less : ℕ) (e : length acc ≡ l
 
     done : (right : List Float) → right ≡ every (λ d. four (length src - more + d)) (take (length src - less - (length src - more)) (drop (length src - more) ys))
         → take (length src - more) ys ++ (right ++ drop (length src - less - (length src - more)) (drop (length src - more) ys)) ≡ every four acc
-    done right hr = fourfold-all acc src radius k e (length src - less) (ap (λ (x : ℕ). length src - x) el) (further (length src - less) right most (omega arith) (omega arith) hr)
+    done right hr = fourfold-all acc src radius k e (length src - less) (ap (λ (x : ℕ). length src - x) el) (further (length src - less) most (omega arith) right (omega arith) hr)
 
 add-edge-requires : tie.Need-add-edge-requires
 add-edge-requires c κs =

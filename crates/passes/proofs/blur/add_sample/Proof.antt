@@ -6,7 +6,7 @@ use lib.Ieee.{Float}
 use lib.ListN.{length}
 use borrow.Author.Needs.{needs}
 use Rattle.num.specs.F32.{_⊕_, _⊗_}
-use Rattle.passes.specs.Plain.Blur.{at}
+use Rattle.passes.specs.Private.{at}
 use Rattle.passes.proofs.Offsets.{inside-yes, inside-left, inside-right}
 use Rattle.passes.proofs.blur.add_sample.Statement.{statement}
 use Rattle.passes.proofs.blur.add_sample.Tie as tie

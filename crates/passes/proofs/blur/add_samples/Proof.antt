@@ -5,7 +5,7 @@ use lib.ListN.{length}
 use borrow.Author.Needs.{needs}
 use Rattle.num.specs.F32.{_⊗_}
 use Rattle.passes.specs.declared.blur.Four.{Four}
-use Rattle.passes.specs.Plain.Blur.{at}
+use Rattle.passes.specs.Private.{at}
 use Rattle.passes.proofs.Offsets.{onward-four}
 use Rattle.passes.proofs.blur.add_samples.Statement.{statement}
 use Rattle.passes.proofs.blur.add_samples.Tie as tie

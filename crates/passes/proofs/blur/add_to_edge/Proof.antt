@@ -8,9 +8,9 @@ use lib.ListN.{length, take, drop}
 use lib.Ieee.{Float}
 use Rattle.num.specs.F32.{_⊗_}
 use Rattle.num.specs.Rewrite.{Rewritten, rewrite, every}
-use Rattle.passes.specs.Plain.Blur.{at}
-use Rattle.passes.specs.Private.{onward}
-use Rattle.passes.proofs.Offsets.{fourfold-none, further, further-long}
+use Rattle.passes.specs.Private.{at, onward}
+use Rattle.passes.proofs.Offsets.{fourfold-none}
+use Rattle.passes.proofs.RowLoops.{further, further-long}
 use Rattle.passes.proofs.blur.add_to_edge.Statement.{statement}
 use Rattle.passes.proofs.blur.add_to_edge.Tie as tie
 
@@ -28,14 +28,14 @@ module _ (acc src : List Float) (radius k first to less : ℕ) (e : length acc �
 
   module _ (hl : left ≡ every (λ d. four (first + d)) (take (to - first) (drop first acc))) where
     begun : Rewritten to four acc edged
-    begun = further to left (fourfold-none acc src radius k e first ef (omega arith)) (omega arith) (omega arith) hl
+    begun = further to (fourfold-none acc src radius k e first ef (omega arith)) (omega arith) left (omega arith) hl
 
     fits : to + length (take (length src - less - to) (drop to edged)) + k + 3 ≤ length src + radius
     fits = middle-in (length src) radius k to less _ some et el (further-long (length src - less) begun (omega arith))
 
     done : (middle : List Float) → middle ≡ every (λ d. four (to + d)) (take (length src - less - to) (drop to edged))
         → take to edged ++ (middle ++ drop (length src - less - to) (drop to edged)) ≡ rewrite (length src - (k + 3 - radius)) four acc
-    done middle hm = further (length src - less) middle begun (omega arith) (omega arith) hm .done ∙ ap (λ (x : ℕ). rewrite (length src - x) four acc) el
+    done middle hm = further (length src - less) begun (omega arith) middle (omega arith) hm .done ∙ ap (λ (x : ℕ). rewrite (length src - x) four acc) el
 
 add-middle-requires : tie.Need-add-middle-requires
 add-middle-requires c κs =

@@ -3,7 +3,8 @@ use mathlib.Core.Path.{_∙_}
 use lib.ListN.{length}
 use borrow.Author.Needs.{needs}
 use Rattle.num.specs.Rewrite.{every-twice}
-use Rattle.passes.specs.Plain.Blur.{at, weighted, ratio}
+use Rattle.passes.specs.Plain.Blur.{weighted, quotient}
+use Rattle.passes.specs.Private.{at}
 use Rattle.passes.proofs.blur.blur_line.Statement.{statement}
 use Rattle.passes.proofs.blur.blur_line.Tie as tie
 
@@ -13,7 +14,7 @@ returns c =
     let s = a .before .before .before .before .before .args in
     let src = s .src .now in
     c .before .before .divide .ensures
-    ∙ every-twice (λ i v. weighted (at src) (length src) (s .radius) i) (λ i v. ratio v (at (s .w .now) i)) (s .out .now) (a .accumulate .last .0) (a .accumulate .ensures)
+    ∙ every-twice (λ i v. weighted (at src) (length src) (s .radius) i) (λ i v. quotient v (at (s .w .now) i)) (s .out .now) (a .accumulate .last .0) (a .accumulate .ensures)
 
 pub blur-line-spec : {M : Type 1} → statement M
 blur-line-spec = tie.close (tie.spec (λ c κs. search needs) (λ c κs. search needs) (λ c. search needs) returns)

@@ -3,13 +3,13 @@ use Prim.Native.Nat.{_-_, _≤_}
 use native.Mathlib.Omega.{arith}
 use lib.Ieee.{nan}
 use Rattle.num.specs.Rewrite.{Rewritten, none, more}
-use Rattle.passes.specs.Plain.Blur.{weights}
+use Rattle.passes.specs.Plain.Blur.{weightSum}
 use Rattle.passes.proofs.Offsets.{begun}
 use Rattle.passes.proofs.blur.weight_line.Statement.{statement}
 use Rattle.passes.proofs.blur.weight_line.Tie as tie
 
 abbrev Inv-loop : tie.InvT-loop
-Inv-loop n radius out₀ x₀ out x = (x ≤ n) × Rewritten x (λ k v. weights n radius k) out₀ out
+Inv-loop n radius out₀ x₀ out x = (x ≤ n) × Rewritten x (λ k v. weightSum n radius k) out₀ out
 
 abbrev μ-loop : tie.MeasureT-loop
 μ-loop n radius out₀ x₀ out x = n - x

@@ -3,12 +3,12 @@ use Prim.Native.Nat.{_-_}
 use native.Mathlib.Omega.{arith}
 use lib.ListN.{length}
 use Rattle.num.specs.Rewrite.{Rewritten, none, more, all}
-use Rattle.passes.specs.Plain.Crt.{at}
+use Rattle.passes.specs.Plain.Crt.{wordAt}
 use Rattle.passes.proofs.crt.row.Statement.{statement}
 use Rattle.passes.proofs.crt.row.Tie as tie
 
 abbrev Inv-loop : tie.InvT-loop
-Inv-loop row₀ y w h s dim bright ny x₀ row x = Rewritten x (λ k. at w h s k y) row₀ row
+Inv-loop row₀ y w h s dim bright ny x₀ row x = Rewritten x (λ k. wordAt w h s k y) row₀ row
 
 abbrev μ-loop : tie.MeasureT-loop
 μ-loop row₀ y w h s dim bright ny x₀ row x = length row₀ - x

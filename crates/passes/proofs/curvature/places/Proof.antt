@@ -7,7 +7,7 @@ use mathlib.Core.List.{List, [], _∷_}
 use lib.ListN.{length, getD, set, length-set}
 use borrow.Author.Needs.{needs}
 use Rattle.num.specs.Rewrite.{rewrite, Rewritten, none, more, all, length-rewrite, rewrite-past}
-use Rattle.passes.specs.Plain.Curvature.{at}
+use Rattle.passes.specs.Plain.Curvature.{wordAt}
 use Rattle.passes.proofs.curvature.places.Statement.{statement}
 use Rattle.passes.proofs.curvature.places.Tie as tie
 
@@ -35,7 +35,7 @@ one-more {x} {f} {copy} {before} {line} v t l e = record {
 }
 
 abbrev Inv-loop : tie.InvT-loop
-Inv-loop line₀ copy y w h amount ny x₀ line x = Placed x (λ k. at w h amount copy k y 0) copy line₀ line
+Inv-loop line₀ copy y w h amount ny x₀ line x = Placed x (λ k. wordAt w h amount copy k y 0) copy line₀ line
 
 abbrev μ-loop : tie.MeasureT-loop
 μ-loop line₀ copy y w h amount ny x₀ line x = length line₀ - x

@@ -8,14 +8,12 @@ use lib.Ieee.{Float}
 use borrow.Author.Needs.{needs}
 use Rattle.passes.specs as Text
 use Rattle.passes.specs.Rows.{frame-small, placed, placed-ext}
-use Rattle.passes.specs.Plain.Blur.{weights}
-use Rattle.passes.specs.Plain.Blur as Blur
-use Rattle.passes.specs.Plain.Ntsc.{at, sample}
+use Rattle.passes.specs.Plain.Ntsc.{colourAt, sample}
 use Rattle.passes.proofs.Offsets.{front, weight-at, blur-by}
-use Rattle.passes.specs.Private.{markLimited}
+use Rattle.passes.specs.Private.{at, ntscBy, markClamped}
 use Rattle.passes.specs.declared.pixel.Rgb.{Rgb}
 use Rattle.passes.proofs.Chroma.{same-pixel}
-use Rattle.passes.proofs.Collected.{collected-limited}
+use Rattle.passes.proofs.Collected.{collected-clamped}
 use Rattle.passes.proofs.ntsc.apply.Statement.{statement}
 use Rattle.passes.proofs.ntsc.apply.Tie as tie
 
@@ -46,15 +44,15 @@ returns c =
     let r = g .before .before .before .before .before .before .before in
     let k = r .before .before .before .before .before .before in
     let a = start k .args in
-    let sums : ℕ → Float = Blur.at (take (a .width) (k .weight-line .result)) in
-    let by-weights : ℕ → ℕ → ℕ → Rgb = at (weights (a .width) (a .bleed)) (a .width) (a .strength) (a .bleed) (a .frame .now) in
-    collected-limited (placed (a .width) by-weights) _ _
+    let sums : ℕ → Float = at (take (a .width) (k .weight-line .result)) in
+    let colours : ℕ → ℕ → ℕ → Rgb = colourAt (a .width) (a .strength) (a .bleed) (a .frame .now) in
+    collected-clamped (placed (a .width) colours) _ _
     (r .rows .ensures
-    ∙ placed-ext (a .width) (a .height) (a .frame .now) (λ x y p. markLimited (at sums (a .width) (a .strength) (a .bleed) (a .frame .now) x y p))
-    (λ x y p. markLimited (by-weights x y p)) (start k .pre .0 .area)
+    ∙ placed-ext (a .width) (a .height) (a .frame .now) (λ x y p. markClamped (ntscBy sums (a .width) (a .strength) (a .bleed) (a .frame .now) x y p))
+    (λ x y p. markClamped (colours x y p)) (start k .pre .0 .area)
     (λ x y p l m.
     let e = weight-at (k .weight-line .result) (a .width) (a .bleed) x (k .weight-line .ensures) l in
-    ap markLimited (same-pixel (a .strength) p
+    ap markClamped (same-pixel (a .strength) p
     (blur-by sums (λ i. sample 0 (a .frame .now) (a .width) i y) (a .width) (a .bleed) x e)
     (blur-by sums (λ i. sample 1 (a .frame .now) (a .width) i y) (a .width) (a .bleed) x e))))
     (g .collect .ensures)

@@ -3,14 +3,13 @@ use Prim.Native.Nat.{_-_}
 use native.Mathlib.Omega.{arith}
 use lib.ListN.{length}
 use Rattle.num.specs.Rewrite.{Rewritten, none, more, all}
-use Rattle.passes.specs.Plain.Blur.{at}
 use Rattle.passes.specs.Plain.Ntsc.{pixel}
-use Rattle.passes.specs.Private.{markLimited}
+use Rattle.passes.specs.Private.{at, markClamped}
 use Rattle.passes.proofs.ntsc.blend_row.Statement.{statement}
 use Rattle.passes.proofs.ntsc.blend_row.Tie as tie
 
 abbrev Inv-loop : tie.InvT-loop
-Inv-loop row₀ u v strength x₀ row x = Rewritten x (λ k p. markLimited (pixel strength (at u k) (at v k) p)) row₀ row
+Inv-loop row₀ u v strength x₀ row x = Rewritten x (λ k p. markClamped (pixel strength (at u k) (at v k) p)) row₀ row
 
 abbrev μ-loop : tie.MeasureT-loop
 μ-loop row₀ u v strength x₀ row x = length row₀ - x

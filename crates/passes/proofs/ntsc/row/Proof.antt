@@ -6,11 +6,10 @@ use lib.Ieee.{Float}
 use borrow.Author.Needs.{needs}
 use Rattle.passes.specs.Plain.Pixel.{unpack}
 use Rattle.num.specs.Rewrite.{rewrite-ext}
-use Rattle.passes.specs.Plain.Blur.{at}
 use Rattle.passes.specs.Plain.Ntsc.{chroma, pixel}
-use Rattle.passes.specs.Private.{markLimited}
+use Rattle.passes.specs.Private.{at, chromaBy, markClamped}
 use Rattle.passes.proofs.Offsets.{blur-of}
-use Rattle.passes.proofs.Chroma.{smear, same-pixel}
+use Rattle.passes.proofs.Chroma.{same-pixel}
 use Rattle.passes.proofs.ntsc.row.Statement.{statement}
 use Rattle.passes.proofs.ntsc.row.Tie as tie
 
@@ -27,9 +26,9 @@ returns c =
     let sums : ℕ → Float = at (a .w .now) in
     let part : ℕ → ℕ → Float = λ which i. chroma which (unpack (getD r i 0)) in
     b .blend-row .ensures
-    ∙ rewrite-ext (length r) (λ x p. markLimited (pixel (a .strength) (at (bu .blur-line .last .0) x) (at (bv .blur-line2 .last .0) x) p))
-    (λ x p. markLimited (pixel (a .strength) (smear sums 0 r (a .bleed) x) (smear sums 1 r (a .bleed) x) p)) r
-    (λ x v l. ap markLimited (same-pixel (a .strength) v
+    ∙ rewrite-ext (length r) (λ x p. markClamped (pixel (a .strength) (at (bu .blur-line .last .0) x) (at (bv .blur-line2 .last .0) x) p))
+    (λ x p. markClamped (pixel (a .strength) (chromaBy sums 0 r (a .bleed) x) (chromaBy sums 1 r (a .bleed) x) p)) r
+    (λ x v l. ap markClamped (same-pixel (a .strength) v
     (blur-of sums (part 0) (length r) (a .bleed) (a .line .now) (lu .chroma-line .last .0) (s .pre .1) (lu .chroma-line .ensures)
     (a .u .now) (bu .blur-line .last .0) (s .pre .2) (bu .blur-line .ensures) x l)
     (blur-of sums (part 1) (length r) (a .bleed) (lu .chroma-line .last .0) (lv .chroma-line2 .last .0) (lu .chroma-line .kept .0 ∙ s .pre .1) (lv .chroma-line2 .ensures)

@@ -3,17 +3,16 @@ use Prim.Native.Nat.{_+_, _-_}
 use mathlib.Core.Path.{_≡_, sym, ap, _∙_}
 use native.Mathlib.Omega.{arith}
 use lib.ListN.{length, take, drop}
-use Rattle.passes.specs.Rows.{Rowed, no-rows, row-in, row-length, row-by, rows-all}
-use Rattle.passes.specs.Plain.Blur as Blur
-use Rattle.passes.specs.Plain.Ntsc.{pixel, at}
-use Rattle.passes.specs.Private.{markLimited}
-use Rattle.passes.proofs.Chroma.{smear, smear-across, same-pixel}
+use Rattle.passes.specs.Plain.Ntsc.{pixel}
+use Rattle.passes.specs.Private.{at, chromaBy, ntscBy, markClamped}
+use Rattle.passes.proofs.RowLoops.{Rowed, no-rows, row-in, row-length, row-by, rows-all}
+use Rattle.passes.proofs.Chroma.{chroma-across, same-pixel}
 use Rattle.passes.proofs.ntsc.rows.Statement.{statement}
 use Rattle.passes.proofs.ntsc.rows.Tie as tie
 
 abbrev Inv-loop : tie.InvT-loop
 Inv-loop frame₀ line₀ u₀ v₀ w width height bleed strength y₀ at₀ frame line u v y k =
-    (length line ≡ width) × (length u ≡ width) × (length v ≡ width) × Rowed width height y k (λ x y p. markLimited (at (Blur.at w) width strength bleed frame₀ x y p)) frame₀ frame
+    (length line ≡ width) × (length u ≡ width) × (length v ≡ width) × Rowed width height y k (λ x y p. markClamped (ntscBy (at w) width strength bleed frame₀ x y p)) frame₀ frame
 
 abbrev μ-loop : tie.MeasureT-loop
 μ-loop frame₀ line₀ u₀ v₀ w width height bleed strength y₀ at₀ frame line u v y k = height - y
@@ -38,12 +37,12 @@ loop-again c =
     let a = i .before .before .before .before .before .before .before .args in
     let t = i .loop-test .taken in
     let part = take (o .at + a .width - o .at) (drop (o .at) (o .frame)) in
-    let sums = Blur.at (a .w .now) in (
+    let sums = at (a .w .now) in (
       r .row .kept .1 .0 ∙ l .0,
       r .row .kept .1 .1 .0 ∙ l .1,
       r .row .kept .1 .1 .1 .0 ∙ l .2,
-      row-by (l .3) (λ x p. markLimited (pixel (a .strength) (smear sums 0 part (a .bleed) x) (smear sums 1 part (a .bleed) x) p)) _ t
-          (λ x p q. ap markLimited (same-pixel (a .strength) p (smear-across (l .3) t sums 0 (a .bleed) x) (smear-across (l .3) t sums 1 (a .bleed) x)))
+      row-by (l .3) (λ x p. markClamped (pixel (a .strength) (chromaBy sums 0 part (a .bleed) x) (chromaBy sums 1 part (a .bleed) x) p)) _ t
+          (λ x p q. ap markClamped (same-pixel (a .strength) p (chroma-across (l .3) t sums 0 (a .bleed) x) (chroma-across (l .3) t sums 1 (a .bleed) x)))
           (r .row .ensures),
     )
 

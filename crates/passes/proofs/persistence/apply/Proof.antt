@@ -5,10 +5,13 @@ use native.Mathlib.Nat.{zero-add}
 use mathlib.Core.List.{List}
 use borrow.Author.Needs.{needs}
 use borrow.Author.Tests.{eq-eqb, ne-eqb}
-use lib.ListN.{length}
+use lib.ListN.{length, take, drop}
+use lib.Seq.{length-take-le, drop-at}
+use native.Mathlib.Omega.{arith}
 use lib.Ieee.{Float}
+use Rattle.num.specs.Held.{sameHeld}
 use Rattle.passes.specs as Text
-use Rattle.passes.specs.Flow.{sameHeld, flow}
+use Rattle.passes.specs.Flow.{flow}
 use Rattle.passes.specs.Painted.{Painted, painted}
 use Rattle.passes.specs.Plain.Persistence.{blend, refilled, shifted, persistence}
 use Rattle.passes.proofs.persistence.apply.Statement.{statement}
@@ -27,12 +30,25 @@ module _ (amount : Float) (k : ℕ) (frame : List ℕ) (held : ℕ) (past : List
   unfolding Text.Persistence.persistence sameHeld
   begins n p = rw (p, ne-eqb held (length frame) n)
 
+-- as many words of the scratch as the frame has
+front : (c : tie.After-follow-arg3) → let a = c .before .before .before .before .before .before .before .args in
+    length (take (length (a .frame .now)) (a .scratch .now)) ≡ length (a .frame .now)
+front c = length-take-le _ _ (omega arith)
+
+follow-requires : tie.Need-follow-requires
+follow-requires c κs =
+    let p = c .before .before .before .before .before .before .before .pre in
+    (p .0, p .1, front c, p .3)
+
 returns : tie.Need-returns
 returns c =
-    let after = c .before .before .before .before in
-    let if1 = after .before .before .before in
-    let a = if1 .before .before .before .before .args in
-    (follows (a .amount) (a .depth) (a .frame .now) (a .held) (a .history .now) (if1 .if1 .taken) (after .follow .ensures .0) (after .follow .ensures .1), refl)
+    let after = c .before .before .before .before .before .before in
+    let arg = after .before in
+    let if1 = arg .before .before .before in
+    let a = if1 .before .before .before .before .args in (
+      follows (a .amount) (a .depth) (a .frame .now) (a .held) (a .history .now) (if1 .if1 .taken) (after .follow .ensures .0) (after .follow .ensures .1),
+      drop-at (after .follow .last .1 .1 .0) (drop (length (a .frame .now)) (a .scratch .now)) (length (a .frame .now)) (after .follow .kept .1 .1 .0 ∙ front arg),
+    )
 
 returns-2 : tie.Need-returns-2
 returns-2 c =
@@ -43,5 +59,5 @@ returns-2 c =
 pub apply-spec : {M : Type 1} → statement M
 apply-spec =
     tie.close
-    (tie.spec (λ c. search needs) (λ c κs. search needs) (λ c. search needs) (λ c. search needs) returns (λ c κs. search needs) (λ c. search needs)
-    (λ c. search needs) (λ c. search needs) returns-2)
+    (tie.spec (λ c. search needs) (λ c. search needs) (λ c. sym (front c)) follow-requires (λ c. search needs) (λ c. search needs) (λ c. search needs) returns
+    (λ c κs. search needs) (λ c. search needs) (λ c. search needs) (λ c. search needs) returns-2)

@@ -2,7 +2,7 @@
 use mathlib.Core.Path.{ap, _∙_}
 use borrow.Author.Needs.{needs}
 use Rattle.num.specs.Rewrite.{rewrite-at}
-use Rattle.passes.specs.Private.{markLimited, blendedWord}
+use Rattle.passes.specs.Private.{markClamped, blendedWord}
 use Rattle.passes.proofs.Mixes.{whole}
 use Rattle.passes.proofs.persistence.blend_row.Statement.{statement}
 use Rattle.passes.proofs.persistence.blend_row.Tie as tie
@@ -17,7 +17,7 @@ returns c =
     let a = r .before .before .before .before .before .args in
     f .finish-row .ensures
     ∙ rewrite-at _ _ _ (a .row .now) 0
-    (λ x l. ap markLimited (whole _ (r .channel-line .ensures .value x l) (g .channel-line2 .ensures .value x l) (b .channel-line3 .ensures .value x l)))
+    (λ x l. ap markClamped (whole _ (r .channel-line .ensures .value x l) (g .channel-line2 .ensures .value x l) (b .channel-line3 .ensures .value x l)))
 
 pub blend-row-spec : {M : Type 1} → statement M
 blend-row-spec =

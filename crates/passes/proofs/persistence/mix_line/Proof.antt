@@ -7,7 +7,8 @@ use mathlib.Core.Path.{_≡_, sym, _∙_}
 use lib.ListN.{length, getD, take, drop}
 use lib.Ieee.{nan}
 use borrow.Author.Needs.{needs}
-use Rattle.passes.specs.Rows.{lent-length, row-ends}
+use Rattle.passes.specs.Rows.{row-ends}
+use Rattle.passes.proofs.RowLoops.{lent-length}
 use Rattle.passes.proofs.Mixes.{mixed, first, next}
 use Rattle.passes.proofs.Sums.{Summed, summed-none, summed-more, summed-all}
 use Rattle.passes.proofs.persistence.mix_line.Statement.{statement}

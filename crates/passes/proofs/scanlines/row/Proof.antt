@@ -8,7 +8,7 @@ use Rattle.num.specs.Const.{c1·0}
 use Rattle.num.specs.F32.{_⊖_}
 use Rattle.num.specs.Rewrite.{Rewritten, none, more, all, rewrite-same}
 use Rattle.passes.specs as Text
-use Rattle.passes.specs.Plain.Scanlines.{at, inRow}
+use Rattle.passes.specs.Plain.Scanlines.{wordAt, inRow}
 use Rattle.passes.specs.Plain.Pixel.{dim}
 use Rattle.passes.proofs.scanlines.row.Statement.{statement}
 use Rattle.passes.proofs.scanlines.row.Tie as tie
@@ -23,7 +23,7 @@ odd zero s p h = absurd (h refl)
 odd (suc n) s p h = refl
 
 abbrev Inv-loop : tie.InvT-loop
-Inv-loop row₀ y s factor x₀ row x = Rewritten x (λ k. at s k y) row₀ row
+Inv-loop row₀ y s factor x₀ row x = Rewritten x (λ k. wordAt s k y) row₀ row
 
 abbrev μ-loop : tie.MeasureT-loop
 μ-loop row₀ y s factor x₀ row x = length row₀ - x

@@ -4,8 +4,8 @@ use mathlib.Core.Path.{sym}
 use native.Mathlib.Omega.{arith}
 use Rattle.passes.specs as Text
 use Rattle.passes.specs.Plain.Pixel.{dim}
-use Rattle.passes.specs.Rows.{Rowed, no-rows, row-in, row-length, row-by, rows-all}
 use Rattle.passes.specs.Plain.Vignette.{factorAt}
+use Rattle.passes.proofs.RowLoops.{Rowed, no-rows, row-in, row-length, row-by, rows-all}
 use Rattle.passes.proofs.Quarter.{Table, quarter-in, quarter-frame, kept, filled, rest, line-in, line-length}
 use Rattle.passes.proofs.Quarter.{by-line}
 use Rattle.passes.proofs.vignette.apply.Statement.{statement}

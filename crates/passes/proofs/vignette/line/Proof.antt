@@ -4,7 +4,7 @@ use borrow.Author.Needs.{needs}
 use Rattle.num.specs.F32.{_⊕_}
 use Rattle.num.specs.Rewrite.{every-twice}
 use Rattle.num.specs.Root.{rootOf}
-use Rattle.passes.specs.Plain.Vignette.{square, factor}
+use Rattle.passes.specs.Plain.Vignette.{offsetSquared, factor}
 use Rattle.passes.proofs.vignette.line.Statement.{statement}
 use Rattle.passes.proofs.vignette.line.Tie as tie
 
@@ -14,9 +14,9 @@ returns c =
     let r = f .before .before .before .before in
     let s = r .before .before .before .before in
     let a = s .before .before .before .args in
-    let distances = r .roots .ensures ∙ every-twice (λ x v. square (a .width) x ⊕ a .yy) (λ x. rootOf) (a .line .now) (s .squares .last .0) (s .squares .ensures) in
+    let distances = r .roots .ensures ∙ every-twice (λ x v. offsetSquared (a .width) x ⊕ a .yy) (λ x. rootOf) (a .line .now) (s .squares .last .0) (s .squares .ensures) in
     f .factors .ensures
-    ∙ every-twice (λ x v. rootOf (square (a .width) x ⊕ a .yy)) (λ x. factor (a .strength)) (a .line .now) (r .roots .last .0) distances
+    ∙ every-twice (λ x v. rootOf (offsetSquared (a .width) x ⊕ a .yy)) (λ x. factor (a .strength)) (a .line .now) (r .roots .last .0) distances
 
 pub line-spec : {M : Type 1} → statement M
 line-spec = tie.close (tie.spec (λ c κs. search needs) (λ c κs. tt) (λ c κs. tt) (λ c. search needs) returns)

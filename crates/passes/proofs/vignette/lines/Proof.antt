@@ -1,8 +1,8 @@
 -- `passes::vignette::lines` meets its contract: line by line. Assumes nothing.
 use Prim.Native.Nat.{_-_}
 use native.Mathlib.Omega.{arith}
-use Rattle.passes.specs.Rows.{Rowed, no-rows, row-in, row-length, row-done, rows-all}
 use Rattle.passes.specs.Plain.Vignette.{factorAt}
+use Rattle.passes.proofs.RowLoops.{Rowed, no-rows, row-in, row-length, row-done, rows-all}
 use Rattle.passes.proofs.vignette.lines.Statement.{statement}
 use Rattle.passes.proofs.vignette.lines.Tie as tie
 
@@ -12,15 +12,6 @@ Inv-loop t₀ wide high w h s y₀ at₀ t y k = Rowed wide high y k (λ x r _. 
 abbrev μ-loop : tie.MeasureT-loop
 μ-loop t₀ wide high w h s y₀ at₀ t y k = high - y
 
-add-end : tie.Need-add-end Inv-loop μ-loop
-add-end c = omega (arith, row-in (c .before .loop .inv) (c .loop-test .taken))
-
-mul-line : tie.Need-mul-line Inv-loop μ-loop
-mul-line c = omega (arith, row-in (c .before .loop .inv) (c .loop-test .taken))
-
-part-line-end : tie.Need-part-line-end Inv-loop μ-loop
-part-line-end c = omega (arith, row-in (c .before .loop .inv) (c .loop-test .taken))
-
 line-requires : tie.Need-line-requires Inv-loop μ-loop
 line-requires c κs =
     let in-loop = c .before .before in
@@ -29,13 +20,12 @@ line-requires c κs =
 loop-again : tie.Need-loop-again Inv-loop μ-loop
 loop-again c =
     let in-loop = c .before .before .before .before .before in
-    row-done (in-loop .before .loop .inv) _ (in-loop .loop-test .taken) (rw (c .before .before .before .square .ensures) at (c .before .before .line .ensures))
-
-returns : tie.Need-returns Inv-loop μ-loop
-returns c = rows-all (c .before .loop .inv) (c .loop-test .left)
+    row-done (in-loop .before .loop .inv) _ (in-loop .loop-test .taken) (rw (c .before .before .before .offset-squared .ensures) at (c .before .before .line .ensures))
 
 pub lines-spec : {M : Type 1} → statement M
 lines-spec =
     tie.close
-    (tie.spec Inv-loop μ-loop (λ c. no-rows _ (c .before .pre .0 .area)) add-end mul-line (λ c. omega arith) (λ c. omega arith) part-line-end
-    (λ c κs. (omega arith, omega arith)) line-requires (λ c. omega arith) (λ c. omega arith) loop-again (λ c. omega arith) returns)
+    (tie.spec Inv-loop μ-loop (λ c. no-rows _ (c .before .pre .0 .area)) (λ c. omega (arith, row-in (c .before .loop .inv) (c .loop-test .taken)))
+    (λ c. omega (arith, row-in (c .before .loop .inv) (c .loop-test .taken))) (λ c. omega arith) (λ c. omega arith)
+    (λ c. omega (arith, row-in (c .before .loop .inv) (c .loop-test .taken))) (λ c κs. (omega arith, omega arith)) line-requires (λ c. omega arith)
+    (λ c. omega arith) loop-again (λ c. omega arith) (λ c. rows-all (c .before .loop .inv) (c .loop-test .left)))

@@ -1,34 +1,42 @@
 -- `probe::card::probe_card` meets its contract: a card is refused, or its station is written. Assumes nothing.
 use borrow.Author.Needs.{needs}
 use Prim.Native.Nat.{ℕ, _+_}
-use mathlib.Core.List.{List}
+use mathlib.Core.List.{List, []}
 use mathlib.Core.Path.{_≡_, ap, sym, _∙_}
-use Rattle.chain.specs.Card.{openOf}
-use Rattle.chain.specs.Write.{writeAnswer, writeInto}
-use Rattle.chain.specs.declared.station.Answer.{Answer}
-use Rattle.chain.specs.declared.station.Answer.the-variants.{Accepted, Refused}
-use Rattle.chain.specs.declared.reader.Opened.{Opened}
-use Rattle.chain.specs.declared.writer.Written.{Written}
-use Rattle.probe.specs.Cards.{holding, wrote, told, kept, answerOf, bytesOf}
+use Rattle.cards.specs.Answers.{Report, refusal, acceptance, Reply, reported, reportedWriting, opened, written, told, left}
+use Rattle.cards.specs.Card.{openOf}
+use Rattle.cards.specs.Write.{writeReply, writeInto}
+use Rattle.cards.specs.declared.station.Answer.the-variants.{Accepted, Refused}
+use Rattle.cards.specs.declared.reader.Opened.{Opened}
+use Rattle.cards.specs.declared.writer.Writing.{Writing}
+use Rattle.cards.specs.declared.writer.Written.{Written}
+use Rattle.probe.specs.Cards.{holding, andThen, answerOf, bytesOf}
 use Rattle.probe.proofs.card.probe_card.Statement.{statement}
 use Rattle.probe.proofs.card.probe_card.Tie as tie
 
-module _ (card : List ℕ) (held : ℕ) (out : List ℕ) (o : Opened) (e : o ≡ openOf card) where
+module _ (card : List ℕ) (held : ℕ) (out : List ℕ) (o : Opened) (e : opened o ≡ openOf card) where
+  -- what the opening answered, whatever comes after it
+  after : (a next : Report) (new : List ℕ) → reported (o .answer) ≡ a
+      → (told (andThen a next) ≡ told (andThen (openOf card .answer) next)) × (left a out new ≡ left (openOf card .answer) out new)
+  after a next new h =
+      let b : a ≡ openOf card .answer = sym h ∙ ap (λ (p : Reply). p .answer) e in
+      (ap (λ (x : Report). told (andThen x next)) b, ap (λ (x : Report). left x out new) b)
+
   no : (k : ℕ) → o .answer ≡ Refused k → (256 + k ≡ answerOf card held out) × (out ≡ bytesOf card held out)
-  no k a =
-      let b : Refused k ≡ openOf card .answer = sym a ∙ ap (λ (p : Opened). p .answer) e in (
-        ap (λ (x : Answer). told x (wrote (writeAnswer (holding (openOf card .station) held) out))) b,
-        ap (λ (x : Answer). kept x out (writeInto (holding (openOf card .station) held) out)) b,
+  no k a = after (refusal k) _ _ (ap reported a)
+
+  yes : (r : Written) (n : ℕ) (new : List ℕ) → o .answer ≡ Accepted → written r ≡ writeReply (holding (o .station) held) out
+      → new ≡ writeInto (holding (o .station) held) out → n ≡ told (reportedWriting (r .answer))
+      → (n ≡ answerOf card held out) × (new ≡ bytesOf card held out)
+  yes r n new a w b m =
+      let c = after (acceptance []) (writeReply (holding (openOf card .station) held) out .answer) (writeInto (holding (openOf card .station) held) out) (ap reported a) in (
+        m ∙ ap (λ (q : Reply). told (q .answer)) (w ∙ ap (λ (p : Reply). writeReply (holding (p .station) held) out) e) ∙ c .0,
+        b ∙ ap (λ (p : Reply). writeInto (holding (p .station) held) out) e ∙ c .1,
       )
 
-  yes : (r : Written) (n : ℕ) (new : List ℕ) → o .answer ≡ Accepted → r ≡ writeAnswer (holding (o .station) held) out → new ≡ writeInto (holding (o .station) held) out
-      → n ≡ wrote r → (n ≡ answerOf card held out) × (new ≡ bytesOf card held out)
-  yes r n new a w b m =
-      let c : Accepted ≡ openOf card .answer = sym a ∙ ap (λ (p : Opened). p .answer) e in (
-        m ∙ ap wrote (w ∙ ap (λ (p : Opened). writeAnswer (holding (p .station) held) out) e)
-            ∙ ap (λ (x : Answer). told x (wrote (writeAnswer (holding (openOf card .station) held) out))) c,
-        b ∙ ap (λ (p : Opened). writeInto (holding (p .station) held) out) e ∙ ap (λ (x : Answer). kept x out (writeInto (holding (openOf card .station) held) out)) c,
-      )
+-- what a writing answered, as one number
+number : {a b : Writing} → a ≡ b → told (reportedWriting b) ≡ told (reportedWriting a)
+number e = sym (ap (λ (x : Writing). told (reportedWriting x)) e)
 
 returns : tie.Need-returns
 returns c =
@@ -40,14 +48,14 @@ returns-2 c =
     let w = c .before .before .before .before .before in
     let t = w .before .before in
     let o = t .before .before .before in
-    yes _ _ _ (o .«open» .result) (o .«open» .ensures) (w .write .result) _ _ (t .enum-told .given .1) (w .write .ensures .0) (w .write .ensures .1) (sym (ap wrote (c .before .n .given .1)))
+    yes _ _ _ (o .«open» .result) (o .«open» .ensures) (w .write .result) _ _ (t .enum-told .given .1) (w .write .ensures .0) (w .write .ensures .1) (number (c .before .told .given .1))
 
 returns-3 : tie.Need-returns-3
 returns-3 c =
     let w = c .before .before .before .before .before in
     let t = w .before .before in
     let o = t .before .before .before in
-    yes _ _ _ (o .«open» .result) (o .«open» .ensures) (w .write .result) _ _ (t .enum-told .given .1) (w .write .ensures .0) (w .write .ensures .1) (sym (ap wrote (c .before .k .given .1)))
+    yes _ _ _ (o .«open» .result) (o .«open» .ensures) (w .write .result) _ _ (t .enum-told .given .1) (w .write .ensures .0) (w .write .ensures .1) (number (c .before .told2 .given .1))
 
 pub probe-card-spec : {M : Type 1} → statement M
 probe-card-spec =

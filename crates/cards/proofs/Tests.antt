@@ -1,0 +1,61 @@
+-- Tests in the code, one after another, decide as the definition's `&&`: `search tests` closes each return. Assumes nothing.
+use Prim.Native.Nat.{ℕ}
+use mathlib.Core.Path.{_≡_, refl, sym, _∙_}
+use mathlib.Core.Bool.{Bool, true, false, not, _&&_, _||_}
+pub use borrow.Author.Tests.{eq-eqb, ne-eqb, le-leb, lt-leb, lt-ltb, le-ltb, not-true, not-false}
+use mathlib.Core.List.{List}
+use lib.Dec.{T}
+use lib.Ieee.{Float}
+use Rattle.cards.specs.Normal.{settled, normalPass, normalChain}
+use Rattle.cards.specs.declared.station.Pass.{Pass}
+use Rattle.cards.specs.declared.station.Record.{Record}
+
+-- a call's answer stands for what it was asked
+pub asked : (low high x : Float) (b c : Bool) → b ≡ settled low high x → b ≡ c → settled low high x ≡ c
+asked low high x b c e h = sym e ∙ h
+
+pub asked-chain : (seen : List ℕ) (rs : List Record) (b c : Bool) → b ≡ normalChain seen rs → b ≡ c → normalChain seen rs ≡ c
+asked-chain seen rs b c e h = sym e ∙ h
+
+-- a test that holds, and one whose opposite holds
+pub held-true : (b : Bool) → T b → b ≡ true
+held-true true h = refl
+held-true false h = absurd h
+
+pub held-not : (b : Bool) → T (not b) → b ≡ false
+held-not true h = absurd h
+held-not false h = refl
+
+pub and-both : (a b : Bool) → a ≡ true → b ≡ true → (a && b) ≡ true
+and-both a b e h = rw (e, h) refl
+
+pub and-no : (a b : Bool) → a ≡ false → (a && b) ≡ false
+and-no a b e = rw e refl
+
+pub and-not : (a b : Bool) → a ≡ true → b ≡ false → (a && b) ≡ false
+and-not a b e h = rw (e, h) refl
+
+-- the last test is the answer
+pub last : (r a b : Bool) → a ≡ true → r ≡ b → r ≡ (a && b)
+last r a b e h = rw e h
+
+-- a test that failed is the answer
+pub failed : (a : Bool) → a ≡ false → false ≡ a
+failed a e = sym e
+
+pub failed-first : (r a b : Bool) → r ≡ a → r ≡ false → r ≡ (a && b)
+failed-first r a b e h = h ∙ sym (and-no a b (sym e ∙ h))
+
+-- the pass is what the arm found it to be
+pub pass-is : (p q : Pass) (b : Bool) → p ≡ q → b ≡ normalPass q → b ≡ normalPass p
+pass-is p q b e h = rw e h
+
+pub or-held : (a b : Bool) → a ≡ true → true ≡ (a || b)
+or-held a b e = rw e refl
+
+pub or-last : (r a b : Bool) → a ≡ false → r ≡ b → r ≡ (a || b)
+or-last r a b e h = rw e h
+
+pub ruleset tests = (asked, and-both, and-no, and-not, last, failed, failed-first, pass-is, lt-ltb, le-ltb, not-true, not-false)
+
+pub ruleset goods = (asked-chain, and-both, and-no, and-not, last, failed, or-held, or-last, le-leb, lt-leb, eq-eqb, ne-eqb, not-true, not-false)

@@ -1,0 +1,82 @@
+-- `cards::check::is_chain` meets its contract: a record that is not normalised, or of a kind seen before, decides; any other leaves it to those after it.
+-- Assumes nothing.
+use borrow.Author.Needs.{needs}
+use Prim.Native.Nat.{ℕ, suc, _-_, _<_}
+use mathlib.Core.Path.{_≡_, ap, sym, _∙_}
+use mathlib.Core.Bool.{Bool, true, not, _&&_}
+use mathlib.Core.List.{List, [], _∷_, map-append}
+use native.Mathlib.Omega.{arith}
+use borrow.Author.Tests.{not-true, not-false}
+use lib.ListN.{length, take, getD}
+use lib.Seq.{take-suc}
+use Rattle.cards.specs.Passes.{kindOf}
+use Rattle.cards.specs.Records.{kinds, among}
+use Rattle.cards.specs.Normal.{normalPass, normalChain}
+use Rattle.cards.specs.declared.station.Record.{Record}
+use Rattle.cards.specs.Scans.{past, Scanned, scanned-none, scanned-next, scanned-more, scanned-all}
+use Rattle.cards.proofs.check.is_chain.Statement.{statement}
+use Rattle.cards.proofs.check.is_chain.Tie as tie
+
+-- the records from i on, after those before it
+abbrev rule : List Record → ℕ → List Record → Bool
+rule all i rs = normalChain (kinds (take i all)) rs
+
+abbrev Inv-loop : tie.InvT-loop
+Inv-loop n records i₀ i = Scanned (rule records) records n i
+
+abbrev μ-loop : tie.MeasureT-loop
+μ-loop n records i₀ i = n - i
+
+-- one more record is looked at
+step : (all rest : List Record) (i : ℕ) → i < length all → let r = getD all i past in
+    rule all i (r ∷ rest) ≡ (normalPass (r .pass) && not (among (kindOf (r .pass)) (kinds (take i all))) && rule all (suc i) rest)
+unfolding normalChain
+step all rest i l =
+    let r = getD all i past in
+    ap (λ (ks : List ℕ). normalPass (r .pass) && not (among (kindOf (r .pass)) (kinds (take i all))) && normalChain ks rest)
+    (sym (ap kinds (take-suc all i past l) ∙ map-append (λ (r : Record). kindOf (r .pass)) (take i all) (r ∷ [])))
+
+returns : tie.Need-returns Inv-loop μ-loop
+returns c =
+    let l = c .before .before .before .before in
+    let s = l .before in
+    let long = s .good .0 .1 .0 .1 in
+    sym (scanned-next (l .loop .inv) long (s .pre) (omega arith) ∙ step (s .args .t1) _ (l .loop .i) (omega arith)
+    ∙ simp (sym (c .before .is-normal .ensures) ∙ not-true _ (c .if1 .taken)))
+
+-- the record of the turn is normalised, and `holds` says whether its kind was seen
+normal : (c : tie.After-holds Inv-loop μ-loop) → normalPass (getD (c .before .before .before .before .before .before .before .args .t1) (c .before .before .before .before .before .before .loop .i) past .pass) ≡ true
+normal c = sym (c .before .before .before .is-normal .ensures) ∙ not-false _ (c .before .before .if1 .left)
+
+seen : (c : tie.After-holds Inv-loop μ-loop) → let a = c .before .before .before .before .before .before .before .args in let i = c .before .before .before .before .before .before .loop .i in
+    among (kindOf (getD (a .t1) i past .pass)) (kinds (take i (a .t1))) ≡ c .holds .result
+seen c =
+    let a = c .before .before .before .before .before .before .before .args in
+    let i = c .before .before .before .before .before .before .loop .i in
+    ap (λ (k : ℕ). among k (kinds (take i (a .t1)))) (sym (c .before .kind-of .ensures)) ∙ sym (c .holds .ensures)
+
+returns-2 : tie.Need-returns-2 Inv-loop μ-loop
+returns-2 c =
+    let l = c .before .before .before .before .before .before .before in
+    let s = l .before in
+    sym (scanned-next (l .loop .inv) (s .good .0 .1 .0 .1) (s .pre) (omega arith) ∙ step (s .args .t1) _ (l .loop .i) (omega (arith, s .good .0 .1 .0 .1))
+    ∙ simp (normal (c .before), seen (c .before) ∙ c .if2 .taken))
+
+loop-again : tie.Need-loop-again Inv-loop μ-loop
+loop-again c =
+    let l = c .before .before .before .before .before .before .before in
+    let s = l .before in
+    scanned-more (l .loop .inv) (s .good .0 .1 .0 .1) (s .pre) (omega arith)
+    (step (s .args .t1) _ (l .loop .i) (omega (arith, s .good .0 .1 .0 .1)) ∙ simp (normal (c .before), seen (c .before) ∙ c .if2 .left))
+
+returns-3 : tie.Need-returns-3 Inv-loop μ-loop
+unfolding normalChain
+returns-3 c =
+    let s = c .before .before in
+    sym (scanned-all (c .before .loop .inv) (s .good .0 .1 .0 .1) (s .pre) (omega arith))
+
+pub is-chain-spec : {M : Type 1} → statement M
+is-chain-spec =
+    tie.close
+    (tie.spec Inv-loop μ-loop (λ c. scanned-none _ _ _) (λ c. omega arith) (λ c. omega arith) (λ c κs. search needs) returns (λ c κs. search needs)
+    (λ c κs. omega arith) returns-2 (λ c. omega arith) (λ c. omega arith) loop-again returns-3)

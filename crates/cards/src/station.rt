@@ -1,0 +1,141 @@
+// The station: its passes with their settings, and the records in chain order.
+ghost use mathlib.Core.Path.{_≡_};
+ghost use Prim.Native.Nat.{_<_, _≤_, min};
+ghost use Rattle.cards.specs.Alike.{chainOf};
+ghost use Rattle.cards.specs.Passes.{kindOf};
+ghost use Rattle.cards.specs.Records.{kinds, among};
+ghost use lib.ListN.{take};
+
+// A pass with its settings.
+pub enum Pass {
+    Ntsc {
+        strength: f32,
+        bleed: u8,
+    },
+    Bloom {
+        threshold: u8,
+        strength: f32,
+        radius: u8,
+    },
+    AutoGradient {
+        strength: f32,
+        vertical: f32,
+        horizontal: f32,
+    },
+    Persistence {
+        amount: f32,
+        depth: u8,
+    },
+    Lut {
+        preset: u8,
+        strength: f32,
+    },
+    Curvature {
+        amount: f32,
+    },
+    ColorCorrection {
+        brightness: f32,
+        contrast: f32,
+        saturation: f32,
+        gamma: f32,
+    },
+    Crt {
+        strength: f32,
+    },
+    Vignette {
+        strength: f32,
+    },
+    Scanlines {
+        strength: f32,
+    },
+}
+
+// A pass of the chain, with its switch.
+pub struct Record {
+    pub on: bool,
+    pub pass: Pass,
+}
+
+pub struct Station {
+    pub records: [Record; 10],
+    pub n: usize,
+    pub held: u32,
+}
+
+// What a call answers: accepted, or a refusal's number.
+pub enum Answer {
+    Accepted,
+    Refused(u8),
+}
+
+// The kind number of a pass.
+pub fn kind_of(pass: Pass) -> u8
+    ensures { λ r. ⌜ r ≡ kindOf pass ⌝ }
+{
+    match pass {
+        Pass::Ntsc {
+            strength: _,
+            bleed: _,
+        } => 1,
+        Pass::Bloom {
+            threshold: _,
+            strength: _,
+            radius: _,
+        } => 2,
+        Pass::AutoGradient {
+            strength: _,
+            vertical: _,
+            horizontal: _,
+        } => 3,
+        Pass::Persistence {
+            amount: _,
+            depth: _,
+        } => 4,
+        Pass::Lut {
+            preset: _,
+            strength: _,
+        } => 5,
+        Pass::Curvature { amount: _ } => 6,
+        Pass::ColorCorrection {
+            brightness: _,
+            contrast: _,
+            saturation: _,
+            gamma: _,
+        } => 7,
+        Pass::Crt { strength: _ } => 8,
+        Pass::Vignette { strength: _ } => 9,
+        Pass::Scanlines { strength: _ } => 10,
+    }
+}
+
+// Whether a pass of that kind is among the first n records.
+pub(crate) fn holds(records: [Record; 10], n: usize, kind: u8) -> bool
+    requires { ⌜ n ≤ 10 ⌝ }
+    ensures { λ r. ⌜ r ≡ among kind (kinds (take n records)) ⌝ }
+{
+    let mut i: usize = 0;
+    while i < n {
+        let r = records[i];
+        let pass = r.pass;
+        if kind_of(pass) == kind {
+            return true;
+        }
+        i += 1;
+    }
+    false
+}
+
+// No more than ten records are there, whatever n says.
+pub fn few(n: usize) -> usize
+    ensures { λ r. ⌜ (r ≡ min n 10) × (r ≤ 10) ⌝ }
+{
+    if n < 10 { n } else { 10 }
+}
+
+// Whether a pass of that kind is in the station's chain.
+pub fn has_kind(station: Station, kind: u8) -> bool
+    ensures { λ r. ⌜ r ≡ among kind (kinds (chainOf station)) ⌝ }
+{
+    let records = station.records;
+    holds(records, few(station.n), kind)
+}

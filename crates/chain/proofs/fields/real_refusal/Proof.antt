@@ -1,7 +1,0 @@
--- `chain::fields::real_refusal` meets its contract. Assumes nothing.
-use borrow.Author.Needs.{needs}
-use Rattle.chain.proofs.fields.real_refusal.Statement.{statement}
-use Rattle.chain.proofs.fields.real_refusal.Tie as tie
-
-pub real-refusal-spec : {M : Type 1} → statement M
-real-refusal-spec = tie.close (tie.spec (λ c. search needs) (λ c. search needs) (λ c. rw (c .enum-told .given .1)) (λ c. search needs))
