@@ -10,7 +10,8 @@ use native.Mathlib.Omega.{arith}
 use borrow.Author.Tests.{le-leb, lt-leb, lt-ltb, le-ltb}
 use lib.Dec.{leb, ltb}
 use lib.ListN.{length, getD}
-use Rattle.num.specs.Rewrite.{rewrite, rewrite-ext, rewrite-twice, length-rewrite, getD-rewrite}
+use Rattle.num.specs.Rewrite.{rewrite}
+use Rattle.num.specs.Laws.Rewrite.{rewrite-ext, rewrite-twice, length-rewrite, getD-rewrite}
 use Rattle.areas.specs.Areas.{sum, count, areaAt, holds, held, channel, total, words as wordsOf, totalsOf}
 use Rattle.areas.specs.Private.{inRow, Edge, Edges, Changed, over, rowTotal, rowWords, bandPart, Ready, Banded, Framed}
 use Rattle.areas.specs.declared.area.Area.{Area}

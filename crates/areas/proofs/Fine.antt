@@ -7,7 +7,8 @@ use native.Mathlib.Omega.{arith}
 use borrow.Author.Tests.{ltb-false}
 use lib.Dec.{ltb, eqb}
 use lib.ListN.{length}
-use Rattle.num.specs.Refusals.{badSide, neither, by, side-fine}
+use Rattle.num.specs.Refusals.{badSide}
+use Rattle.num.specs.Laws.Refusals.{neither, by, side-fine}
 use Rattle.areas.specs.Areas.{count, areaAt, badArea, badAreas, badList, refusalOf}
 use Rattle.areas.specs.Private.{Inside, Placed, Framed}
 use Rattle.areas.specs.declared.area.Area.{Area}

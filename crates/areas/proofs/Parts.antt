@@ -8,7 +8,7 @@ use mathlib.Core.List.{List}
 use native.Mathlib.Decide.{decLt}
 use native.Mathlib.Omega.{arith}
 use lib.ListN.{getD}
-use Rattle.num.specs.Rewrite.{rewrite-ext}
+use Rattle.num.specs.Laws.Rewrite.{rewrite-ext}
 use Rattle.areas.specs.Areas.{sum, count, areaAt, holds, held, channel}
 use Rattle.areas.specs.Private.{inRow, partOf, Spans, Line, marked, Reaches, unspread, wordAt, over, SummedTo, runningAt}
 use Rattle.areas.specs.Private.{between, Growing, sharedAt, sharedOut, Shareable, rowTotal, rowWords, bandPart, Ready, Banded}

@@ -5,7 +5,8 @@ use mathlib.Core.List.{List}
 use native.Mathlib.Omega.{arith}
 use lib.ListN.{length, getD, set, length-set}
 use lib.Seq.{getD-set-other}
-use Rattle.num.specs.Rewrite.{rewrite, Rewritten, none, more, getD-rewrite-rest}
+use Rattle.num.specs.Rewrite.{rewrite}
+use Rattle.num.specs.Laws.Rewrite.{Rewritten, none, more, getD-rewrite-rest}
 use Rattle.areas.specs.Areas.{count, areaAt}
 use Rattle.areas.specs.Private.{partOf, between, colourBetween, Growing, sharedAt, Shareable}
 use Rattle.areas.specs.declared.area.Part.{Part}

@@ -6,7 +6,8 @@ use native.Mathlib.Decide.{decLt}
 use native.Mathlib.Omega.{arith}
 use lib.ListN.{length, getD, set, length-set}
 use lib.Seq.{getD-set-same, getD-set-other, ext-getD}
-use Rattle.num.specs.Rewrite.{rewrite, length-rewrite, getD-rewrite, getD-rewrite-rest}
+use Rattle.num.specs.Rewrite.{rewrite}
+use Rattle.num.specs.Laws.Rewrite.{length-rewrite, getD-rewrite, getD-rewrite-rest}
 use Rattle.areas.specs.Private.{Changed, Line}
 
 -- ## From a place on

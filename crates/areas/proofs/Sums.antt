@@ -6,8 +6,8 @@ use native.Mathlib.Nat.{add-zero, add-suc, not-suc-le-zero}
 use native.Mathlib.Numerals.{add-one}
 use native.Mathlib.Decide.{decLt}
 use native.Mathlib.Omega.{arith}
-use Rattle.num.specs.Refusals.{false-true}
-pub use Rattle.num.specs.Sums.{sum-ext, sum-zero, sum-more, sum-bound}
+use Rattle.num.specs.Laws.Refusals.{false-true}
+pub use Rattle.num.specs.Laws.Sums.{sum-ext, sum-zero, sum-more, sum-bound}
 use Rattle.areas.specs.Areas.{sum, some}
 
 -- ## Sums

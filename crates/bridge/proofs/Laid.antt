@@ -8,7 +8,8 @@ use borrow.Author.Tests.{le-leb}
 use lib.Dec.{leb}
 use lib.ListN.{length, drop, replicate, length-append, length-replicate, replicate-append-replicate}
 use lib.Seq.{take-at, drop-at, drop-append-add, sets, sets-eq}
-use Rattle.cards.specs.Answers.{Report, refusal, acceptance, accepted-not, Reply, reportedWriting, written}
+use Rattle.cards.specs.Answers.{Report, refusal, acceptance, Reply, reportedWriting, written}
+use Rattle.cards.specs.Laws.Answers.{accepted-not}
 use Rattle.cards.specs.Normal.{goodStation}
 use Rattle.cards.specs.Write.{writeReply, writeInto}
 use Rattle.cards.specs.Written.{cardOf}

@@ -15,7 +15,7 @@ use Rattle.cards.specs.declared.station.Record.{Record}
 use Rattle.cards.specs.declared.station.Station.{Station}
 use Rattle.cards.proofs.Chain.{NormalPass, NormalChain}
 use Rattle.chain.proofs.Changed.{shapes}
-use Rattle.cards.specs.Good.{good}
+use Rattle.cards.specs.Laws.Good.{good}
 use Rattle.chain.proofs.PassCases.{blank, by-preset}
 use Rattle.chain.proofs.Sound.{Fixed, Fit, After, call-after, call-fit, opened-fit}
 use Rattle.cards.proofs.Theorems.{accepted-opens}

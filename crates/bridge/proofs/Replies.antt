@@ -8,7 +8,8 @@ use borrow.Author.Tests.{ne-eqb}
 use lib.Ieee.{Float}
 use lib.ListN.{length, drop}
 use Rattle.cards.specs.Alike.{chainOf}
-use Rattle.cards.specs.Answers.{reported, Reply, reply, refusal, accepted-not, reportedWriting, opened, written, told}
+use Rattle.cards.specs.Answers.{reported, Reply, reply, refusal, reportedWriting, opened, written, told}
+use Rattle.cards.specs.Laws.Answers.{accepted-not}
 use Rattle.chain.specs.Answers.{reportedFrame, reportedStep, cycled, free, Applies}
 use Rattle.chain.specs.Calls.{framed, frameReply}
 use Rattle.cards.specs.Card.{accepted, openOf}

@@ -14,7 +14,7 @@ use Rattle.cards.specs.Card.{accepted, openOf}
 use Rattle.cards.specs.Normal.{goodStation}
 use Rattle.cards.specs.Written.{cardOf}
 use Rattle.cards.specs.declared.station.Station.{Station}
-use Rattle.cards.specs.Good.{good, is-good}
+use Rattle.cards.specs.Laws.Good.{good, is-good}
 use Rattle.cards.proofs.Longest.{station-short}
 use Rattle.cards.proofs.Survives.{survives}
 use Rattle.bridge.specs.Claims.{Whole, RoundTrip}

@@ -11,7 +11,7 @@ use Rattle.num.specs.Const.{c0·0, c0·5, c0·95, c1·0, c4·0}
 use Rattle.cards.specs.Alike.{chainOf}
 use Rattle.cards.specs.Card.{stationOf}
 use Rattle.cards.specs.Claims.{OpensGood}
-use Rattle.cards.specs.Good.{is-good, nothing-fine, nothing-idle, is-headed}
+use Rattle.cards.specs.Laws.Good.{is-good, nothing-fine, nothing-idle, is-headed}
 use Rattle.cards.specs.Normal.{settled, counted, normalPass, normalChain, persists, goodStation}
 use Rattle.cards.specs.Passes.{kindOf}
 use Rattle.cards.specs.Records.{kinds}

@@ -8,7 +8,8 @@ use lib.ListN.{replicate, length, getD, drop, length-append, List·getD-append, 
 use lib.Seq.{drop-drop, getD-drop, getD-append-add}
 use native.Mathlib.Nat.{le-of-suc-le-suc, not-suc-le-zero}
 use lib.Pow.{shr-shr}
-use Rattle.num.specs.Rewrite.{rewrite, rewrite-ext}
+use Rattle.num.specs.Rewrite.{rewrite}
+use Rattle.num.specs.Laws.Rewrite.{rewrite-ext}
 use Rattle.cards.specs.Step.{took}
 use Rattle.cards.specs.Bits.{bitAt, valueAt, fieldAt}
 use Rattle.cards.specs.Written.{bits, valueOf, pack}

@@ -4,7 +4,8 @@ use mathlib.Core.Path.{_≡_, refl, ap, sym, subst, _∙_}
 use mathlib.Core.List.{List, []}
 use lib.ListN.{length}
 use lib.Seq.{take-append-seam}
-use Rattle.cards.specs.Answers.{accepted-not, Reply}
+use Rattle.cards.specs.Answers.{Reply}
+use Rattle.cards.specs.Laws.Answers.{accepted-not}
 use Rattle.cards.specs.Step.{Step, took, refused}
 use Rattle.cards.specs.Card.{stationOf, stationAt, openedOf, accepted, openOf}
 use Rattle.cards.specs.Alike.{Alike, chainOf}

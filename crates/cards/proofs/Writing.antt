@@ -11,7 +11,7 @@ use Rattle.cards.specs.Written.{bits, recordsBits, chainBits, pack, chai
 use Rattle.cards.specs.Sheet.{lay, blank}
 use Rattle.cards.specs.declared.station.Station.{Station}
 use Rattle.cards.specs.declared.writer.Sheet.{Sheet}
-use Rattle.cards.specs.Good.{good}
+use Rattle.cards.specs.Laws.Good.{good}
 use Rattle.cards.proofs.Packed.{length-bits, length-pack, pack-same, blank-bits}
 use Rattle.cards.proofs.Chain.{chain-bits}
 use Rattle.cards.proofs.Laying.{records-short}

@@ -2,8 +2,6 @@
 use Prim.Native.Nat.{ℕ, _+_}
 use mathlib.Core.Bool.{Bool, true, false}
 use mathlib.Core.List.{List, [], _∷_}
-use mathlib.Core.Path.{_≡_}
-use native.Mathlib.Omega.{arith}
 use Rattle.cards.specs.declared.reader.Opened.{Opened}
 use Rattle.cards.specs.declared.station.Answer.{Answer}
 use Rattle.cards.specs.declared.station.Answer.the-variants.{Accepted, Refused}
@@ -20,10 +18,6 @@ pub data Report : Type 0 where
 abbrev pub ok : Report → Bool
 ok (refusal k) = false
 ok (acceptance r) = true
-
--- acceptance is no refusal
-pub accepted-not : {A : Type 0} (ns : List ℕ) (k : ℕ) → Path Report (acceptance ns) (refusal k) → A
-accepted-not ns k e = let z : _≡_ {A = ℕ} 0 1 = cc in absurd (omega arith)
 
 -- an answer with the returned station
 pub record Reply : Type 0 where

@@ -1,4 +1,5 @@
--- The card: version, number of passes, records, padding. Opening it gives the station, or a refusal by its number, and the place where reading stops. Assumes nothing.
+-- The card: version, number of passes, records, padding. Opening it gives the station, or a refusal by its number, and the
+-- place where reading stops. Assumes nothing.
 use Prim.Native.Nat.{ℕ, zero, suc, _+_, _-_, _*_, _/_}
 use mathlib.Core.Bool.{Bool, false, not, _&&_}
 use mathlib.Core.List.{List, [], _∷_, _++_}

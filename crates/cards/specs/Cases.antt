@@ -43,8 +43,8 @@ unfolding openOf stationAt headerAt fieldAt valueAt refuseIf recordsAt endAt end
     ofBits lt eq limitOf plusZeroOf clampOf
 opened-hold = refl
 
--- Where reading stops. Accepted cards: the bit after the last field. Refused: no version (1), a torn strength (1), the version (2), n (3), a kind (4, 5), a strength
--- that is a NaN, a depth of 9, a brightness of 2.0 and preset 7 (6), a byte left over and a padding bit (7).
+-- Where reading stops. Accepted cards: the bit after the last field. Refused: no version (1), a torn strength (1), the version
+-- (2), n (3), a kind (4, 5), a strength that is a NaN, a depth of 9, a brightness of 2.0 and preset 7 (6), a byte left over and a padding bit (7).
 abbrev pub stoppedAt : List (ℕ × ℕ)
 stoppedAt =
     (stoppedOf (0x10 ∷ []), 8)

@@ -1,6 +1,6 @@
 -- What is answered: Answers. Readers: Step, Bits, Settings, Passes, Records, Card. Writers: Written, Sheet, Write. The
--- station test: Normal. What is proved of them: Alike, Typed, Claims. Laws that the crates above cite: Bools, Good,
--- Scans, Ten. Worked cases: Cases.
+-- station test: Normal. What is claimed of them: Alike, Typed, Claims. Worked cases: Cases. What is proved of them, for the crates
+-- above: Laws.
 pub mod Answers
 pub mod Step
 pub mod Bits
@@ -15,8 +15,5 @@ pub mod Write
 pub mod Alike
 pub mod Typed
 pub mod Claims
-pub mod Bools
-pub mod Good
-pub mod Scans
-pub mod Ten
 pub mod Cases
+pub mod Laws

@@ -11,7 +11,8 @@ use Rattle.num.specs.Held.{nothing, sameHeld, fineHeld}
 use Rattle.cards.specs.Passes.{kindOf}
 use Rattle.cards.specs.Records.{among}
 use Rattle.cards.specs.declared.station.Pass.{Pass}
-use Rattle.cards.specs.declared.station.Pass.the-variants.{Ntsc, Bloom, AutoGradient, Persistence, Lut, Curvature, ColorCorrection, Crt, Vignette, Scanlines}
+use Rattle.cards.specs.declared.station.Pass.the-variants.{Ntsc, Bloom, AutoGradient, Persistence, Lut}
+use Rattle.cards.specs.declared.station.Pass.the-variants.{Curvature, ColorCorrection, Crt, Vignette, Scanlines}
 use Rattle.cards.specs.declared.station.Record.{Record}
 use Rattle.cards.specs.declared.station.Station.{Station}
 

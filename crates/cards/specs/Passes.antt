@@ -8,7 +8,8 @@ use Rattle.cards.specs.Settings.{limitedAt, withinAt, gainAt, countAt, p
 use lib.Ieee.{neg}
 use Rattle.num.specs.Const.{c0·5, c0·95, c1·0}
 use Rattle.cards.specs.declared.station.Pass.{Pass}
-use Rattle.cards.specs.declared.station.Pass.the-variants.{Ntsc, Bloom, AutoGradient, Persistence, Lut, Curvature, ColorCorrection, Crt, Vignette, Scanlines}
+use Rattle.cards.specs.declared.station.Pass.the-variants.{Ntsc, Bloom, AutoGradient, Persistence, Lut}
+use Rattle.cards.specs.declared.station.Pass.the-variants.{Curvature, ColorCorrection, Crt, Vignette, Scanlines}
 
 unfoldable pub ntscAt : Reader Pass
 ntscAt = do

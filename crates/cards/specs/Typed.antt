@@ -4,7 +4,8 @@ use mathlib.Core.List.{List, [], _∷_}
 use lib.Dec.{T}
 use lib.Ieee.{binary32, fits}
 use Rattle.cards.specs.declared.station.Pass.{Pass}
-use Rattle.cards.specs.declared.station.Pass.the-variants.{Ntsc, Bloom, AutoGradient, Persistence, Lut, Curvature, ColorCorrection, Crt, Vignette, Scanlines}
+use Rattle.cards.specs.declared.station.Pass.the-variants.{Ntsc, Bloom, AutoGradient, Persistence, Lut}
+use Rattle.cards.specs.declared.station.Pass.the-variants.{Curvature, ColorCorrection, Crt, Vignette, Scanlines}
 use Rattle.cards.specs.declared.station.Record.{Record}
 
 -- where a count is limited anyway, its type is not asked

@@ -2,7 +2,8 @@
 ghost use mathlib.Core.Path.{_≡_};
 ghost use Prim.Native.Nat.{_+_, _*_, _^_, _<_, _≤_};
 ghost use Rattle.cards.specs.Step.{byteStep, passStep, recordStep, refusalOf, refused};
-ghost use Rattle.cards.specs.Passes.{ntscAt, bloomAt, autoGradientAt, persistenceAt, lutAt, curvatureAt, colorCorrectionAt, crtAt, vignetteAt, scanlinesAt, passAt};
+ghost use Rattle.cards.specs.Passes.{ntscAt, bloomAt, autoGradientAt, persistenceAt, lutAt};
+ghost use Rattle.cards.specs.Passes.{curvatureAt, colorCorrectionAt, crtAt, vignetteAt, scanlinesAt, passAt};
 ghost use Rattle.cards.specs.Records.{kinds, recordAt};
 ghost use Rattle.cards.specs.Answers.{opened};
 ghost use Rattle.cards.specs.Card.{unused, headerAt, endsAt, stationAt, reading, readingOf, openOf, stoppedOf};

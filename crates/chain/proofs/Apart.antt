@@ -15,7 +15,7 @@ use Rattle.num.specs.Held.{sized}
 use Rattle.passes.specs.Flow.{Flow, flow}
 use Rattle.passes.specs.Painted.{Painted, onto}
 use Rattle.passes.specs.Fold.{fold}
-use Rattle.passes.specs.Lengths.{persistence-length, history-length, persistence-held}
+use Rattle.passes.specs.Laws.Lengths.{persistence-length, history-length, persistence-held}
 use Rattle.passes.specs.Plain.Persistence.{persistence}
 use Rattle.chain.specs.Chain.{wash, overBy, turnBy, chain, depthOf, depth}
 use Rattle.cards.specs.Normal.{settled, normalPass, normalChain, persists}
@@ -23,8 +23,8 @@ use Rattle.cards.specs.Passes.{kindOf}
 use Rattle.cards.specs.Records.{kinds, among}
 use Rattle.cards.specs.declared.station.Pass.the-variants.{Persistence}
 use Rattle.cards.specs.declared.station.Record.{Record}
-use Rattle.cards.specs.Bools.{false-true, both, neither, or-second}
-use Rattle.cards.specs.Good.{Headed, headed, no-second}
+use Rattle.cards.specs.Laws.Bools.{false-true, both, neither, or-second}
+use Rattle.cards.specs.Laws.Good.{Headed, headed, no-second}
 use Rattle.chain.proofs.Kept.{Near, Fits, near-more, near-picture}
 use Rattle.chain.proofs.PassCases.{Plain, by-memory}
 

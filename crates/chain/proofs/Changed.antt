@@ -14,8 +14,8 @@ use Rattle.cards.specs.Passes.{kindOf}
 use Rattle.cards.specs.Records.{among}
 use Rattle.cards.specs.declared.station.Pass.{Pass}
 use Rattle.cards.specs.declared.station.Record.{Record}
-use Rattle.cards.specs.Bools.{both, or-second, or-map}
-use Rattle.cards.specs.Good.{Headed, headed, is-headed}
+use Rattle.cards.specs.Laws.Bools.{both, or-second, or-map}
+use Rattle.cards.specs.Laws.Good.{Headed, headed, is-headed}
 use Rattle.chain.proofs.PassCases.{blank, by-preset}
 
 -- ## A chain but for switches and preset

@@ -14,7 +14,7 @@ use Rattle.cards.specs.Normal.{goodStation, normalPass, normalChain}
 use Rattle.cards.specs.Passes.{kindOf}
 use Rattle.cards.specs.declared.station.Record.{Record}
 use Rattle.cards.specs.declared.station.Station.{Station}
-use Rattle.cards.specs.Good.{good, headed}
+use Rattle.cards.specs.Laws.Good.{good, headed}
 
 pub depth-more : (rs : List Record) (i : ℕ) (d : Record) → i < length rs → depth (take (suc i) rs) ≡ depth (take i rs) + depthOf (getD rs i d .pass)
 unfolding depth

@@ -16,10 +16,10 @@ use Rattle.cards.specs.Normal.{normalChain}
 use Rattle.cards.specs.Passes.{kindOf}
 use Rattle.cards.specs.Records.{kinds, among}
 use Rattle.cards.specs.declared.station.Record.{Record}
-use Rattle.cards.specs.Bools.{neither, false-true, or-first-only, or-second-only}
-use Rattle.cards.specs.Good.{headed, no-second}
+use Rattle.cards.specs.Laws.Bools.{neither, false-true, or-first-only, or-second-only}
+use Rattle.cards.specs.Laws.Good.{headed, no-second}
 use Rattle.chain.proofs.PassCases.{no-lut}
-use Rattle.cards.specs.Scans.{past}
+use Rattle.cards.specs.Laws.Scans.{past}
 
 -- a record that is there is read whatever stands past the end
 any-end : (rs : List Record) (i : ℕ) (d e : Record) → i < length rs → getD rs i d ≡ getD rs i e

@@ -7,7 +7,8 @@ use mathlib.Core.List.{List, [], _∷_, _++_}
 use borrow.Author.Tests.{ltb-false, not-false}
 use lib.Dec.{ltb}
 use lib.ListN.{length, take, drop}
-use Rattle.num.specs.Refusals.{badSide, unless, neither, by, side-fine}
+use Rattle.num.specs.Refusals.{badSide, unless}
+use Rattle.num.specs.Laws.Refusals.{neither, by, side-fine}
 use Rattle.passes.specs.Flow.{Flow, flow}
 use Rattle.passes.specs.Painted.{painted}
 use Rattle.cards.specs.Alike.{chainOf}

@@ -14,7 +14,7 @@ use Rattle.passes.specs as Text
 use Rattle.passes.specs.Flow.{Flow, flow}
 use Rattle.passes.specs.Painted.{Painted, painted, onto}
 use Rattle.passes.specs.Plain.Persistence.{persistence, blend, copies, refilled, shifted}
-use Rattle.passes.specs.PersistenceLaws.{blend-take, length-copies}
+use Rattle.passes.specs.Laws.Persistence.{blend-take, length-copies}
 
 -- ## Two histories
 

@@ -13,7 +13,7 @@ use Rattle.num.specs.Const.{c0·0, c0·95, c1·0}
 use Rattle.passes.specs as Text
 use Rattle.num.specs.Held.{Held, sized, sameHeld}
 use Rattle.passes.specs.Flow.{Flow, flow}
-use Rattle.passes.specs.Fold.{Folded}
+use Rattle.passes.specs.Laws.Fold.{Folded}
 use Rattle.passes.specs.Painted.{Painted, painted, onto}
 use Rattle.passes.specs.Plain.Persistence.{persistence, blend, shifted, refilled}
 use Rattle.passes.specs.Rows.{Frame}
@@ -23,7 +23,7 @@ use Rattle.cards.specs.Normal.{normalPass, settled, counted}
 use Rattle.cards.specs.declared.station.Pass.{Pass}
 use Rattle.cards.specs.declared.station.Pass.the-variants.{Ntsc, Bloom, Persistence}
 use Rattle.cards.specs.declared.station.Record.{Record}
-use Rattle.cards.specs.Bools.{both}
+use Rattle.cards.specs.Laws.Bools.{both}
 use Rattle.chain.proofs.PassCases.{by-memory, over-few}
 
 -- ## What a ready pass may rely on

@@ -1,6 +1,6 @@
 -- Laws that the proofs of several functions cite, and the theorems of specs/Claims.antt: Untouched; of specs/Agree.antt:
--- Agreement, Made; of specs/Numbers.antt: Numbers; of specs/StillPicture.antt: StillPicture. Runs that are computed:
--- Examples.
+-- Agreement, Made; of specs/Numbers.antt: Numbers; of specs/StillPicture.antt: StillPicture; of specs/Marked.antt:
+-- Marked. Runs that are computed: Examples.
 pub mod PassCases
 pub mod Replies
 pub mod Depths
@@ -16,5 +16,6 @@ pub mod Agreement
 pub mod Made
 pub mod StillPicture
 pub mod Examples
+pub mod Marked
 pub mod Untouched
 pub mod Numbers

@@ -16,14 +16,16 @@ use lib.Ieee.Scale.{finite}
 use Rattle.num.specs.Held.{sized}
 use Rattle.num.specs.Refusals.{unless}
 use Rattle.num.specs.Const.{c0·0, c0·5, c0·95, c1·0, c4·0}
-use Rattle.num.specs.Within.{within, size-le, within-plus, zero-value}
+use Rattle.num.specs.Ranges.{within}
+use Rattle.num.specs.Laws.Within.{size-le, within-plus, zero-value}
 use Rattle.passes.specs.Arith.{Arith, Agrees}
-use Rattle.passes.specs.Casts.{casts, casts-agree, checked, checked-agree}
+use Rattle.passes.specs.Casts.{casts, checked}
+use Rattle.passes.specs.Laws.Casts.{casts-agree, checked-agree}
 use Rattle.passes.specs.Flow.{Flow, flow}
 use Rattle.passes.specs.Fold.{fold}
-use Rattle.passes.specs.Inside as Inside
+use Rattle.passes.specs.Laws.Inside as Inside
 use Rattle.passes.specs.Painted.{Painted, painted}
-use Rattle.passes.specs.Range as Range
+use Rattle.passes.specs.Laws.Range as Range
 use Rattle.passes.specs.Rows.{Frame}
 use Rattle.cards.specs.Alike.{chainOf}
 use Rattle.cards.specs.Answers.{acceptance}
@@ -40,9 +42,9 @@ use Rattle.cards.specs.declared.station.Pass.the-variants.{Ntsc, Bloom, AutoGra
 use Rattle.cards.specs.declared.station.Pass.the-variants.{ColorCorrection, Crt, Vignette, Scanlines}
 use Rattle.cards.specs.declared.station.Record.{Record}
 use Rattle.cards.specs.declared.station.Station.{Station}
-use Rattle.cards.specs.Bools.{false-true, both}
+use Rattle.cards.specs.Laws.Bools.{false-true, both}
 use Rattle.chain.proofs.Goes.{goes}
-use Rattle.cards.specs.Good.{good, headed}
+use Rattle.cards.specs.Laws.Good.{good, headed}
 use Rattle.chain.proofs.PassCases.{over-frame, over-past}
 
 -- ## Settings

@@ -12,10 +12,11 @@ use lib.ListN.{length}
 use types.Run.{OneOf, miss}
 use Rattle.num.specs.Held.{sized}
 use Rattle.passes.specs.Flow.{Flow}
-use Rattle.passes.specs.Lengths.{ntsc-paints, bloom-paints, auto-gradient-paints, lut-paints, color-correction-paints}
-use Rattle.passes.specs.Lengths.{curvature-length, crt-length, vignette-length, scanlines-length}
-use Rattle.passes.specs.Lengths.{persistence-length, persistence-few, history-length}
-use Rattle.passes.specs.Painted.{Painted, painted, unclipped, Paints}
+use Rattle.passes.specs.Laws.Lengths.{ntsc-paints, bloom-paints, auto-gradient-paints, lut-paints, color-correction-paints}
+use Rattle.passes.specs.Laws.Lengths.{curvature-length, crt-length, vignette-length, scanlines-length}
+use Rattle.passes.specs.Laws.Lengths.{persistence-length, persistence-few, history-length}
+use Rattle.passes.specs.Painted.{Painted, painted, unclipped}
+use Rattle.passes.specs.Laws.Painted.{Paints}
 use Rattle.passes.specs.Plain.Ntsc.{ntsc}
 use Rattle.passes.specs.Plain.Bloom.{bloom}
 use Rattle.passes.specs.Plain.AutoGradient.{autoGradient}

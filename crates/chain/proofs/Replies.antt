@@ -6,7 +6,7 @@ use mathlib.Core.Bool.{Bool, true, false, not, cond}
 use mathlib.Core.List.{List, [], _∷_}
 use lib.ListN.{length, getD, set}
 use Rattle.num.specs.Held.{Held}
-use Rattle.num.specs.Refusals.{accepts}
+use Rattle.num.specs.Laws.Refusals.{accepts}
 use Rattle.cards.specs.Alike.{chainOf}
 use Rattle.cards.specs.Answers.{refusal, acceptance, Reply, reply, refusing}
 use Rattle.chain.specs.Calls.{hold, rechain, lacks, onFirst, heldAfter, turned, switched, switchReply, stepped, steppedPass, presetOf, presets, stepLut, stepReply}
@@ -17,8 +17,8 @@ use Rattle.cards.specs.declared.station.Pass.{Pass}
 use Rattle.cards.specs.declared.station.Record.{Record}
 use Rattle.cards.specs.declared.station.Station.{Station}
 use Rattle.chain.proofs.First.{first-set, one-preset}
-use Rattle.cards.specs.Good.{Good, good}
-use Rattle.cards.specs.Scans.{past}
+use Rattle.cards.specs.Laws.Good.{Good, good}
+use Rattle.cards.specs.Laws.Scans.{past}
 
 -- no refusal: the station is good, and the kind is there
 pub present : (s : Station) (kind : ℕ) → lacks s kind ≡ 0 → Good s × (among kind (kinds (chainOf s)) ≡ true)

@@ -10,11 +10,13 @@ use lib.Dec.{ltb, eqb}
 use lib.ListN.{length, take, drop, length-map}
 use lib.Seq.{length-take-le, length-front, take-at, drop-at}
 use Rattle.num.specs.Held.{Held, nothing, sized, sameHeld, fineHeld}
-use Rattle.num.specs.Refusals.{badSide, unless, area-fine}
+use Rattle.num.specs.Refusals.{badSide, unless}
+use Rattle.num.specs.Laws.Refusals.{area-fine}
 use Rattle.passes.specs.Flow.{Flow}
 use Rattle.chain.specs.Agree.{opened}
 use Rattle.cards.specs.Alike.{chainOf}
-use Rattle.cards.specs.Answers.{Report, refusal, accepted-not, Reply, reply, refusing}
+use Rattle.cards.specs.Answers.{Report, refusal, Reply, reply, refusing}
+use Rattle.cards.specs.Laws.Answers.{accepted-not}
 use Rattle.chain.specs.Calls.{hold, rechain, stops, lacks}
 use Rattle.chain.specs.Calls.{onFirst, turned, switched, stepped, stepLut, Framed, framed, refusingFrame}
 use Rattle.chain.specs.Calls.{incoming, shown, shownBy, frameReply, frameReplyBy}
@@ -27,9 +29,9 @@ use Rattle.cards.specs.declared.station.Pass.{Pass}
 use Rattle.cards.specs.declared.station.Record.{Record}
 use Rattle.cards.specs.declared.station.Station.{Station}
 use Rattle.chain.proofs.Apart.{Apart, quiet, keeping, apart, past-length, chain-held}
-use Rattle.cards.specs.Bools.{or-second, or-first-only, or-map}
+use Rattle.cards.specs.Laws.Bools.{or-second, or-first-only, or-map}
 use Rattle.chain.proofs.Changed.{shapes, depths, depth-is, Gentle, turned-gentle, stepped-gentle, first-shapes, first-normal, first-persists}
-use Rattle.cards.specs.Good.{Good, good, is-good, nothing-fine, nothing-idle}
+use Rattle.cards.specs.Laws.Good.{Good, good, is-good, nothing-fine, nothing-idle}
 use Rattle.chain.proofs.Goes.{goes}
 use Rattle.chain.proofs.Kept.{Fits}
 use Rattle.chain.proofs.PassCases.{blank}

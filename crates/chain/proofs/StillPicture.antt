@@ -21,11 +21,11 @@ use Rattle.num.specs.Held.{nothing, sized}
 use Rattle.num.specs.Refusals.{unless}
 use Rattle.passes.specs.Flow.{Flow}
 use Rattle.passes.specs.Fold.{fold}
-use Rattle.passes.specs.Lengths.{history-length}
+use Rattle.passes.specs.Laws.Lengths.{history-length}
 use Rattle.passes.specs.Plain.Persistence.{persistence, copies}
 use Rattle.passes.specs.Still.{Still}
-use Rattle.passes.specs.StillLaws.Pictures.{still-itself, persistence-still}
-use Rattle.passes.specs.StillLaws.Places.{Full}
+use Rattle.passes.specs.Laws.Still.Pictures.{still-itself, persistence-still}
+use Rattle.passes.specs.Laws.Still.Places.{Full}
 use Rattle.cards.specs.Answers.{acceptance, ok, reply, refusing}
 use Rattle.chain.specs.Agree.{SameCall, frames}
 use Rattle.cards.specs.Alike.{chainOf}
@@ -39,9 +39,9 @@ use Rattle.chain.specs.StillPicture.{alone, Repeats, AllStill, Stays-sti
 use Rattle.cards.specs.declared.station.Record.{Record}
 use Rattle.cards.specs.declared.station.Pass.the-variants.{Persistence}
 use Rattle.cards.specs.declared.station.Station.{Station}
-use Rattle.cards.specs.Bools.{false-true, both}
+use Rattle.cards.specs.Laws.Bools.{false-true, both}
 use Rattle.chain.proofs.Goes.{goes}
-use Rattle.cards.specs.Good.{good, headed}
+use Rattle.cards.specs.Laws.Good.{good, headed}
 use Rattle.chain.proofs.Made.{made-is}
 use Rattle.chain.proofs.Sound.{by-stop}
 

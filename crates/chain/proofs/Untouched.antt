@@ -12,9 +12,10 @@ use Rattle.passes.specs as Text
 use Rattle.passes.specs.Flow.{Flow, flow}
 use Rattle.passes.specs.Painted.{onto}
 use Rattle.passes.specs.Plain.Persistence.{persistence, blend, refilled, shifted}
-use Rattle.passes.specs.PersistenceLaws.{refilled-rest, shifted-rest}
+use Rattle.passes.specs.Laws.Persistence.{refilled-rest, shifted-rest}
 use Rattle.cards.specs.Alike.{chainOf}
-use Rattle.cards.specs.Answers.{Report, refusal, acceptance, accepted-not, reply, refusing}
+use Rattle.cards.specs.Answers.{Report, refusal, acceptance, reply, refusing}
+use Rattle.cards.specs.Laws.Answers.{accepted-not}
 use Rattle.chain.specs.Calls.{stops, lacks, Framed, framed}
 use Rattle.chain.specs.Calls.{refusingFrame, incoming, shown, shownBy, frameReplyBy}
 use Rattle.chain.specs.Chain.{chain, depth}
@@ -23,7 +24,7 @@ use Rattle.chain.specs.Machine.{Call, frame, reset, switch, step, State,
 use Rattle.cards.specs.declared.station.Record.{Record}
 use Rattle.cards.specs.declared.station.Station.{Station}
 use Rattle.chain.proofs.Apart.{repaint, Apart, quiet, keeping, apart, frame-length}
-use Rattle.cards.specs.Good.{good}
+use Rattle.cards.specs.Laws.Good.{good}
 use Rattle.chain.proofs.Goes.{goes}
 
 -- ## A refusal

@@ -77,7 +77,8 @@ unfoldable pub before : ℕ → State → List Call → ℕ
 before k s [] = 0
 before k s (c ∷ cs) = cond (eqb k 0 || ends s c) 0 (suc (before (cond (takes s c) (k - 1) k) (after c s) cs))
 
--- the first call where persistence is off or absent; else the call after the K-th frame that it takes, or the first reset or switching-off, if that comes sooner
+-- the first call where persistence is off or absent; else the call after the K-th frame that it takes, or the first reset or
+-- switching-off, if that comes sooner
 unfoldable pub point : State → List Call → ℕ
 point s cs = cond (on s) (before (depth (chainOf (s .station))) s cs) 0
 
@@ -104,21 +105,27 @@ Machines-agree =
 
 -- ## The same of calls that were made
 
--- A list of calls that were made, by what the functions promise alone: each got the station and the own buffer that the one before it left. `gave` is what they
--- gave, `t` what the last one left.
+-- A list of calls that were made, by what the functions promise alone: each got the station and the own buffer that the one
+-- before it left. `gave` is what they gave, `t` what the last one left.
 pub data Made : (s : State) → List Call → (gave : List Seen) → (t : State) → Type 0 where
   begin : {s : State} → Made s [] [] s
   -- `apply` with the first words of the own buffer, and scratches with any words
-  by-apply : {s t : State} {cs : List Call} {gave : List Seen} {w h history : ℕ} {words ints words′ past′ ints′ : List ℕ} {floats floats′ : List Float} (r : Applied)
+  by-apply : {s t : State} {cs : List Call} {gave : List Seen} {w h history : ℕ} {words ints words′ past′ ints′ : List ℕ}
+      {floats floats′ : List Float} (r : Applied)
       → Applies w h (s .station) words (take history (s .history)) floats ints r words′ past′ floats′ ints′
       → Made (record { station = r .station; history = past′ ++ drop history (s .history) }) cs gave t
-      → Made s (frame w h words history (length floats) (length ints) ∷ cs) (seen (reportedFrame (r .answer)) (r .station) (picture (reportedFrame (r .answer)) (h * w) words′) ∷ gave) t
+      → Made s (frame w h words history (length floats) (length ints) ∷ cs)
+      (seen (reportedFrame (r .answer)) (r .station) (picture (reportedFrame (r .answer)) (h * w) words′) ∷ gave) t
   by-reset : {s t : State} {cs : List Call} {gave : List Seen} (r : Called) → called r ≡ resetReply (s .station)
-      → Made (record { station = r .station; history = s .history }) cs gave t → Made s (reset ∷ cs) (still (s .history) (called r) .gives ∷ gave) t
-  by-set-enabled : {s t : State} {cs : List Call} {gave : List Seen} {kind : ℕ} {position : Bool} (r : Called) → called r ≡ switchReply kind position (s .station)
-      → Made (record { station = r .station; history = s .history }) cs gave t → Made s (switch kind position ∷ cs) (still (s .history) (called r) .gives ∷ gave) t
+      → Made (record { station = r .station; history = s .history }) cs gave t
+      → Made s (reset ∷ cs) (still (s .history) (called r) .gives ∷ gave) t
+  by-set-enabled : {s t : State} {cs : List Call} {gave : List Seen} {kind : ℕ} {position : Bool} (r : Called)
+      → called r ≡ switchReply kind position (s .station)
+      → Made (record { station = r .station; history = s .history }) cs gave t
+      → Made s (switch kind position ∷ cs) (still (s .history) (called r) .gives ∷ gave) t
   by-cycle-lut : {s t : State} {cs : List Call} {gave : List Seen} (r : Cycled) → cycled r ≡ stepReply (s .station)
-      → Made (record { station = r .station; history = s .history }) cs gave t → Made s (step ∷ cs) (still (s .history) (cycled r) .gives ∷ gave) t
+      → Made (record { station = r .station; history = s .history }) cs gave t
+      → Made s (step ∷ cs) (still (s .history) (cycled r) .gives ∷ gave) t
 
 -- what a list of calls gave and left is what the plain machine gives and leaves: each answer, returned station and picture, and the own buffer
 abbrev pub Plain : State → List Call → List Seen → State → Type 0

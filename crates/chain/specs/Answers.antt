@@ -1,6 +1,6 @@
 -- What the calls answer, in the words of document 01: for each case of an answer its number and values; `reported` is cards'. Assumes nothing.
 use Prim.Native.Nat.{ℕ, _*_}
-use mathlib.Core.Path.{_≡_, ap}
+use mathlib.Core.Path.{_≡_}
 use mathlib.Core.List.{List, [], _∷_}
 use lib.ListN.{length, drop}
 use lib.Ieee.{Float}
@@ -35,11 +35,6 @@ cycled r = reply (reportedStep (r .answer)) (r .station)
 abbrev pub free : FrameAnswer → ℕ → ℕ
 free (Frame.Shown clipped) k = k
 free (Frame.Refused e) k = 0
-
--- whatever the answer, the words past k stay
-pub stay : {A : Type 0} (a : FrameAnswer) (k : ℕ) (xs xs′ : List A) → drop (free a k) xs′ ≡ drop (free a k) xs → drop k xs′ ≡ drop k xs
-stay (Frame.Shown clipped) k xs xs′ e = e
-stay (Frame.Refused n) k xs xs′ e = ap (drop k) e
 
 -- What a frame call promises. It gets a station, a framebuffer, a history and two scratches, and leaves `r` and the buffers with a prime.
 pub record Applies (w h : ℕ) (s : Station) (words past : List ℕ) (floats : List Float) (ints : List ℕ)

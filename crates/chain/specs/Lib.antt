@@ -1,6 +1,6 @@
 -- The calls: Chain, Lent, Calls, Answers. The plain machine and demand 3: Machine, Agree. What is proved of single calls:
 -- Claims. What the number steps leave undefined is not met: Numbers. A still picture stays still: StillPicture. Worked
--- cases: Cases, Marked.
+-- cases: Cases, Marked. What is proved of answers, for the crates above: Laws.
 pub mod Claims
 pub mod Chain
 pub mod Lent
@@ -12,3 +12,4 @@ pub mod StillPicture
 pub mod Cases
 pub mod Marked
 pub mod Numbers
+pub mod Laws

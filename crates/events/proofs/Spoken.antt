@@ -5,9 +5,11 @@ use mathlib.Core.Bool.{Bool, true, false}
 use mathlib.Core.List.{List, [], _++_, append-nil}
 use lib.ListN.{length, take, drop, take-append-drop}
 use lib.Ieee.{Float}
-use Rattle.num.specs.Refusals.{unless, refuses, accepts}
+use Rattle.num.specs.Refusals.{unless}
+use Rattle.num.specs.Laws.Refusals.{refuses, accepts}
 use Rattle.cards.specs.Answers.{ok, Reply, reported, opened}
-use Rattle.chain.specs.Answers.{reportedFrame, reportedStep, stay, Applies}
+use Rattle.chain.specs.Answers.{reportedFrame, reportedStep, Applies}
+use Rattle.chain.specs.Laws.Answers.{stay}
 use Rattle.chain.specs.Calls.{Framed, framed, stops, frameReply}
 use Rattle.chain.specs.declared.pipeline.Applied.{Applied}
 use Rattle.chain.specs.declared.pipeline.Cycle.{Cycle}

@@ -27,4 +27,6 @@ eventLines (suc n) input s words past =
 unfoldable pub printed : List ℕ → List ℕ
 printed input =
     let o : Reply = openOf (cardIn (headBytes input)) in
-    openText (o .answer) ++ cond (ok (o .answer)) (eventLines (length input) (drop (headWanted input) input) (o .station) (replicate 1024 0) (replicate 8192 0)) []
+    openText (o .answer)
+    ++ cond (ok (o .answer))
+    (eventLines (length input) (drop (headWanted input) input) (o .station) (replicate 1024 0) (replicate 8192 0)) []

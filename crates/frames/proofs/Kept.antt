@@ -3,7 +3,8 @@ use Prim.Native.Nat.{ℕ, zero, suc, _*_}
 use mathlib.Core.Path.{_≡_, refl, sym, ap, _∙_}
 use mathlib.Core.List.{List}
 use lib.ListN.{length, drop}
-use Rattle.num.specs.Refusals.{unless, accepts}
+use Rattle.num.specs.Refusals.{unless}
+use Rattle.num.specs.Laws.Refusals.{accepts}
 use Rattle.raster.specs.Pixels.{unpacked}
 use Rattle.raster.specs.Ppm.{parseOf}
 use Rattle.raster.specs.declared.ppm.Parsed.{Parsed}

@@ -9,13 +9,15 @@ use borrow.Author.Tests.{ne-eqb}
 use lib.Ieee.{Float}
 use lib.ListN.{length, take, drop, length-drop, take-append-drop}
 use lib.Seq.{length-take-le, take-all}
-use Rattle.num.specs.Refusals.{unless, refuses, accepts}
+use Rattle.num.specs.Refusals.{unless}
+use Rattle.num.specs.Laws.Refusals.{refuses, accepts}
 use Rattle.raster.specs.Claims.{Whole}
 use Rattle.raster.specs.Ppm.{parseOf}
 use Rattle.raster.specs.Pixels.{unpacked, packedBytes}
 use Rattle.raster.specs.declared.ppm.Parsed.{Parsed}
 use Rattle.raster.specs.declared.ppm.Parsed.the-variants as Parsed
-use Rattle.chain.specs.Answers.{reportedFrame, stay, Applies}
+use Rattle.chain.specs.Answers.{reportedFrame, Applies}
+use Rattle.chain.specs.Laws.Answers.{stay}
 use Rattle.chain.specs.Calls.{Framed, stops, frameReply}
 use Rattle.chain.specs.declared.pipeline.Applied.{Applied}
 use Rattle.cards.specs.declared.station.Station.{Station}

@@ -9,8 +9,8 @@ use borrow.Author.Tests.{leb-true, ltb-false, lt-ltb, le-ltb, eq-eqb, ne-eqb}
 use lib.Dec.{leb, ltb}
 use lib.ListN.{length, getD, drop}
 use lib.Seq.{drop-cons}
-use Rattle.num.specs.Refusals.{neither}
-use Rattle.cards.specs.Bools.{both}
+use Rattle.num.specs.Laws.Refusals.{neither}
+use Rattle.cards.specs.Laws.Bools.{both}
 use Rattle.raster.specs.Ppm.{isDigit}
 use Rattle.frames.specs.Area.{withDigit, nextNumber, broken, stepOf, unread, readOf, isLarge, namedBy, namedOf}
 use Rattle.frames.specs.declared.area.Named.the-variants.{Area, Fault}

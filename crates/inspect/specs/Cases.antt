@@ -106,7 +106,8 @@ decoded text n = (decodeAnswer text (replicate n 7), decodeInto text (replicate 
 abbrev half : List ℕ
 half = 49 ∷ 49 ∷ 32 ∷ 97 ∷ 57 ∷ 70 ∷ 56 ∷ 48 ∷ 48 ∷ 32 ∷ 48 ∷ 48 ∷ 32 ∷ 48 ∷ 48 ∷ []
 
--- The card, with room to spare, with just enough, and with a byte too little; nothing; two spaces; a pair between spaces; a lone digit; `1g`; `1 1`; a pair and a lone digit.
+-- The card, with room to spare, with just enough, and with a byte too little; nothing; two spaces; a pair between spaces; a
+-- lone digit; `1g`; `1 1`; a pair and a lone digit.
 abbrev pub texts : List ((Decoded × List ℕ) × (Decoded × List ℕ))
 texts =
     (decoded half 8, (Bytes 6, 0x11 ∷ 0xa9 ∷ 0xf8 ∷ 0 ∷ 0 ∷ 0 ∷ 7 ∷ 7 ∷ []))

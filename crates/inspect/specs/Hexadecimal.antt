@@ -1,11 +1,9 @@
 -- Hexadecimal text: pairs of digits, each a byte, with spaces before, between and after the pairs. Assumes nothing.
-use Prim.Native.Nat.{ℕ, _+_, _-_, _*_, _≤_}
+use Prim.Native.Nat.{ℕ, _+_, _-_, _*_}
 use mathlib.Core.Bool.{Bool, true, false, cond, _&&_}
 use mathlib.Core.List.{List, [], _∷_, _++_}
 use lib.Dec.{eqb, leb, ltb}
-use lib.ListN.{length, drop, length-append, length-drop}
-use mathlib.Core.Path.{_≡_, refl}
-use native.Mathlib.Omega.{arith}
+use lib.ListN.{length, drop}
 use Rattle.inspect.specs.declared.hexadecimal.Decoded.{Decoded}
 use Rattle.inspect.specs.declared.hexadecimal.Decoded.the-variants.{Bytes, Text, Long}
 
@@ -62,18 +60,3 @@ decodeAnswer text out = answerFor (length out) (hexOf text)
 
 unfoldable pub decodeInto : (text out : List ℕ) → List ℕ
 decodeInto text out = leftIn out (hexOf text)
-
--- the bytes that are told lie within the buffer
-pub decoded-within : (text out : List ℕ) (n : ℕ) → decodeAnswer text out ≡ Bytes n → n ≤ length (decodeInto text out)
-unfolding decodeAnswer decodeInto
-decoded-within text out n e = go (hexOf text) e
-  where
-    fits : (bs : List ℕ) (b : Bool) → leb (length bs) (length out) ≡ b → cond b (Bytes (length bs)) Long ≡ Bytes n → n ≤ length (cond b (bs ++ drop (length bs) out) out)
-    fits bs true t e =
-        let same : length bs ≡ n = cc in
-        simp (length-append, length-drop) (omega arith)
-    fits bs false t e = absurd (let z : _≡_ {A = ℕ} 0 1 = cc in omega arith)
-
-    go : (h : Hex) → answerFor (length out) h ≡ Bytes n → n ≤ length (leftIn out h)
-    go (bytes bs) e = fits bs (leb (length bs) (length out)) refl e
-    go none e = absurd (let z : _≡_ {A = ℕ} 0 1 = cc in omega arith)

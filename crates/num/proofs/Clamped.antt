@@ -14,9 +14,10 @@ use Rattle.num.specs.Const.{c0·0, c1·0, c255·0}
 use Rattle.num.specs.F32.{_⊗_}
 use Rattle.num.specs.Steps.{clampOf, minOf, maxOf, cutOf}
 use Rattle.num.specs.Private.{under, floorOf}
-use Rattle.num.specs.Order.{asymmetric}
-use Rattle.num.specs.Within.{within, size-le, Signed, round-signed}
-use Rattle.num.specs.Bounds.{zero-within, between, clamp-within, clamp-nan, cut-within, one-is, times-within}
+use Rattle.num.specs.Laws.Order.{asymmetric}
+use Rattle.num.specs.Ranges.{within, Signed}
+use Rattle.num.specs.Laws.Within.{size-le, round-signed}
+use Rattle.num.specs.Laws.Bounds.{zero-within, between, clamp-within, clamp-nan, cut-within, one-is, times-within}
 
 -- ---- a value from +0 to 1023: its whole part is its cut
 

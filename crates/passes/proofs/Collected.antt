@@ -8,9 +8,11 @@ use lib.ListN.{length, getD}
 use lib.Ieee.{Float}
 use Rattle.num.specs.Const.{c0·0, c1·0, c255·0}
 use Rattle.num.specs.Steps.{clampOf, cutOf}
-use Rattle.num.specs.Sums.{sum, sum-ext}
-use Rattle.num.specs.Bounds.{unit-cut, clamp-cut, top-is}
-use Rattle.num.specs.Rewrite.{every, every-twice, rewrite-ext, getD-rewrite, length-rewrite}
+use Rattle.num.specs.Sums.{sum}
+use Rattle.num.specs.Laws.Sums.{sum-ext}
+use Rattle.num.specs.Laws.Bounds.{unit-cut, clamp-cut, top-is}
+use Rattle.num.specs.Rewrite.{every}
+use Rattle.num.specs.Laws.Rewrite.{every-twice, rewrite-ext, getD-rewrite, length-rewrite}
 use Rattle.passes.specs as Text
 use Rattle.passes.specs.Arith.{plain}
 use Rattle.passes.specs.Painted.{Painted, painted, converted, fromClamped, fromUnit}

@@ -7,11 +7,11 @@ use native.Mathlib.Omega.{arith}
 use lib.Ieee.{Float}
 use Rattle.num.specs.Const.{c0·01, c0·015, c0·5, c0·92, c0·94, c0·99, c1·0, c1·01, c1·05, c1·06, c1·25, c255·0}
 use Rattle.num.specs.F32.{_⊕_, _⊖_, _⊗_, _⊘_, whole}
-use Rattle.num.specs.Bounds.{unit-cut}
+use Rattle.num.specs.Laws.Bounds.{unit-cut}
 use Rattle.passes.specs as Text
 use Rattle.passes.specs.declared.pixel.Rgb.{Rgb}
 use Rattle.passes.specs.Arith.{plain}
-use Rattle.passes.specs.Painted.{clip-few}
+use Rattle.passes.specs.Laws.Painted.{clip-few}
 use Rattle.passes.specs.Plain.Pixel.{rgb, unit, clip}
 use Rattle.passes.specs.Plain.Lut.{transform, blend, colour}
 use Rattle.passes.specs.Private.{Greys, cutUnit, entry, markUnit, picked}

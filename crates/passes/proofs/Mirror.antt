@@ -15,8 +15,8 @@ use lib.Ieee.Fits.{down-pos}
 use lib.Ieee.Scale.{round-same}
 use Rattle.num.specs.Const.{c2·0}
 use Rattle.num.specs.F32.{_⊖_, _⊗_, _⊘_, whole}
-use Rattle.num.specs.Signs.{round-neg, square-neg, div-neg}
-use Rattle.num.specs.Values.{whole-value, half-value}
+use Rattle.num.specs.Laws.Signs.{round-neg, square-neg, div-neg}
+use Rattle.num.specs.Laws.Values.{whole-value, half-value}
 use Rattle.passes.specs as Text
 use Rattle.passes.specs.Plain.Vignette.{offsetSquared}
 

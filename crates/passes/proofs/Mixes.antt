@@ -6,7 +6,8 @@ use mathlib.Core.List.{List}
 use lib.ListN.{length, getD, take, drop}
 use lib.Ieee.{Float}
 use Rattle.num.specs.F32.{_⊕_, _⊗_}
-use Rattle.num.specs.Rewrite.{fill, rewrite-ext}
+use Rattle.num.specs.Rewrite.{fill}
+use Rattle.num.specs.Laws.Rewrite.{rewrite-ext}
 use Rattle.passes.specs as Text
 use Rattle.passes.specs.Plain.Persistence.{add, mix}
 use Rattle.passes.specs.Plain.Pixel.{channel, rgb, scaled, unpack}

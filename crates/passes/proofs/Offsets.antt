@@ -13,8 +13,9 @@ use lib.Seq.{length-take-le, getD-take, getD-drop}
 use lib.Ieee.{Float, nan}
 use borrow.Author.Tests.{le-leb, lt-leb, lt-ltb, le-ltb, ltb-true}
 use Rattle.num.specs.F32.{_⊕_, _⊗_}
-use Rattle.num.specs.Rewrite.{Rewritten, rewrite, every, fill, length-rewrite, rewrite-ext, rewrite-same, rewrite-stop}
-use Rattle.num.specs.Rewrite.{getD-rewrite, getD-fill, mid, part}
+use Rattle.num.specs.Rewrite.{rewrite, every, fill}
+use Rattle.num.specs.Laws.Rewrite.{Rewritten, length-rewrite, rewrite-ext, rewrite-same, rewrite-stop}
+use Rattle.num.specs.Laws.Rewrite.{getD-rewrite, getD-fill, mid, part}
 use Rattle.passes.specs as Text
 use Rattle.passes.specs.declared.blur.Four.{Four}
 use Rattle.passes.specs.Plain.Blur.{weight, distance, inside, taken, step, total, weightSum, weighted}

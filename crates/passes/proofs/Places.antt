@@ -7,7 +7,7 @@ use mathlib.Core.Path.{_≡_, refl, sym, ap, ap₂, _∙_}
 use mathlib.Core.List.{List, _++_, append-assoc}
 use lib.ListN.{length, take, drop, length-append, length-drop}
 use lib.Seq.{take-at, take-add, take-append-seam, drop-at, drop-drop, drop-append-add, length-take-le}
-use Rattle.passes.specs.Rows.{row-ends}
+use Rattle.passes.specs.Laws.Rows.{row-ends}
 use Rattle.passes.specs.Plain.Persistence.{copies}
 
 -- the invariant of a loop by places of n words: the first j of `depth` are written, and place j begins at word `at`

@@ -6,7 +6,8 @@ use native.Mathlib.Omega.{arith}
 use lib.ListN.{length, getD, take, drop}
 use lib.Ieee.{Float, nan}
 use Rattle.passes.specs.Plain.Pixel.{rgb}
-use Rattle.passes.specs.Rows.{sampled, getD-sampled, column, row, row-ends}
+use Rattle.passes.specs.Rows.{sampled}
+use Rattle.passes.specs.Laws.Rows.{getD-sampled, column, row, row-ends}
 use Rattle.passes.specs.Plain.Blur.{weightSum, down}
 use Rattle.passes.specs.Plain.Bloom.{composite, brightOf, sample}
 use Rattle.passes.specs.Private.{at, blurBy, horizontalBy, stored}

@@ -8,10 +8,11 @@ use lib.ListN.{length, getD, take, drop, length-drop, List·getD-append}
 use lib.Seq.{length-take-le, length-front, getD-take, getD-drop, drop-drop, drop-append-add}
 use lib.Ieee.{Float, nan}
 use Rattle.passes.specs.Plain.Pixel.{dim}
-use Rattle.num.specs.Rewrite.{length-rewrite}
+use Rattle.num.specs.Laws.Rewrite.{length-rewrite}
 use Rattle.num.specs.F32.{_⊕_}
 use Rattle.num.specs.Root.{rootOf}
-use Rattle.passes.specs.Rows.{Frame, sampled, getD-sampled, row-ends}
+use Rattle.passes.specs.Rows.{Frame, sampled}
+use Rattle.passes.specs.Laws.Rows.{getD-sampled, row-ends}
 use Rattle.passes.specs.Plain.Vignette.{factor, offsetSquared, factorAt}
 use Rattle.passes.proofs.Mirror.{nearer, square-nearer}
 

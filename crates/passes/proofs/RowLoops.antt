@@ -10,8 +10,10 @@ use native.Mathlib.Numerals.{add-one}
 use native.Mathlib.Omega.{arith}
 use lib.ListN.{length, getD, take, drop, length-drop}
 use lib.Seq.{length-take-le, getD-take, getD-drop}
-use Rattle.num.specs.Rewrite.{rewrite, every, getD-rewrite-rest, Rewritten, none, part, all}
-use Rattle.passes.specs.Rows.{column, row, row-ends, placed}
+use Rattle.num.specs.Rewrite.{rewrite, every}
+use Rattle.num.specs.Laws.Rewrite.{getD-rewrite-rest, Rewritten, none, part, all}
+use Rattle.passes.specs.Rows.{placed}
+use Rattle.passes.specs.Laws.Rows.{column, row, row-ends}
 
 module _ {A : Type 0} where
   -- the w words from k on as they are lent: how many they are, and which

@@ -6,7 +6,8 @@ use native.Mathlib.Numerals.{add-one}
 use native.Mathlib.Omega.{arith}
 use lib.ListN.{length}
 use lib.Ieee.{Float}
-use Rattle.num.specs.Rewrite.{every, fill, every-twice, length-rewrite, rewrite-ext}
+use Rattle.num.specs.Rewrite.{every, fill}
+use Rattle.num.specs.Laws.Rewrite.{every-twice, length-rewrite, rewrite-ext}
 
 -- the invariant of the loop: of `most` terms each place x has the sum of the first k, which is `sums x k`
 pub record Summed (sums : ℕ → ℕ → Float) (most k : ℕ) (before acc : List Float) : Type 0 where

@@ -5,7 +5,7 @@
 -- Why it is left open: to say what no pass does. `Agrees` asks an arithmetic to do as `plain` does wherever document 01
 -- defines a step and Rust's own does the same (docs/DIFFERENCES.md). Outside (a result that is not finite, a root of what
 -- is below 0 or -0, a cut of what is not in 0..1023, a channel above 255, a place that is not in the frame) it may give
--- anything, and still every picture is the same (Inside.antt). Definitions only.
+-- anything, and still every picture is the same (Laws/Inside.antt). Definitions only.
 use Prim.Native.Nat.{ℕ, _+_, _*_, _≤_, _<_}
 use mathlib.Core.Bool.{Bool, true, false}
 use mathlib.Core.List.{List}
@@ -19,7 +19,7 @@ use Rattle.num.specs.Const.{c0·0}
 use Rattle.num.specs.F32 as F32
 use Rattle.num.specs.Root.{rootOf}
 use Rattle.num.specs.Steps.{clampOf, minOf, maxOf, absOf, cutOf, roundOf}
-use Rattle.num.specs.Within.{within, Signed}
+use Rattle.num.specs.Ranges.{within, Signed}
 use Rattle.passes.specs.declared.pixel.Rgb as Declared
 
 -- F is a type of which nothing else is known: a pass has no other way to make a number, to test one, or to leave it

@@ -1,7 +1,7 @@
--- Laws of loops over a frame: Rows, Fold (num has Rewrite). What a pass may do with numbers: Arith. The passes, each
--- named as its Rust file, and what several share (Pixel, Painted, Position, Blur), over any arithmetic; Plain has them
--- at binary32. Those that only private functions cite: Private. No pass meets what document 01 leaves undefined: Range,
--- Inside, Casts.
+-- What a pass may do with numbers: Arith. The passes, each named as its Rust file, and what several share (Pixel, Painted, Position,
+-- Blur, Rows, Fold), over any arithmetic; Plain has them at binary32. What goes through the chain: Flow. A picture that stands still:
+-- Still. Two other arithmetics: Casts. Those that only private functions cite: Private. Worked cases: Cases. What is proved of them,
+-- for the crates above: Laws.
 pub mod Rows
 pub mod Fold
 pub mod Arith
@@ -21,12 +21,8 @@ pub mod Bloom
 pub mod Flow
 pub mod Persistence
 pub mod Plain
-pub mod PersistenceLaws
 pub mod Still
-pub mod StillLaws
-pub mod Private
-pub mod Lengths
-pub mod Cases
-pub mod Range
-pub mod Inside
 pub mod Casts
+pub mod Private
+pub mod Cases
+pub mod Laws

@@ -1,5 +1,5 @@
 -- A picture that stands still beside its frame: where the frame's channel is c, the picture's is c or one below c, so
--- 0 stays 0. Definitions only; StillLaws proves it of persistence over a history of equal frames.
+-- 0 stays 0. Definitions only; Laws/Still proves it of persistence over a history of equal frames.
 use Prim.Native.Nat.{ℕ, _+_, _/_, _%_, _<_}
 use mathlib.Core.Logic.{_⊎_}
 use mathlib.Core.Path.{_≡_}

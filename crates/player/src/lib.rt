@@ -1,5 +1,5 @@
-// Reads cards and events of program `station` from standard input, piece by piece, and plays them. How many bytes each takes, what it does and what is printed of
-// it is said by crate `events`.
+// Reads cards and events of program `station` from standard input, piece by piece, and plays them. How many bytes each takes,
+// what it does and what is printed of it is said by crate `events`.
 ghost use mathlib.Core.Path.{_≡_};
 ghost use Prim.Native.Nat.{_+_, _≤_};
 ghost use mathlib.Core.Bool.{cond};

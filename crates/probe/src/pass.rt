@@ -78,7 +78,8 @@ pub extern "C" fn probe_curvature(
     amount: f32,
 )
     requires { ⌜ Frame width height (now frame) ⌝ ∗ ⌜ length (now frame) ≤ length (now scratch) ⌝ }
-    ensures { λ _. ⌜ (now (frame .exit) ≡ Curvature.curvature width height amount (now (frame .entry))) × (drop (length (now (frame .entry))) (now (scratch .exit)) ≡ drop (length (now (frame .entry))) (now (scratch .entry))) ⌝ }
+    ensures { λ _. ⌜ (now (frame .exit) ≡ Curvature.curvature width height amount (now (frame .entry)))
+        × (drop (length (now (frame .entry))) (now (scratch .exit)) ≡ drop (length (now (frame .entry))) (now (scratch .entry))) ⌝ }
 {
     passes::curvature::apply(frame, scratch, width, height, amount);
 }

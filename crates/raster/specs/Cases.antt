@@ -6,7 +6,8 @@ use mathlib.Core.Path.{refl}
 use lib.ListN.{replicate}
 use Rattle.num.specs.Cases.{Hold}
 use Rattle.raster.specs.Step.{refuseIf}
-use Rattle.raster.specs.Ppm.{empty, otherFormat, headerCut, badHeader, otherMaximum, emptyPicture, tooLarge, pixelsCut, leftOver, gapOf, digitsOf, valueOf, gapIn, digitsIn, numberIn, headerIn, frameIn, parseOf}
+use Rattle.raster.specs.Ppm.{empty, otherFormat, headerCut, badHeader, otherMaximum, emptyPicture, tooLarge, pixelsCut, leftOver}
+use Rattle.raster.specs.Ppm.{gapOf, digitsOf, valueOf, gapIn, digitsIn, numberIn, headerIn, frameIn, parseOf}
 use Rattle.raster.specs.declared.ppm.Parsed.{Parsed}
 use Rattle.raster.specs.declared.ppm.Parsed.the-variants.{Frame, Refused}
 

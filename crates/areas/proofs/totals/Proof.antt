@@ -3,7 +3,7 @@ use mathlib.Core.Path.{sym, ap₂, _∙_}
 use mathlib.Core.List.{List}
 use borrow.Author.Needs.{needs}
 use Prim.Native.Nat.{ℕ}
-use Rattle.num.specs.Refusals.{refuses, accepts}
+use Rattle.num.specs.Laws.Refusals.{refuses, accepts}
 use Rattle.areas.specs.Areas.{judged}
 use Rattle.areas.specs.declared.Answer.the-variants.{Read}
 use Rattle.areas.proofs.Fine.{fine}

@@ -1,7 +1,7 @@
 -- `player::play` meets its contract: a line lies within its buffer. Assumes nothing.
 use mathlib.Core.Path.{sym}
 use lib.Seq.{length-take-le}
-use Rattle.events.specs.Buffers.{fits}
+use Rattle.events.specs.Laws.Buffers.{fits}
 use Rattle.player.proofs.play.Statement.{statement}
 use Rattle.player.proofs.play.Tie as tie
 

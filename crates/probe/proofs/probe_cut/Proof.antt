@@ -1,9 +1,10 @@
 -- `probe::probe_cut` meets its contract: word after word, up to the lesser length. Assumes nothing.
 use Prim.Native.Nat.{_-_, _≤_}
 use native.Mathlib.Omega.{arith}
-use Rattle.num.specs.Rewrite.{Rewritten, none, more}
+use Rattle.num.specs.Laws.Rewrite.{Rewritten, none, more}
 use Rattle.num.specs.Steps.{cutOf}
-use Rattle.probe.specs.Over.{at, over-all}
+use Rattle.probe.specs.Over.{at}
+use Rattle.probe.proofs.Over.{over-all}
 use Rattle.probe.proofs.probe_cut.Statement.{statement}
 use Rattle.probe.proofs.probe_cut.Tie as tie
 

@@ -1,11 +1,12 @@
 -- `probe::probe_cut_clamped` meets its contract: word after word, up to the lesser length. Assumes nothing.
 use Prim.Native.Nat.{ℕ, _-_, _≤_}
 use native.Mathlib.Omega.{arith}
-use Rattle.num.specs.Rewrite.{Rewritten, none, more}
+use Rattle.num.specs.Laws.Rewrite.{Rewritten, none, more}
 use lib.Ieee.{Float}
 use Rattle.num.specs.Const.{c0·0, c255·0}
 use Rattle.num.specs.Steps.{clampOf, cutOf}
-use Rattle.probe.specs.Over.{at, over-all}
+use Rattle.probe.specs.Over.{at}
+use Rattle.probe.proofs.Over.{over-all}
 use Rattle.probe.proofs.probe_cut_clamped.Statement.{statement}
 use Rattle.probe.proofs.probe_cut_clamped.Tie as tie
 

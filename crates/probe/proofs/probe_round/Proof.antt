@@ -2,9 +2,10 @@
 use Prim.Native.Nat.{_-_, _≤_}
 use native.Mathlib.Omega.{arith}
 use lib.Ieee.{nan}
-use Rattle.num.specs.Rewrite.{Rewritten, none, more}
+use Rattle.num.specs.Laws.Rewrite.{Rewritten, none, more}
 use Rattle.num.specs.Steps.{roundOf}
-use Rattle.probe.specs.Over.{at, over-all}
+use Rattle.probe.specs.Over.{at}
+use Rattle.probe.proofs.Over.{over-all}
 use Rattle.probe.proofs.probe_round.Statement.{statement}
 use Rattle.probe.proofs.probe_round.Tie as tie
 

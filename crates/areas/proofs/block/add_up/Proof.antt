@@ -3,7 +3,7 @@ use Prim.Native.Nat.{ℕ, _-_, _*_, _≤_}
 use mathlib.Core.Path.{_≡_, subst}
 use native.Mathlib.Nat.{add-mul}
 use native.Mathlib.Omega.{arith}
-use Rattle.num.specs.Refusals.{area-fine}
+use Rattle.num.specs.Laws.Refusals.{area-fine}
 use Rattle.areas.proofs.Blocks.{row-ends, row-small, band-small, Rowing, no-rows, readable, next-row, columns-are}
 use Rattle.areas.proofs.block.add_up.Statement.{statement}
 use Rattle.areas.proofs.block.add_up.Tie as tie

@@ -3,7 +3,8 @@ use mathlib.Core.Path.{_≡_, sym, _∙_}
 use mathlib.Core.Bool.{false}
 use native.Mathlib.Omega.{arith}
 use borrow.Author.Tests.{lt-ltb, le-ltb}
-use Rattle.num.specs.Refusals.{badSide, side-fine, area-fine}
+use Rattle.num.specs.Refusals.{badSide}
+use Rattle.num.specs.Laws.Refusals.{side-fine, area-fine}
 use Rattle.areas.specs.Areas.{refusalOf}
 use Rattle.areas.proofs.refusal.refusal.Statement.{statement}
 use Rattle.areas.proofs.refusal.refusal.Tie as tie

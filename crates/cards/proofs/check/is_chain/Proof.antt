@@ -13,7 +13,7 @@ use Rattle.cards.specs.Passes.{kindOf}
 use Rattle.cards.specs.Records.{kinds, among}
 use Rattle.cards.specs.Normal.{normalPass, normalChain}
 use Rattle.cards.specs.declared.station.Record.{Record}
-use Rattle.cards.specs.Scans.{past, Scanned, scanned-none, scanned-next, scanned-more, scanned-all}
+use Rattle.cards.specs.Laws.Scans.{past, Scanned, scanned-none, scanned-next, scanned-more, scanned-all}
 use Rattle.cards.proofs.check.is_chain.Statement.{statement}
 use Rattle.cards.proofs.check.is_chain.Tie as tie
 

@@ -6,7 +6,7 @@ use mathlib.Core.Logic.{⊎-elim}
 use native.Mathlib.Omega.{arith}
 use borrow.Author.Tests.{eq-eqb, ne-eqb}
 use Rattle.cards.specs.Normal.{persists}
-use Rattle.cards.specs.Scans.{Scanned, scanned-none, scanned-next, scanned-more, scanned-all}
+use Rattle.cards.specs.Laws.Scans.{Scanned, scanned-none, scanned-next, scanned-more, scanned-all}
 use Rattle.cards.proofs.check.remembers.Statement.{statement}
 use Rattle.cards.proofs.check.remembers.Tie as tie
 

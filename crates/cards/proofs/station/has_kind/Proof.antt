@@ -5,7 +5,7 @@ use mathlib.Core.Path.{_≡_, ap, _∙_}
 use lib.ListN.{length}
 use Rattle.cards.specs.Records.{kinds, among}
 use Rattle.cards.specs.declared.station.Record.{Record}
-use Rattle.cards.specs.Ten.{unmapped, of-ten}
+use Rattle.cards.specs.Laws.Ten.{unmapped, of-ten}
 use Rattle.cards.proofs.station.has_kind.Statement.{statement}
 use Rattle.cards.proofs.station.has_kind.Tie as tie
 

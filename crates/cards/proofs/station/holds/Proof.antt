@@ -5,7 +5,7 @@ use mathlib.Core.Path.{sym, _∙_}
 use native.Mathlib.Omega.{arith}
 use borrow.Author.Tests.{eq-eqb, ne-eqb}
 use Rattle.cards.specs.Records.{among, kinds}
-use Rattle.cards.specs.Scans.{Scanned, scanned-none, scanned-next, scanned-more, scanned-all}
+use Rattle.cards.specs.Laws.Scans.{Scanned, scanned-none, scanned-next, scanned-more, scanned-all}
 use Rattle.cards.proofs.station.holds.Statement.{statement}
 use Rattle.cards.proofs.station.holds.Tie as tie
 

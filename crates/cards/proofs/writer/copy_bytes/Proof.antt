@@ -4,7 +4,8 @@ use mathlib.Core.List.{List}
 use mathlib.Core.Path.{_≡_, _∙_, ap}
 use native.Mathlib.Omega.{arith}
 use lib.ListN.{drop}
-use Rattle.num.specs.Rewrite.{Rewritten, none, more, rewrite}
+use Rattle.num.specs.Rewrite.{rewrite}
+use Rattle.num.specs.Laws.Rewrite.{Rewritten, none, more}
 use Rattle.cards.specs.Written.{valueOf}
 use Rattle.cards.proofs.Packed.{pack-rewrite}
 use Rattle.cards.proofs.writer.copy_bytes.Statement.{statement}

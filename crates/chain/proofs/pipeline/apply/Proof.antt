@@ -4,10 +4,10 @@ use mathlib.Core.Path.{_≡_, refl, sym, _∙_}
 use lib.ListN.{length}
 use lib.Seq.{length-take-le, drop-at}
 use borrow.Author.Needs.{needs}
-use Rattle.num.specs.Refusals.{area-fine}
+use Rattle.num.specs.Laws.Refusals.{area-fine}
 use Rattle.chain.proofs.Depths.{readies}
 use Rattle.chain.proofs.Goes.{Goes, goes, refused-frame, shown-frame}
-use Rattle.cards.specs.Ten.{unmapped}
+use Rattle.cards.specs.Laws.Ten.{unmapped}
 use Rattle.chain.proofs.pipeline.apply.Statement.{statement}
 use Rattle.chain.proofs.pipeline.apply.Tie as tie
 

@@ -4,13 +4,13 @@ use native.Mathlib.Omega.{arith}
 use mathlib.Core.Path.{_≡_, sym, ap, _∙_}
 use borrow.Author.Needs.{needs}
 use lib.ListN.{length, getD}
-use Rattle.num.specs.Refusals.{refuses}
+use Rattle.num.specs.Laws.Refusals.{refuses}
 use Rattle.chain.specs.Calls.{lacks}
 use Rattle.cards.specs.Passes.{kindOf}
 use Rattle.chain.proofs.PassCases.{stepped-kind}
-use Rattle.cards.specs.Ten.{unmapped}
+use Rattle.cards.specs.Laws.Ten.{unmapped}
 use Rattle.chain.proofs.Replies.{present, cycles}
-use Rattle.cards.specs.Scans.{past}
+use Rattle.cards.specs.Laws.Scans.{past}
 use Rattle.chain.proofs.pipeline.cycle_lut.Statement.{statement}
 use Rattle.chain.proofs.pipeline.cycle_lut.Tie as tie
 

@@ -3,7 +3,7 @@ use borrow.Author.Needs.{needs}
 use mathlib.Core.Path.{_≡_, ap, _∙_}
 use lib.ListN.{length}
 use Rattle.chain.specs.Chain.{depth}
-use Rattle.cards.specs.Ten.{unmapped, of-ten}
+use Rattle.cards.specs.Laws.Ten.{unmapped, of-ten}
 use Rattle.chain.proofs.pipeline.places.Statement.{statement}
 use Rattle.chain.proofs.pipeline.places.Tie as tie
 

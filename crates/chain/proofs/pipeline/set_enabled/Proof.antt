@@ -4,9 +4,9 @@ use native.Mathlib.Omega.{arith}
 use mathlib.Core.Path.{_≡_, sym, _∙_}
 use borrow.Author.Needs.{needs}
 use lib.ListN.{length}
-use Rattle.num.specs.Refusals.{refuses}
+use Rattle.num.specs.Laws.Refusals.{refuses}
 use Rattle.chain.specs.Calls.{lacks}
-use Rattle.cards.specs.Ten.{unmapped}
+use Rattle.cards.specs.Laws.Ten.{unmapped}
 use Rattle.chain.proofs.Replies.{present, switches}
 use Rattle.chain.proofs.pipeline.set_enabled.Statement.{statement}
 use Rattle.chain.proofs.pipeline.set_enabled.Tie as tie

@@ -6,7 +6,7 @@ use native.Mathlib.Omega.{arith}
 use lib.ListN.{length, take}
 use Rattle.chain.specs.Chain.{depth}
 use Rattle.chain.proofs.Depths.{depth-more}
-use Rattle.cards.specs.Scans.{past}
+use Rattle.cards.specs.Laws.Scans.{past}
 use Rattle.chain.proofs.refusals.depth.Statement.{statement}
 use Rattle.chain.proofs.refusals.depth.Tie as tie
 

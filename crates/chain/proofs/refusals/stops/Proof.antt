@@ -6,10 +6,11 @@ use mathlib.Core.Path.{_≡_, sym, subst, _∙_}
 use mathlib.Core.Bool.{Bool, true, false}
 use borrow.Author.Tests.{lt-ltb, le-ltb, not-true, not-false}
 use lib.Dec.{ltb}
-use Rattle.num.specs.Refusals.{badSide, side-fine, area-fine}
+use Rattle.num.specs.Refusals.{badSide}
+use Rattle.num.specs.Laws.Refusals.{side-fine, area-fine}
 use Rattle.chain.specs.Calls.{stops}
 use Rattle.cards.specs.Normal.{goodStation}
-use Rattle.cards.specs.Good.{good}
+use Rattle.cards.specs.Laws.Good.{good}
 use Rattle.chain.proofs.refusals.stops.Statement.{statement}
 use Rattle.chain.proofs.refusals.stops.Tie as tie
 

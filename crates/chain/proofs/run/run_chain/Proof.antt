@@ -4,14 +4,15 @@ use mathlib.Core.Path.{_≡_, refl, sym, ap, subst, _∙_}
 use native.Mathlib.Omega.{arith}
 use lib.ListN.{length, take}
 use Rattle.passes.specs.Flow.{Flow, flow}
-use Rattle.passes.specs.Fold.{none, more}
+use Rattle.passes.specs.Laws.Fold.{none, more}
 use Rattle.passes.specs.Painted.{painted}
-use Rattle.passes.specs.Rows.{Frame, frame-small}
+use Rattle.passes.specs.Rows.{Frame}
+use Rattle.passes.specs.Laws.Rows.{frame-small}
 use Rattle.chain.specs.Chain.{turn, chain}
 use Rattle.chain.specs.Lent.{Ready}
 use Rattle.cards.specs.declared.station.Record.{Record}
 use Rattle.chain.proofs.Lending.{Running, relent, adding, turn-adds, turn-few}
-use Rattle.cards.specs.Scans.{past}
+use Rattle.cards.specs.Laws.Scans.{past}
 use Rattle.chain.proofs.run.run_chain.Statement.{statement}
 use Rattle.chain.proofs.run.run_chain.Tie as tie
 

@@ -6,7 +6,7 @@ use native.Mathlib.Omega.{arith}
 use borrow.Author.Needs.{needs}
 use Rattle.passes.specs.Flow.{flow}
 use Rattle.passes.specs.Painted.{Painted, painted}
-use Rattle.passes.specs.Rows.{frame-small}
+use Rattle.passes.specs.Laws.Rows.{frame-small}
 use Rattle.chain.specs.Chain.{overBy}
 use Rattle.chain.proofs.Lending.{bleed-fine, radius-fine, depth-fine, washed, persisted}
 use Rattle.chain.proofs.run.run_pass.Statement.{statement}

@@ -5,7 +5,7 @@ use mathlib.Core.List.{List}
 use Prim.Native.Nat.{ℕ, _≤_}
 use lib.ListN.{length}
 use lib.Seq.{length-take-le}
-use Rattle.inspect.specs.Hexadecimal.{decoded-within}
+use Rattle.inspect.specs.Laws.Hexadecimal.{decoded-within}
 use Rattle.cli.proofs.input.card_of.Statement.{statement}
 use Rattle.cli.proofs.input.card_of.Tie as tie
 

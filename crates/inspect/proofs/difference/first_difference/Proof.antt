@@ -2,7 +2,7 @@
 use borrow.Author.Needs.{needs}
 use mathlib.Core.Path.{_≡_, ap₂, _∙_}
 use lib.ListN.{length}
-use Rattle.cards.specs.Ten.{unmapped, of-ten}
+use Rattle.cards.specs.Laws.Ten.{unmapped, of-ten}
 use Rattle.inspect.specs.Difference.{chainDifference, differenceOf}
 use Rattle.inspect.proofs.difference.first_difference.Statement.{statement}
 use Rattle.inspect.proofs.difference.first_difference.Tie as tie

@@ -12,8 +12,8 @@ use lib.Ieee.Order.{round-mono}
 use Rattle.num.specs.Const.{c0·0, c1023·5}
 use Rattle.num.specs.Steps.{cutOf, roundOf}
 use Rattle.num.specs.Private.{under, halfUpOf}
-use Rattle.num.specs.Within.{round-signed}
-use Rattle.num.specs.Bounds.{cut-round, cut-negative, cut-large}
+use Rattle.num.specs.Laws.Within.{round-signed}
+use Rattle.num.specs.Laws.Bounds.{cut-round, cut-negative, cut-large}
 use Rattle.num.proofs.whole.below_1023_5.Statement.{statement}
 use Rattle.num.proofs.whole.below_1023_5.Tie as tie
 

@@ -3,7 +3,7 @@ use mathlib.Core.Path.{_≡_, sym, _∙_, subst}
 use Prim.Native.Nat.{ℕ, _≤_}
 use lib.Ieee.{Float}
 use Rattle.num.specs.Steps.{cutOf}
-use Rattle.num.specs.Bounds.{cut-le}
+use Rattle.num.specs.Laws.Bounds.{cut-le}
 use Rattle.num.proofs.whole.cut.Statement.{statement}
 use Rattle.num.proofs.whole.cut.Tie as tie
 

@@ -4,7 +4,7 @@ use Prim.Native.Nat.{ℕ, _≤_}
 use lib.Ieee.{Float}
 use Rattle.num.specs.Const.{c0·0, c255·0}
 use Rattle.num.specs.Steps.{clampOf, cutOf}
-use Rattle.num.specs.Bounds.{clamp-cut, top-is}
+use Rattle.num.specs.Laws.Bounds.{clamp-cut, top-is}
 use Rattle.num.proofs.whole.cut_clamped.Statement.{statement}
 use Rattle.num.proofs.whole.cut_clamped.Tie as tie
 

@@ -5,7 +5,7 @@ use lib.Ieee.{Float}
 use Rattle.num.specs.Const.{c0·0, c1·0, c255·0}
 use Rattle.num.specs.F32.{_⊗_}
 use Rattle.num.specs.Steps.{clampOf, cutOf}
-use Rattle.num.specs.Bounds.{unit-cut}
+use Rattle.num.specs.Laws.Bounds.{unit-cut}
 use Rattle.num.proofs.whole.cut_unit.Statement.{statement}
 use Rattle.num.proofs.whole.cut_unit.Tie as tie
 

@@ -9,7 +9,7 @@ use mir.Syntax.{w32}
 use mir.Val.{toZ}
 use mir.Facts.{toZ-pos}
 use borrow.Author.Needs.{needs}
-use Rattle.num.specs.Bounds.{in-float}
+use Rattle.num.specs.Laws.Bounds.{in-float}
 use Rattle.num.proofs.whole.float.Statement.{statement}
 use Rattle.num.proofs.whole.float.Tie as tie
 

@@ -10,7 +10,7 @@ use lib.Ieee.{Float, fin, up, down, lt}
 use lib.Ieee.Fits.{down-pos}
 use Rattle.num.specs.F32.{whole}
 use Rattle.num.specs.Private.{under, floorOf, Near}
-use Rattle.num.specs.Values.{whole-value, lt-value, not-lt-value}
+use Rattle.num.specs.Laws.Values.{whole-value, lt-value, not-lt-value}
 use Rattle.num.proofs.NearWhole.{near-le, under-more, floor-less, floor-is}
 use Rattle.num.proofs.whole.floor.Statement.{statement}
 use Rattle.num.proofs.whole.floor.Tie as tie

@@ -14,7 +14,7 @@ use lib.Ieee.Exact.{HasValue}
 use Rattle.num.specs.Const.{c0·5}
 use Rattle.num.specs.F32.{_⊕_, whole}
 use Rattle.num.specs.Private.{under, halfUpOf, Near}
-use Rattle.num.specs.Values.{half-more, value-le, value-not-le}
+use Rattle.num.specs.Laws.Values.{half-more, value-le, value-not-le}
 use Rattle.num.proofs.NearWhole.{near-le, half-above, half-below}
 use Rattle.num.proofs.whole.half_up.Statement.{statement}
 use Rattle.num.proofs.whole.half_up.Tie as tie

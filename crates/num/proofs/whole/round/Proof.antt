@@ -17,7 +17,7 @@ use Rattle.num.specs.Const.{c0·0, c8388608·0}
 use Rattle.num.specs.F32.{whole}
 use Rattle.num.specs.Steps.{absOf, roundOf}
 use Rattle.num.specs.Private.{under, halfUpOf, negative}
-use Rattle.num.specs.Signs.{round-neg}
+use Rattle.num.specs.Laws.Signs.{round-neg}
 use Rattle.num.proofs.whole.round.Statement.{statement}
 use Rattle.num.proofs.whole.round.Tie as tie
 

@@ -11,7 +11,7 @@ use lib.Ieee.Fits.{down-pos}
 use Rattle.num.specs.Const.{c0·0, c1023·0}
 use Rattle.num.specs.Steps.{cutOf}
 use Rattle.num.specs.Private.{under, floorOf}
-use Rattle.num.specs.Order.{tests-le, tests-lt}
+use Rattle.num.specs.Laws.Order.{tests-le, tests-lt}
 use Rattle.num.proofs.whole.to_1023.Statement.{statement}
 use Rattle.num.proofs.whole.to_1023.Tie as tie
 

@@ -1,7 +1,7 @@
 -- `num::whole::to_255` meets its contract. Assumes nothing.
 use lib.Dec.{lit≤}
 use Rattle.num.specs.Const.{c255·0}
-use Rattle.num.specs.Bounds.{top-is}
+use Rattle.num.specs.Laws.Bounds.{top-is}
 use Rattle.num.proofs.Clamped.{clamped-cut, top-above}
 use Rattle.num.proofs.whole.to_255.Statement.{statement}
 use Rattle.num.proofs.whole.to_255.Tie as tie

@@ -1,6 +1,6 @@
 -- `passes::auto_gradient::adaptive` meets its contract. Assumes nothing.
 use native.Mathlib.Omega.{arith}
-use Rattle.num.specs.Bounds.{in-float}
+use Rattle.num.specs.Laws.Bounds.{in-float}
 use borrow.Author.Needs.{needs}
 use Rattle.passes.specs as Text
 use Rattle.passes.proofs.auto_gradient.adaptive.Statement.{statement}

@@ -8,10 +8,11 @@ use lib.Seq.{take-at}
 use lib.Ieee.{Float, nan}
 use borrow.Author.Needs.{needs}
 use Rattle.num.specs.Const.{c0·0}
-use Rattle.num.specs.Rewrite.{getD-fill}
+use Rattle.num.specs.Laws.Rewrite.{getD-fill}
 use Rattle.passes.specs as Text
 use Rattle.passes.specs.Fold.{fold}
-use Rattle.passes.specs.Rows.{frame-small, placed, placed-ext}
+use Rattle.passes.specs.Rows.{placed}
+use Rattle.passes.specs.Laws.Rows.{frame-small, placed-ext}
 use Rattle.passes.specs.Plain.AutoGradient.{addLuma, adaptive, warm, fall, brightness, shade, colourAt, shaded}
 use Rattle.passes.specs.Private.{at, markClamped}
 use Rattle.passes.proofs.Collected.{collected-clamped}

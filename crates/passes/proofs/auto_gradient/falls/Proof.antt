@@ -3,7 +3,7 @@ use Prim.Native.Nat.{_-_}
 use native.Mathlib.Omega.{arith}
 use lib.ListN.{length}
 use lib.Ieee.{nan}
-use Rattle.num.specs.Rewrite.{Rewritten, none, more, all}
+use Rattle.num.specs.Laws.Rewrite.{Rewritten, none, more, all}
 use Rattle.passes.specs.Plain.AutoGradient.{fall}
 use Rattle.passes.proofs.auto_gradient.falls.Statement.{statement}
 use Rattle.passes.proofs.auto_gradient.falls.Tie as tie

@@ -2,7 +2,7 @@
 use Prim.Native.Nat.{_-_}
 use native.Mathlib.Omega.{arith}
 use lib.ListN.{length}
-use Rattle.num.specs.Rewrite.{Rewritten, none, more, all}
+use Rattle.num.specs.Laws.Rewrite.{Rewritten, none, more, all}
 use Rattle.passes.specs.Plain.AutoGradient.{brightness, shade}
 use Rattle.passes.specs.Private.{at, markClamped}
 use Rattle.passes.proofs.auto_gradient.row.Statement.{statement}

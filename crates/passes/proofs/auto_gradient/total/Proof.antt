@@ -3,7 +3,7 @@ use Prim.Native.Nat.{_-_}
 use native.Mathlib.Omega.{arith}
 use lib.ListN.{length}
 use Rattle.num.specs.Const.{c0·0}
-use Rattle.passes.specs.Fold.{Folded, none, more, all}
+use Rattle.passes.specs.Laws.Fold.{Folded, none, more, all}
 use Rattle.passes.specs.Plain.AutoGradient.{addLuma}
 use Rattle.passes.proofs.auto_gradient.total.Statement.{statement}
 use Rattle.passes.proofs.auto_gradient.total.Tie as tie

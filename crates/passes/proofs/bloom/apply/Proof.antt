@@ -10,7 +10,8 @@ use lib.Ieee.{Float}
 use borrow.Author.Needs.{needs}
 use Rattle.num.specs.F32.{whole}
 use Rattle.passes.specs as Text
-use Rattle.passes.specs.Rows.{frame-small, placed, placed-ext}
+use Rattle.passes.specs.Rows.{placed}
+use Rattle.passes.specs.Laws.Rows.{frame-small, placed-ext}
 use Rattle.passes.specs.Plain.Blur.{weightSum, down}
 use Rattle.passes.specs.Plain.Bloom.{composite, vertical, sample, horizontal}
 use Rattle.passes.proofs.Offsets.{front, weight-at, blur-by, blur-same}

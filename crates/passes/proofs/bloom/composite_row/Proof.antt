@@ -4,7 +4,7 @@ use mathlib.Core.Path.{ap, _∙_}
 use native.Mathlib.Omega.{arith}
 use lib.ListN.{length}
 use Rattle.passes.specs.Plain.Pixel.{rgb}
-use Rattle.num.specs.Rewrite.{Rewritten, none, more, all}
+use Rattle.num.specs.Laws.Rewrite.{Rewritten, none, more, all}
 use Rattle.passes.specs.Plain.Blur.{quotient}
 use Rattle.passes.specs.Plain.Bloom.{composite}
 use Rattle.passes.specs.Private.{at, markClamped}

@@ -7,7 +7,8 @@ use native.Mathlib.Nat.{zero-mul, one-mul}
 use lib.ListN.{length, take, drop}
 use lib.Ieee.{Float, nan}
 use Rattle.passes.specs.Plain.Pixel.{rgb}
-use Rattle.num.specs.Rewrite.{fill, getD-fill}
+use Rattle.num.specs.Rewrite.{fill}
+use Rattle.num.specs.Laws.Rewrite.{getD-fill}
 use Rattle.passes.specs.Plain.Blur.{weighted, weightSum, quotient, down}
 use Rattle.passes.specs.Plain.Bloom.{composite, vertical}
 use Rattle.passes.specs.Private.{at, cell, stored, markClamped}

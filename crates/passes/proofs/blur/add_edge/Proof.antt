@@ -4,7 +4,7 @@ use native.Mathlib.Omega.{arith}
 use lib.ListN.{length}
 use lib.Ieee.{nan}
 use Rattle.num.specs.F32.{_⊗_}
-use Rattle.num.specs.Rewrite.{Rewritten, none, more, all}
+use Rattle.num.specs.Laws.Rewrite.{Rewritten, none, more, all}
 use Rattle.passes.specs.Private.{at, onward}
 use Rattle.passes.proofs.blur.add_edge.Statement.{statement}
 use Rattle.passes.proofs.blur.add_edge.Tie as tie

@@ -7,7 +7,8 @@ use borrow.Author.Needs.{needs}
 use lib.ListN.{length, take, drop}
 use lib.Ieee.{Float}
 use Rattle.num.specs.F32.{_⊗_}
-use Rattle.num.specs.Rewrite.{Rewritten, rewrite, every, length-rewrite}
+use Rattle.num.specs.Rewrite.{rewrite, every}
+use Rattle.num.specs.Laws.Rewrite.{Rewritten, length-rewrite}
 use Rattle.passes.specs.Private.{at, onward}
 use Rattle.passes.proofs.Offsets.{fourfold-all}
 use Rattle.passes.proofs.RowLoops.{further, further-long}

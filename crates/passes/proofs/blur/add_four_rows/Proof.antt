@@ -8,7 +8,7 @@ use lib.Seq.{length-take-le}
 use lib.Ieee.{Float}
 use borrow.Author.Needs.{needs}
 use Rattle.passes.proofs.Offsets.{four-added}
-use Rattle.passes.specs.Rows.{row-ends}
+use Rattle.passes.specs.Laws.Rows.{row-ends}
 use Rattle.passes.proofs.blur.add_four_rows.Statement.{statement}
 use Rattle.passes.proofs.blur.add_four_rows.Tie as tie
 

@@ -4,7 +4,7 @@ use Prim.Native.Nat.{_-_}
 use native.Mathlib.Omega.{arith}
 use lib.ListN.{length}
 use lib.Ieee.{nan}
-use Rattle.num.specs.Rewrite.{Rewritten, none, more, all}
+use Rattle.num.specs.Laws.Rewrite.{Rewritten, none, more, all}
 use Rattle.num.specs.F32.{_⊕_, _⊗_}
 use Rattle.passes.specs.Private.{at}
 use Rattle.passes.proofs.blur.add_scaled.Statement.{statement}

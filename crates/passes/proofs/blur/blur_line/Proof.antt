@@ -2,7 +2,7 @@
 use mathlib.Core.Path.{_∙_}
 use lib.ListN.{length}
 use borrow.Author.Needs.{needs}
-use Rattle.num.specs.Rewrite.{every-twice}
+use Rattle.num.specs.Laws.Rewrite.{every-twice}
 use Rattle.passes.specs.Plain.Blur.{weighted, quotient}
 use Rattle.passes.specs.Private.{at}
 use Rattle.passes.proofs.blur.blur_line.Statement.{statement}

@@ -3,7 +3,7 @@ use mathlib.Core.Path.{refl}
 use Prim.Native.Nat.{_-_}
 use native.Mathlib.Omega.{arith}
 use lib.ListN.{length}
-use Rattle.num.specs.Rewrite.{Rewritten, none, more, all}
+use Rattle.num.specs.Laws.Rewrite.{Rewritten, none, more, all}
 use Rattle.num.specs.Const.{c0·0}
 use Rattle.passes.proofs.blur.clear.Statement.{statement}
 use Rattle.passes.proofs.blur.clear.Tie as tie

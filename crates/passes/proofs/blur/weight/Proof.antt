@@ -2,7 +2,7 @@
 use mathlib.Core.Path.{refl}
 use native.Mathlib.Omega.{arith}
 use lib.Ieee.{sub}
-use Rattle.num.specs.Bounds.{in-float}
+use Rattle.num.specs.Laws.Bounds.{in-float}
 use Rattle.passes.specs as Text
 use Rattle.passes.proofs.blur.weight.Statement.{statement}
 use Rattle.passes.proofs.blur.weight.Tie as tie

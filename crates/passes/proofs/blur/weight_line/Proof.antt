@@ -2,7 +2,7 @@
 use Prim.Native.Nat.{_-_, _≤_}
 use native.Mathlib.Omega.{arith}
 use lib.Ieee.{nan}
-use Rattle.num.specs.Rewrite.{Rewritten, none, more}
+use Rattle.num.specs.Laws.Rewrite.{Rewritten, none, more}
 use Rattle.passes.specs.Plain.Blur.{weightSum}
 use Rattle.passes.proofs.Offsets.{begun}
 use Rattle.passes.proofs.blur.weight_line.Statement.{statement}

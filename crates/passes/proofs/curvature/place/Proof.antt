@@ -10,7 +10,7 @@ use lib.Ieee.{Float}
 use borrow.Author.Needs.{needs}
 use Rattle.num.specs.Index.{indexOf}
 use Rattle.passes.specs as Text
-use Rattle.passes.specs.Rows.{frame-small}
+use Rattle.passes.specs.Laws.Rows.{frame-small}
 use Rattle.passes.specs.Plain.Curvature.{outside, sample}
 use Rattle.passes.proofs.curvature.place.Statement.{statement}
 use Rattle.passes.proofs.curvature.place.Tie as tie

@@ -6,7 +6,8 @@ use mathlib.Core.Path.{_≡_, refl, sym, ap, _∙_, subst}
 use mathlib.Core.List.{List, [], _∷_}
 use lib.ListN.{length, getD, set, length-set}
 use borrow.Author.Needs.{needs}
-use Rattle.num.specs.Rewrite.{rewrite, Rewritten, none, more, all, length-rewrite, rewrite-past}
+use Rattle.num.specs.Rewrite.{rewrite}
+use Rattle.num.specs.Laws.Rewrite.{Rewritten, none, more, all, length-rewrite, rewrite-past}
 use Rattle.passes.specs.Plain.Curvature.{wordAt}
 use Rattle.passes.proofs.curvature.places.Statement.{statement}
 use Rattle.passes.proofs.curvature.places.Tie as tie

@@ -3,7 +3,7 @@ use Prim.Native.Nat.{_-_}
 use mathlib.Core.Path.{ap, _∙_}
 use native.Mathlib.Omega.{arith}
 use lib.ListN.{length}
-use Rattle.num.specs.Rewrite.{Rewritten, none, more, all}
+use Rattle.num.specs.Laws.Rewrite.{Rewritten, none, more, all}
 use Rattle.passes.specs.Plain.Lut.{colour}
 use Rattle.passes.specs.Private.{markUnit}
 use Rattle.passes.proofs.lut.by_game_boy.Statement.{statement}

@@ -6,7 +6,8 @@ use native.Mathlib.Omega.{arith}
 use borrow.Author.Needs.{needs}
 use lib.ListN.{length, getD}
 use lib.Ieee.{Float}
-use Rattle.num.specs.Rewrite.{every, rewrite-ext}
+use Rattle.num.specs.Rewrite.{every}
+use Rattle.num.specs.Laws.Rewrite.{rewrite-ext}
 use Rattle.passes.specs.Plain.Lut.{colour}
 use Rattle.passes.specs.Private.{Greys, markUnit, picked}
 use Rattle.passes.proofs.Greys.{Alone, alone, picked-is}

@@ -6,7 +6,8 @@ use native.Mathlib.Omega.{arith}
 use borrow.Author.Needs.{needs}
 use lib.ListN.{length, getD}
 use lib.Ieee.{Float}
-use Rattle.num.specs.Rewrite.{fill, getD-fill, length-rewrite}
+use Rattle.num.specs.Rewrite.{fill}
+use Rattle.num.specs.Laws.Rewrite.{getD-fill, length-rewrite}
 use Rattle.passes.specs.Plain.Lut.{colour}
 use Rattle.passes.specs.Private.{Greys, entry}
 use Rattle.passes.proofs.lut.table.Statement.{statement}

@@ -5,8 +5,9 @@ use native.Mathlib.Omega.{arith}
 use mathlib.Core.Path.{_≡_, refl, ap, ap₂, sym, _∙_}
 use mathlib.Core.List.{List}
 use lib.ListN.{length, getD, set}
-use Rattle.num.specs.Rewrite.{Rewritten, none, more, all, getD-rewrite-rest}
-use Rattle.num.specs.Sums.{sum, sum-zero, sum-more}
+use Rattle.num.specs.Laws.Rewrite.{Rewritten, none, more, all, getD-rewrite-rest}
+use Rattle.num.specs.Sums.{sum}
+use Rattle.num.specs.Laws.Sums.{sum-zero, sum-more}
 use Rattle.passes.specs.Private.{unmarked}
 use Rattle.passes.specs.Painted.{painted}
 use Rattle.passes.proofs.marks.collect.Statement.{statement}

@@ -7,7 +7,8 @@ use lib.ListN.{length, take}
 use lib.Ieee.{Float}
 use borrow.Author.Needs.{needs}
 use Rattle.passes.specs as Text
-use Rattle.passes.specs.Rows.{frame-small, placed, placed-ext}
+use Rattle.passes.specs.Rows.{placed}
+use Rattle.passes.specs.Laws.Rows.{frame-small, placed-ext}
 use Rattle.passes.specs.Plain.Ntsc.{colourAt, sample}
 use Rattle.passes.proofs.Offsets.{front, weight-at, blur-by}
 use Rattle.passes.specs.Private.{at, ntscBy, markClamped}

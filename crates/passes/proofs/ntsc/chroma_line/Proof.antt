@@ -5,7 +5,7 @@ use native.Mathlib.Omega.{arith}
 use lib.ListN.{length, getD}
 use lib.Ieee.{nan}
 use Rattle.passes.specs.Plain.Pixel.{unpack}
-use Rattle.num.specs.Rewrite.{Rewritten, none, more, all}
+use Rattle.num.specs.Laws.Rewrite.{Rewritten, none, more, all}
 use Rattle.passes.specs.Plain.Ntsc.{chroma}
 use Rattle.passes.proofs.ntsc.chroma_line.Statement.{statement}
 use Rattle.passes.proofs.ntsc.chroma_line.Tie as tie

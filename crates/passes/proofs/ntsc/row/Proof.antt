@@ -5,7 +5,7 @@ use lib.ListN.{length, getD}
 use lib.Ieee.{Float}
 use borrow.Author.Needs.{needs}
 use Rattle.passes.specs.Plain.Pixel.{unpack}
-use Rattle.num.specs.Rewrite.{rewrite-ext}
+use Rattle.num.specs.Laws.Rewrite.{rewrite-ext}
 use Rattle.passes.specs.Plain.Ntsc.{chroma, pixel}
 use Rattle.passes.specs.Private.{at, chromaBy, markClamped}
 use Rattle.passes.proofs.Offsets.{blur-of}

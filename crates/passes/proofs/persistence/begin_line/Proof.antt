@@ -4,7 +4,7 @@ use native.Mathlib.Omega.{arith}
 use lib.ListN.{length, getD}
 use lib.Ieee.{nan}
 use Rattle.num.specs.F32.{_⊗_}
-use Rattle.num.specs.Rewrite.{Rewritten, none, more, all}
+use Rattle.num.specs.Laws.Rewrite.{Rewritten, none, more, all}
 use Rattle.passes.specs.Plain.Pixel.{channel, unpack}
 use Rattle.passes.proofs.persistence.begin_line.Statement.{statement}
 use Rattle.passes.proofs.persistence.begin_line.Tie as tie

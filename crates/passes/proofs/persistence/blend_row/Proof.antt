@@ -1,7 +1,7 @@
 -- `passes::persistence::blend_row` meets its contract: three channels of the mix at each place are the mix. Assumes nothing.
 use mathlib.Core.Path.{ap, _∙_}
 use borrow.Author.Needs.{needs}
-use Rattle.num.specs.Rewrite.{rewrite-at}
+use Rattle.num.specs.Laws.Rewrite.{rewrite-at}
 use Rattle.passes.specs.Private.{markClamped, blendedWord}
 use Rattle.passes.proofs.Mixes.{whole}
 use Rattle.passes.proofs.persistence.blend_row.Statement.{statement}

@@ -3,7 +3,7 @@ use Prim.Native.Nat.{_-_}
 use native.Mathlib.Omega.{arith}
 use lib.ListN.{length, getD}
 use lib.Ieee.{nan}
-use Rattle.num.specs.Rewrite.{Rewritten, none, all}
+use Rattle.num.specs.Laws.Rewrite.{Rewritten, none, all}
 use Rattle.passes.specs.Private.{blendedWord}
 use Rattle.passes.proofs.RowLoops.{further, further-long}
 use Rattle.passes.proofs.persistence.blend_rows.Statement.{statement}

@@ -4,7 +4,7 @@ use native.Mathlib.Nat.{zero-add}
 use native.Mathlib.Omega.{arith}
 use lib.ListN.{length}
 use borrow.Author.Needs.{needs}
-use Rattle.num.specs.Rewrite.{none, part}
+use Rattle.num.specs.Laws.Rewrite.{none, part}
 use Rattle.passes.proofs.Offsets.{front, begun}
 use Rattle.passes.proofs.persistence.channel_line.Statement.{statement}
 use Rattle.passes.proofs.persistence.channel_line.Tie as tie

@@ -5,7 +5,7 @@ use native.Mathlib.Omega.{arith}
 use mathlib.Core.Path.{_≡_, sym, ap, _∙_}
 use mathlib.Core.List.{List}
 use lib.ListN.{length, getD}
-use Rattle.num.specs.Rewrite.{Rewritten, none, more, all, rewrite-copy, getD-rewrite-rest}
+use Rattle.num.specs.Laws.Rewrite.{Rewritten, none, more, all, rewrite-copy, getD-rewrite-rest}
 use Rattle.passes.proofs.persistence.exchange.Statement.{statement}
 use Rattle.passes.proofs.persistence.exchange.Tie as tie
 

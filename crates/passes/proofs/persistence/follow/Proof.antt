@@ -13,11 +13,13 @@ use Rattle.passes.specs as Text
 use Rattle.passes.specs.Arith.{plain}
 use Rattle.passes.specs.Plain.Persistence.{total, weight, mix, blend, shifted}
 use Rattle.passes.specs.Plain.Pixel.{packClamped, clips}
-use Rattle.passes.specs.PersistenceLaws.{mix-same}
+use Rattle.passes.specs.Laws.Persistence.{mix-same}
 use Rattle.passes.specs.Private.{blendedWord, unmarked}
-use Rattle.passes.specs.Painted.{Painted, fromClamped, converted-ext}
+use Rattle.passes.specs.Painted.{Painted, fromClamped}
+use Rattle.passes.specs.Laws.Painted.{converted-ext}
 use Rattle.passes.proofs.Collected.{collected-clamped}
-use Rattle.num.specs.Rewrite.{every, fill, getD-fill, length-rewrite}
+use Rattle.num.specs.Rewrite.{every, fill}
+use Rattle.num.specs.Laws.Rewrite.{getD-fill, length-rewrite}
 use Rattle.passes.proofs.persistence.follow.Statement.{statement}
 use Rattle.passes.proofs.persistence.follow.Tie as tie
 

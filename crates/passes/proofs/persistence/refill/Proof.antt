@@ -6,7 +6,7 @@ use native.Mathlib.Omega.{arith}
 use lib.ListN.{length, drop}
 use lib.Seq.{take-all}
 use Rattle.passes.specs.Plain.Persistence.{copies, refilled}
-use Rattle.passes.specs.PersistenceLaws.{length-copies}
+use Rattle.passes.specs.Laws.Persistence.{length-copies}
 use Rattle.passes.proofs.Places.{Written, none, place-in, place-length, more, all, copies-place}
 use Rattle.passes.proofs.persistence.refill.Statement.{statement}
 use Rattle.passes.proofs.persistence.refill.Tie as tie

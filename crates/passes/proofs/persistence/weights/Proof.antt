@@ -9,7 +9,7 @@ use Rattle.num.specs.Const.{c0·55}
 use Rattle.num.specs.F32.{_⊗_, _⊘_}
 use Rattle.passes.specs as Text
 use Rattle.passes.specs.Plain.Persistence.{decay, weight}
-use Rattle.num.specs.Rewrite.{Rewritten, none, more, all}
+use Rattle.num.specs.Laws.Rewrite.{Rewritten, none, more, all}
 use Rattle.passes.proofs.persistence.weights.Statement.{statement}
 use Rattle.passes.proofs.persistence.weights.Tie as tie
 

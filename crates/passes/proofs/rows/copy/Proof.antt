@@ -3,7 +3,7 @@ use Prim.Native.Nat.{_-_}
 use mathlib.Core.Path.{refl, _∙_}
 use native.Mathlib.Omega.{arith}
 use lib.ListN.{length, getD}
-use Rattle.num.specs.Rewrite.{Rewritten, none, more, all, rewrite-copy}
+use Rattle.num.specs.Laws.Rewrite.{Rewritten, none, more, all, rewrite-copy}
 use Rattle.passes.proofs.rows.copy.Statement.{statement}
 use Rattle.passes.proofs.rows.copy.Tie as tie
 

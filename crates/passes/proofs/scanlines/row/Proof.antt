@@ -6,7 +6,7 @@ use lib.ListN.{length}
 use lib.Ieee.{Float}
 use Rattle.num.specs.Const.{c1·0}
 use Rattle.num.specs.F32.{_⊖_}
-use Rattle.num.specs.Rewrite.{Rewritten, none, more, all, rewrite-same}
+use Rattle.num.specs.Laws.Rewrite.{Rewritten, none, more, all, rewrite-same}
 use Rattle.passes.specs as Text
 use Rattle.passes.specs.Plain.Scanlines.{wordAt, inRow}
 use Rattle.passes.specs.Plain.Pixel.{dim}

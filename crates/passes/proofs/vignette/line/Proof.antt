@@ -2,7 +2,7 @@
 use mathlib.Core.Path.{_∙_}
 use borrow.Author.Needs.{needs}
 use Rattle.num.specs.F32.{_⊕_}
-use Rattle.num.specs.Rewrite.{every-twice}
+use Rattle.num.specs.Laws.Rewrite.{every-twice}
 use Rattle.num.specs.Root.{rootOf}
 use Rattle.passes.specs.Plain.Vignette.{offsetSquared, factor}
 use Rattle.passes.proofs.vignette.line.Statement.{statement}

@@ -5,7 +5,7 @@ use native.Mathlib.Omega.{arith}
 use lib.ListN.{length}
 use lib.Ieee.{Float, nan}
 use Rattle.num.specs.F32.{_⊕_}
-use Rattle.num.specs.Rewrite.{Rewritten, none, more, all}
+use Rattle.num.specs.Laws.Rewrite.{Rewritten, none, more, all}
 use Rattle.passes.specs.Plain.Vignette.{offsetSquared}
 use Rattle.passes.proofs.vignette.squares.Statement.{statement}
 use Rattle.passes.proofs.vignette.squares.Tie as tie

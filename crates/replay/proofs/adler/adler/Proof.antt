@@ -4,7 +4,7 @@ use mathlib.Core.Path.{_≡_, ap}
 use mathlib.Core.List.{List}
 use native.Mathlib.Omega.{arith}
 use lib.ListN.{length}
-use Rattle.passes.specs.Fold.{Folded, none, more, all}
+use Rattle.passes.specs.Laws.Fold.{Folded, none, more, all}
 use Rattle.replay.specs.Adler.{sums, addByte, adlerOf}
 use Rattle.replay.specs.declared.adler.Sums.{Sums}
 use Rattle.replay.proofs.adler.adler.Statement.{statement}

@@ -1,0 +1,18 @@
+-- Laws that proofs here and above cite; nothing in this folder has to be believed. Of order and bounds: Order, Within, Bounds, Index,
+-- Signs, Values; of rounding and ranges: Sized, Least, Quotients, Squares, Upto; how far a rounding moves: Units. Of loops that
+-- rewrite a slice: Rewrite; of sums: Sums; of refusals: Refusals.
+pub mod Order
+pub mod Within
+pub mod Bounds
+pub mod Index
+pub mod Signs
+pub mod Values
+pub mod Sized
+pub mod Least
+pub mod Quotients
+pub mod Squares
+pub mod Upto
+pub mod Units
+pub mod Rewrite
+pub mod Sums
+pub mod Refusals
