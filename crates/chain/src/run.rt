@@ -8,6 +8,7 @@ ghost use Rattle.chain.specs.Chain.{over, turn, chain};
 ghost use Rattle.chain.specs.Lent.{Lent, Ready, Readies};
 use cards::station::Pass;
 use cards::station::Record;
+use num::size::Size;
 use passes::auto_gradient;
 use passes::bloom;
 use passes::color_correction;
@@ -21,7 +22,7 @@ use passes::vignette;
 
 // What a run leaves beside the frame and the history: what is held, and how many channels it clipped.
 pub(crate) struct Run {
-    pub(crate) held: u32,
+    pub(crate) held: Size,
     pub(crate) clipped: u32,
 }
 
@@ -34,7 +35,7 @@ pub(crate) fn run_pass(
     ints: &mut [u32],
     width: usize,
     height: usize,
-    held: u32,
+    held: Size,
 ) -> Run
     requires { ⌜ Lent width height (now frame) (now floats) (now ints) ⌝ ∗ ⌜ Ready width height pass (length (now history)) ⌝ }
     ensures { λ r. ⌜ flow (painted (now (frame .exit)) (r .clipped)) (r .held) (now (history .exit))
@@ -77,7 +78,11 @@ pub(crate) fn run_pass(
             Run { held, clipped }
         }
         Pass::Persistence { amount, depth } => {
-            let kept = persistence::apply(frame, history, ints, amount, depth, held);
+            let size = Size {
+                width: width as u16,
+                height: height as u16,
+            };
+            let kept = persistence::apply(frame, history, ints, amount, depth, held, size);
             let held = kept.held;
             let clipped = kept.clipped;
             Run { held, clipped }
@@ -123,7 +128,7 @@ pub(crate) fn run_record(
     ints: &mut [u32],
     width: usize,
     height: usize,
-    held: u32,
+    held: Size,
 ) -> Run
     requires { ⌜ Lent width height (now frame) (now floats) (now ints) ⌝ ∗ ⌜ Ready width height (rec .pass) (length (now history)) ⌝ }
     ensures { λ r. ⌜ flow (painted (now (frame .exit)) (r .clipped)) (r .held) (now (history .exit))
@@ -147,7 +152,7 @@ pub(crate) fn run_chain(
     ints: &mut [u32],
     width: usize,
     height: usize,
-    held: u32,
+    held: Size,
 ) -> Run
     requires { ⌜ Lent width height (now frame) (now floats) (now ints) ⌝ ∗ ⌜ Readies width height n records (length (now history)) ⌝ }
     ensures { λ r. ⌜ flow (painted (now (frame .exit)) (r .clipped)) (r .held) (now (history .exit))

@@ -2,14 +2,14 @@
 use Prim.Native.Nat.{ℕ}
 use mathlib.Core.Path.{_≡_, refl, ap, sym, _∙_}
 use native.Mathlib.Nat.{zero-add}
+use mathlib.Core.Bool.{Bool, true, false}
 use mathlib.Core.List.{List}
 use borrow.Author.Needs.{needs}
-use borrow.Author.Tests.{eq-eqb, ne-eqb}
 use lib.ListN.{length, take, drop}
 use lib.Seq.{length-take-le, drop-at}
 use native.Mathlib.Omega.{arith}
 use lib.Ieee.{Float}
-use Rattle.num.specs.Held.{sameHeld}
+use Rattle.num.specs.Held.{Held, sameHeld}
 use Rattle.passes.specs as Text
 use Rattle.passes.specs.Flow.{flow}
 use Rattle.passes.specs.Painted.{Painted, painted}
@@ -17,18 +17,19 @@ use Rattle.passes.specs.Plain.Persistence.{blend, refilled, shifted, per
 use Rattle.passes.proofs.persistence.apply.Statement.{statement}
 use Rattle.passes.proofs.persistence.apply.Tie as tie
 
-module _ (amount : Float) (k : ℕ) (frame : List ℕ) (held : ℕ) (past : List ℕ) where
-  follows : {picture : Painted} {new : List ℕ} → held ≡ length frame → picture ≡ blend amount k past frame → new ≡ shifted k frame past
-      → flow picture held new ≡ persistence amount k (length frame) (flow (painted frame 0) held past)
-  unfolding Text.Persistence.persistence sameHeld
+module _ (amount : Float) (k : ℕ) (frame : List ℕ) (held size : Held) (past : List ℕ) {same : Bool} (asked : same ≡ sameHeld held size) where
+  follows : {picture : Painted} {new : List ℕ} → same ≡ true → picture ≡ blend amount k past frame → new ≡ shifted k frame past
+      → flow picture size new ≡ persistence amount k size (flow (painted frame 0) held past)
+  unfolding Text.Persistence.persistence
   follows e f p =
       let b : Painted = blend amount k past frame in
-      rw (f, p, eq-eqb held (length frame) e)
-      (ap (λ (n : ℕ). flow b n (shifted k frame past)) e ∙ ap (λ (m : ℕ). flow (painted (b .words) m) (length frame) (shifted k frame past)) (sym (zero-add (b .clipped))))
+      rw (f, p, sym asked ∙ e)
+      (ap (λ (m : ℕ). flow (painted (b .words) m) size (shifted k frame past)) (sym (zero-add (b .clipped))))
 
-  begins : {new : List ℕ} → (held ≡ length frame → ⊥) → new ≡ refilled k frame past → flow (painted frame 0) (length frame) new ≡ persistence amount k (length frame) (flow (painted frame 0) held past)
-  unfolding Text.Persistence.persistence sameHeld
-  begins n p = rw (p, ne-eqb held (length frame) n)
+  begins : {new : List ℕ} → same ≡ false → new ≡ refilled k frame past
+      → flow (painted frame 0) size new ≡ persistence amount k size (flow (painted frame 0) held past)
+  unfolding Text.Persistence.persistence
+  begins e p = rw (p, sym asked ∙ e)
 
 -- as many words of the scratch as the frame has
 front : (c : tie.After-follow-arg3) → let a = c .before .before .before .before .before .before .before .args in
