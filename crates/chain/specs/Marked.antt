@@ -1,6 +1,7 @@
 -- The cases that document 01 marks (●), each line named, from the number steps to the pictures of stations that are opened from
 -- cards; one proof holds them all (proofs/Marked.antt). Definitions only.
 use Prim.Native.Nat.{ℕ}
+use mathlib.Core.Bool.{true}
 use mathlib.Core.List.{List, [], _∷_, map}
 use mathlib.Core.Path.{_≡_}
 use lib.Ieee.{binary32, ofBits, neg}
