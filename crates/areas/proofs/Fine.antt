@@ -8,7 +8,8 @@ use borrow.Author.Tests.{ltb-false}
 use lib.Dec.{ltb, eqb}
 use lib.ListN.{length}
 use Rattle.num.specs.Refusals.{badSide}
-use Rattle.num.specs.Laws.Refusals.{neither, by, side-fine}
+use Rattle.num.specs.Laws.Bools.{neither}
+use Rattle.num.specs.Laws.Refusals.{by, side-fine}
 use Rattle.areas.specs.Areas.{count, areaAt, badArea, badAreas, badList, refusalOf}
 use Rattle.areas.specs.Private.{Inside, Placed, Framed}
 use Rattle.areas.specs.declared.area.Area.{Area}

@@ -9,7 +9,8 @@ use native.Mathlib.Decide.{decLt}
 use native.Mathlib.Omega.{arith}
 use borrow.Author.Tests.{lt-ltb}
 use lib.ListN.{length, getD}
-use Rattle.num.specs.Laws.Refusals.{area-fine, false-true}
+use Rattle.num.specs.Laws.Bools.{false-true}
+use Rattle.num.specs.Laws.Refusals.{area-fine}
 use Rattle.areas.specs.Private.{marked, Closed, First, InPicture, columnSum, Columns, over, SummedTo}
 use Rattle.areas.specs.declared.area.Part.{Part}
 use Rattle.areas.specs.declared.block.Band.{Band}

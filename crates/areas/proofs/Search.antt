@@ -8,7 +8,7 @@ use native.Mathlib.Decide.{decLt}
 use native.Mathlib.Omega.{arith}
 use borrow.Author.Tests.{le-leb, lt-leb, lt-ltb, le-ltb}
 use lib.Dec.{ltb}
-use Rattle.num.specs.Laws.Refusals.{false-true}
+use Rattle.num.specs.Laws.Bools.{false-true}
 use Rattle.areas.specs.Areas.{count, areaAt, holds, held}
 use Rattle.areas.specs.Private.{Inside, Placed, inRow, Edge, Edges, partOf, Spans}
 use Rattle.areas.specs.declared.area.Area.{Area}

@@ -6,7 +6,7 @@ use native.Mathlib.Nat.{add-zero, add-suc, not-suc-le-zero}
 use native.Mathlib.Numerals.{add-one}
 use native.Mathlib.Decide.{decLt}
 use native.Mathlib.Omega.{arith}
-use Rattle.num.specs.Laws.Refusals.{false-true}
+use Rattle.num.specs.Laws.Bools.{false-true}
 pub use Rattle.num.specs.Laws.Sums.{sum-ext, sum-zero, sum-more, sum-bound}
 use Rattle.areas.specs.Areas.{sum, some}
 

@@ -8,7 +8,7 @@ use borrow.Author.Tests.{eqb-true, eq-eqb, ne-eqb}
 use lib.Dec.{eqb}
 use lib.ListN.{length, getD, drop, drop-of-length-le}
 use lib.Seq.{drop-cons}
-use Rattle.cards.specs.Laws.Bools.{both, false-true}
+use Rattle.num.specs.Laws.Bools.{both, false-true}
 use Rattle.bridge.specs.State.{sameBytes}
 
 -- the first i bytes are the same: the others decide

@@ -13,7 +13,7 @@ use Rattle.chain.specs.Machine.{frame, reset, switch, step, State, call, after}
 use Rattle.cards.specs.Normal.{goodStation}
 use Rattle.cards.specs.Step.{Step, took, refused, refuseIf}
 use Rattle.cards.specs.declared.station.Station.{Station}
-use Rattle.cards.specs.Laws.Bools.{both, false-true}
+use Rattle.num.specs.Laws.Bools.{both, false-true}
 use Rattle.bridge.specs.Claims.{Whole, Closed}
 use Rattle.bridge.specs.Outcomes.{opening, onState, frameShown}
 use Rattle.bridge.specs.State.{cardIn, stationIn, encoded, sameBytes, isState}

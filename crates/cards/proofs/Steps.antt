@@ -9,6 +9,7 @@ use lib.Dec.{T, leb, leb→le}
 pub use lib.Dec.{lit≤}
 use lib.Ieee.{Float}
 use Rattle.num.specs.Steps.{limitOf}
+pub use Rattle.num.specs.Laws.Bools.{not-held, not-failed, or-left, or-right, or-neither}
 use Rattle.cards.specs.Step.{Step, took, refused, Reader, andThen, _>>=_, _>>_, stop, ret, here, refuseIf, byteStep, realStep, passStep, recordStep, refusalOf}
 use Rattle.cards.specs.Bits.{fieldAt}
 use Rattle.cards.specs.Settings.{finiteAt, limitedAt, withinAt, gainAt, countAt, presetAt}
@@ -101,21 +102,6 @@ guard-then k p b card n f t e h = rw e h
 pub guard-stops : {D : Type 0} (k p : ℕ) (b : Bool) (card : List ℕ) (n : ℕ) (f : Unit {0} → ℕ → Step D) → b ≡ true → refused (stop k p) ≡ andThen (refuseIf k p b card n) f
 unfolding refuseIf
 guard-stops k p b card n f e = rw e refl
-
-pub not-held : (b : Bool) → b ≡ true → not b ≡ false
-not-held b e = rw e refl
-
-pub not-failed : (b : Bool) → b ≡ false → not b ≡ true
-not-failed b e = rw e refl
-
-pub or-left : (a b : Bool) → a ≡ true → (a || b) ≡ true
-or-left a b e = rw e refl
-
-pub or-right : (a b : Bool) → a ≡ false → b ≡ true → (a || b) ≡ true
-or-right a b e h = rw (e, h) refl
-
-pub or-neither : (a b : Bool) → a ≡ false → b ≡ false → (a || b) ≡ false
-or-neither a b e h = rw (e, h) refl
 
 pub via : (a b c : Bool) → b ≡ a → b ≡ c → a ≡ c
 via a b c e h = sym e ∙ h

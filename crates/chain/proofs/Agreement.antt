@@ -20,7 +20,7 @@ use Rattle.cards.specs.declared.station.Pass.{Pass}
 use Rattle.cards.specs.declared.station.Pass.the-variants.{Lut}
 use Rattle.cards.specs.declared.station.Record.{Record}
 use Rattle.cards.specs.declared.station.Station.{Station}
-use Rattle.cards.specs.Laws.Bools.{false-true}
+use Rattle.num.specs.Laws.Bools.{false-true}
 use Rattle.chain.proofs.Changed.{shapes}
 use Rattle.chain.proofs.Kept.{near-zero, near-nothing}
 use Rattle.chain.proofs.Meets.{K, Meet, shared, meet-after, meet-ended, depth-after, gives-same, meet-held, lends-after}

@@ -23,7 +23,7 @@ use Rattle.cards.specs.Passes.{kindOf}
 use Rattle.cards.specs.Records.{kinds, among}
 use Rattle.cards.specs.declared.station.Pass.the-variants.{Persistence}
 use Rattle.cards.specs.declared.station.Record.{Record}
-use Rattle.cards.specs.Laws.Bools.{false-true, both, neither, or-second}
+use Rattle.num.specs.Laws.Bools.{false-true, both, neither, or-second}
 use Rattle.cards.specs.Laws.Good.{Headed, headed, no-second}
 use Rattle.chain.proofs.Kept.{Near, Fits, near-more, near-picture}
 use Rattle.chain.proofs.PassCases.{Plain, by-memory}

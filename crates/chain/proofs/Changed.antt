@@ -14,7 +14,7 @@ use Rattle.cards.specs.Passes.{kindOf}
 use Rattle.cards.specs.Records.{among}
 use Rattle.cards.specs.declared.station.Pass.{Pass}
 use Rattle.cards.specs.declared.station.Record.{Record}
-use Rattle.cards.specs.Laws.Bools.{both, or-second, or-map}
+use Rattle.num.specs.Laws.Bools.{both, or-second, or-map}
 use Rattle.cards.specs.Laws.Good.{Headed, headed, is-headed}
 use Rattle.chain.proofs.PassCases.{blank, by-preset}
 

@@ -16,7 +16,7 @@ use Rattle.cards.specs.Normal.{normalChain}
 use Rattle.cards.specs.Passes.{kindOf}
 use Rattle.cards.specs.Records.{kinds, among}
 use Rattle.cards.specs.declared.station.Record.{Record}
-use Rattle.cards.specs.Laws.Bools.{neither, false-true, or-first-only, or-second-only}
+use Rattle.num.specs.Laws.Bools.{neither, false-true, or-first-only, or-second-only}
 use Rattle.cards.specs.Laws.Good.{headed, no-second}
 use Rattle.chain.proofs.PassCases.{no-lut}
 use Rattle.cards.specs.Laws.Scans.{past}

@@ -8,7 +8,8 @@ use borrow.Author.Tests.{ltb-false, not-false}
 use lib.Dec.{ltb}
 use lib.ListN.{length, take, drop}
 use Rattle.num.specs.Refusals.{badSide, unless}
-use Rattle.num.specs.Laws.Refusals.{neither, by, side-fine}
+use Rattle.num.specs.Laws.Bools.{neither}
+use Rattle.num.specs.Laws.Refusals.{by, side-fine}
 use Rattle.passes.specs.Flow.{Flow, flow}
 use Rattle.passes.specs.Painted.{painted}
 use Rattle.cards.specs.Alike.{chainOf}

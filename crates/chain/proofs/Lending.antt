@@ -23,7 +23,7 @@ use Rattle.cards.specs.Normal.{normalPass, settled, counted}
 use Rattle.cards.specs.declared.station.Pass.{Pass}
 use Rattle.cards.specs.declared.station.Pass.the-variants.{Ntsc, Bloom, Persistence}
 use Rattle.cards.specs.declared.station.Record.{Record}
-use Rattle.cards.specs.Laws.Bools.{both}
+use Rattle.num.specs.Laws.Bools.{both}
 use Rattle.chain.proofs.PassCases.{by-memory, over-few}
 
 -- ## What a ready pass may rely on

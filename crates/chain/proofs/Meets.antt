@@ -27,7 +27,7 @@ use Rattle.cards.specs.Normal.{persists}
 use Rattle.cards.specs.declared.station.Record.{Record}
 use Rattle.cards.specs.declared.station.Station.{Station}
 use Rattle.chain.proofs.Apart.{Apart, quiet, keeping, depth-among, frame-length, past-length, chain-held, chain-near, chain-picture}
-use Rattle.cards.specs.Laws.Bools.{both, false-true}
+use Rattle.num.specs.Laws.Bools.{both, false-true}
 use Rattle.chain.proofs.Goes.{goes}
 use Rattle.chain.proofs.Kept.{Near, near-less, near-zero, near-nothing, Fits}
 use Rattle.chain.proofs.Sound.{Fit, same-depth, idle-held, enough, good-apart}

@@ -42,7 +42,7 @@ use Rattle.cards.specs.declared.station.Pass.the-variants.{Ntsc, Bloom, AutoGra
 use Rattle.cards.specs.declared.station.Pass.the-variants.{ColorCorrection, Crt, Vignette, Scanlines}
 use Rattle.cards.specs.declared.station.Record.{Record}
 use Rattle.cards.specs.declared.station.Station.{Station}
-use Rattle.cards.specs.Laws.Bools.{false-true, both}
+use Rattle.num.specs.Laws.Bools.{false-true, both}
 use Rattle.chain.proofs.Goes.{goes}
 use Rattle.cards.specs.Laws.Good.{good, headed}
 use Rattle.chain.proofs.PassCases.{over-frame, over-past}

@@ -29,7 +29,7 @@ use Rattle.cards.specs.declared.station.Pass.{Pass}
 use Rattle.cards.specs.declared.station.Record.{Record}
 use Rattle.cards.specs.declared.station.Station.{Station}
 use Rattle.chain.proofs.Apart.{Apart, quiet, keeping, apart, past-length, chain-held}
-use Rattle.cards.specs.Laws.Bools.{or-second, or-first-only, or-map}
+use Rattle.num.specs.Laws.Bools.{or-second, or-first-only, or-map}
 use Rattle.chain.proofs.Changed.{shapes, depths, depth-is, Gentle, turned-gentle, stepped-gentle, first-shapes, first-normal, first-persists}
 use Rattle.cards.specs.Laws.Good.{Good, good, is-good, nothing-fine, nothing-idle}
 use Rattle.chain.proofs.Goes.{goes}

@@ -39,7 +39,7 @@ use Rattle.chain.specs.StillPicture.{alone, Repeats, AllStill, Stays-sti
 use Rattle.cards.specs.declared.station.Record.{Record}
 use Rattle.cards.specs.declared.station.Pass.the-variants.{Persistence}
 use Rattle.cards.specs.declared.station.Station.{Station}
-use Rattle.cards.specs.Laws.Bools.{false-true, both}
+use Rattle.num.specs.Laws.Bools.{false-true, both}
 use Rattle.chain.proofs.Goes.{goes}
 use Rattle.cards.specs.Laws.Good.{good, headed}
 use Rattle.chain.proofs.Made.{made-is}

@@ -8,7 +8,7 @@ use native.Mathlib.Omega.{arith}
 use borrow.Author.Tests.{ltb-false}
 use lib.Dec.{eqb, ltb}
 use lib.ListN.{length}
-use Rattle.num.specs.Laws.Refusals.{neither}
+use Rattle.num.specs.Laws.Bools.{neither}
 use Rattle.raster.specs.Pixels.{byteAt}
 use Rattle.events.specs.Events.{headWanted, widthIn, heightIn, countIn, outside, badSize, frameFault, Whole}
 

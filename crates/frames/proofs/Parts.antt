@@ -7,7 +7,7 @@ use native.Mathlib.Nat.{mul-le-mul}
 use native.Mathlib.Omega.{arith}
 use borrow.Author.Tests.{ne-eqb}
 use lib.Ieee.{Float}
-use lib.ListN.{length, take, drop, length-drop, take-append-drop}
+use lib.ListN.{length, take, drop, length-drop, take-append-drop, drop-of-length-le}
 use lib.Seq.{length-take-le, take-all}
 use Rattle.num.specs.Refusals.{unless}
 use Rattle.num.specs.Laws.Refusals.{refuses, accepts}
@@ -25,12 +25,6 @@ use Rattle.frames.specs.Frames.{Result, result, shown, among, replied, s
 use Rattle.frames.specs.declared.Outcome.{Outcome}
 use Rattle.frames.specs.declared.Outcome.the-variants.{NoFrame, Refused}
 use Rattle.frames.specs.declared.Filtered.{Filtered}
-
-pub drop-all : (k : ℕ) (xs : List ℕ) → length xs ≤ k → drop k xs ≡ []
-drop-all zero [] l = refl
-drop-all zero (x ∷ xs) l = absurd (omega arith)
-drop-all (suc k) [] l = refl
-drop-all (suc k) (x ∷ xs) l = drop-all k xs (omega arith)
 
 -- ## Show
 
@@ -70,7 +64,7 @@ module _ (w h : ℕ) (s : Station) (pixels words past : List ℕ) (floats : List
       → Filters (showsOf w h s pixels words past (length floats) (length ints)) (filtered o (r .station)) pixels′ words′ past′ floats floats′ ints ints′
   shows given r o pixels′ words′ past′ floats′ ints′ none e a told packed fits =
       let whole : pixels′ ≡ packedBytes words′ =
-      packed ∙ ap (λ (xs : List ℕ). packedBytes words′ ++ xs) (drop-all (3 * length words′) pixels fits) ∙ append-nil (packedBytes words′) in
+      packed ∙ ap (λ (xs : List ℕ). packedBytes words′ ++ xs) (drop-of-length-le pixels {i = 3 * length words′} fits) ∙ append-nil (packedBytes words′) in
       let same : frameReply w h s given past (length floats) (length ints) ≡ replied w h s pixels past (length floats) (length ints) = rw (e, all) in
       subst (λ (x : Result). Filters x (filtered o (r .station)) pixels′ words′ past′ floats floats′ ints ints′) (accepts k refused taken number none)
       (subst (λ (q : Framed). Filters (shown (h * w) q) (filtered o (r .station)) pixels′ words′ past′ floats floats′ ints ints′) (a .replies ∙ same)
@@ -119,7 +113,7 @@ module _ (s : Station) (file words past : List ℕ) (floats : List Float) (ints 
 
     file-back : file′ ≡ take start file ++ pixels′
     file-back =
-        ap (λ (xs : List ℕ). take start file ++ (pixels′ ++ xs)) (drop-all (length file - start) (drop start file) (simp length-drop (omega arith)))
+        ap (λ (xs : List ℕ). take start file ++ (pixels′ ++ xs)) (drop-of-length-le (drop start file) {i = length file - start} (simp length-drop (omega arith)))
         ∙ ap (λ (xs : List ℕ). take start file ++ xs) (append-nil pixels′)
 
     pub shown-in : (p : Parsed) (pixels : List ℕ) (r : Filtered) (past′ : List ℕ) (floats′ : List Float) (ints′ : List ℕ)

@@ -7,15 +7,13 @@ use native.Mathlib.Numerals.{add-one}
 use native.Mathlib.Omega.{arith}
 use borrow.Author.Tests.{leb-true, ltb-false, lt-ltb, le-ltb, eq-eqb, ne-eqb}
 use lib.Dec.{leb, ltb}
-use lib.ListN.{length, getD, drop}
+use lib.ListN.{length, getD, drop, drop-of-length-le}
 use lib.Seq.{drop-cons}
-use Rattle.num.specs.Laws.Refusals.{neither}
-use Rattle.cards.specs.Laws.Bools.{both}
+use Rattle.num.specs.Laws.Bools.{neither, both}
 use Rattle.raster.specs.Ppm.{isDigit}
 use Rattle.frames.specs.Area.{withDigit, nextNumber, broken, stepOf, unread, readOf, isLarge, namedBy, namedOf}
 use Rattle.frames.specs.declared.area.Named.the-variants.{Area, Fault}
 use Rattle.frames.specs.declared.area.Reading.{Reading}
-use Rattle.frames.proofs.Parts.{drop-all}
 
 pub digit-in : (b : ℕ) → isDigit b ≡ true → (48 ≤ b) × (b ≤ 57)
 digit-in b e = let d = both (leb 48 b) (leb b 57) e in (leb-true 48 b (d .0), leb-true b 57 (d .1))
@@ -88,4 +86,4 @@ read-next r text i l = ap (readOf r) (drop-cons text i 0 l ∙ ap (λ (n : ℕ).
 
 pub read-all : (r : Reading) (text : List ℕ) (i : ℕ) → length text ≤ i → readOf r (drop i text) ≡ r
 unfolding readOf
-read-all r text i l = ap (readOf r) (drop-all i text l)
+read-all r text i l = ap (readOf r) (drop-of-length-le text {i = i} l)

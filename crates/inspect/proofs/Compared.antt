@@ -8,7 +8,7 @@ use mathlib.Core.List.{List, [], _∷_}
 use mathlib.Core.Path.{_≡_, refl, ap₂, _∙_}
 use lib.ListN.{length, take, drop, getD, drop-of-length-le}
 use lib.Seq.{drop-drop, getD-drop, slice-cons, length-take-le}
-use Rattle.cards.specs.Laws.Bools.{false-true}
+use Rattle.num.specs.Laws.Bools.{false-true}
 use Rattle.cards.specs.Laws.Scans.{past}
 use Rattle.cards.specs.declared.station.Record.{Record}
 use Rattle.inspect.specs.Settings.{placed}

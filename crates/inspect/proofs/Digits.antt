@@ -5,7 +5,7 @@ use mathlib.Core.List.{List, [], _∷_, _++_, append-nil, append-assoc}
 use native.Mathlib.Nat.{zero-mul, suc-mul, pow-suc, add-mul, mul-assoc, mul-le-mul-right, mul-comm}
 use native.Mathlib.Numerals.{add-one, unary-clauses}
 use native.Mathlib.Omega.{arith}
-use lib.ListN.{length, getD, set, take, drop, length-set}
+use lib.ListN.{length, getD, set, take, drop, length-set, drop-of-length-le}
 use lib.Seq.{take-all, drop-length, append-snoc, drop-cons, take-suc-set, drop-set-lt, drop-drop, getD-set-same, getD-set-other}
 use Rattle.inspect.specs.Decimal.{number, Digits}
 
@@ -144,19 +144,13 @@ module _ {by more : ℕ} {ds : List ℕ} {i carry : ℕ} {out : List ℕ} (m : M
 pub done : {by more : ℕ} {ds : List ℕ} {i carry : ℕ} {out : List ℕ} → Multiplied by more ds i carry out → Digits ds → 150 ≤ i → number ds * by + more < 10 ^ 150 → Digits out × (number out ≡ number ds * by + more)
 unfolding timesOf
 done {by} {more} {ds} {i} {carry} {out} m h l small =
-    let none-left : drop i ds ≡ [] = drop-all i ds (omega (arith, h .long)) in
+    let none-left : drop i ds ≡ [] = drop-of-length-le ds {i = i} (omega (arith, h .long)) in
     let all : timesOf by more ds ≡ out =
     m .same ∙ ap (λ (xs : List ℕ). take i out ++ timesOf by carry xs) none-left ∙ append-nil (take i out) ∙ take-all i out (omega (arith, m .digits .long)) in
     let whole : number out + lastOf by more ds * 10 ^ 150 ≡ number ds * by + more =
     ap (λ (k : ℕ). number out + lastOf by more ds * 10 ^ k) (sym (h .long)) ∙ ap (λ (xs : List ℕ). number xs + lastOf by more ds * 10 ^ length ds) (sym all) ∙ times-number by more ds in
     (m .digits, kept (10 ^ 150) (lastOf by more ds) (number out) (number ds * by + more) whole small)
   where
-    drop-all : (k : ℕ) (xs : List ℕ) → length xs ≤ k → drop k xs ≡ []
-    drop-all zero [] l = refl
-    drop-all zero (x ∷ xs) l = absurd (omega arith)
-    drop-all (suc k) [] l = refl
-    drop-all (suc k) (x ∷ xs) l = drop-all k xs (omega arith)
-
     kept : (p c n w : ℕ) → n + c * p ≡ w → w < p → n ≡ w
     kept p zero n w e l = omega (arith, zero-mul p)
     kept p (suc c) n w e l = absurd (omega (arith, suc-mul c p))

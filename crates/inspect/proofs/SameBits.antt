@@ -14,7 +14,7 @@ use Rattle.cards.specs.declared.station.Pass.{Pass}
 use Rattle.cards.specs.declared.station.Pass.the-variants.{Ntsc, Bloom, AutoGradient, Persistence, Lut, Curvature, ColorCorrection, Crt, Vignette, Scanlines}
 use Rattle.cards.specs.declared.station.Record.{Record}
 use Rattle.cards.specs.declared.station.Station.{Station}
-use Rattle.cards.specs.Laws.Bools.{false-true}
+use Rattle.num.specs.Laws.Bools.{false-true}
 use Rattle.inspect.specs.Difference.{isAlike, firstOf, sameSetting, sameSwitch, settingsDifference, recordDifference, chainDifference, differenceOf}
 use Rattle.inspect.specs.Settings.{settingsOf}
 use Rattle.inspect.specs.declared.difference.Difference.{Difference}

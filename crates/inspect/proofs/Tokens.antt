@@ -9,7 +9,7 @@ use borrow.Author.Tests.{eq-eqb, ne-eqb}
 use lib.Dec.{eqb}
 use lib.ListN.{length, drop, getD, drop-of-length-le, length-append}
 use lib.Seq.{drop-cons, drop-drop}
-use Rattle.cards.specs.Laws.Bools.{false-true}
+use Rattle.num.specs.Laws.Bools.{false-true}
 use Rattle.inspect.specs.Hexadecimal.{Hex, bytes, none, digitOf, isDigit, space, before, hexOf, isHex, bytesOf}
 use Rattle.inspect.specs.Private.{pairOf, tokenOf}
 use Rattle.inspect.specs.declared.hexadecimal.Token.{Token}

@@ -1,6 +1,7 @@
--- Laws that proofs here and above cite; nothing in this folder has to be believed. Of order and bounds: Order, Within, Bounds, Index,
--- Signs, Values; of rounding and ranges: Sized, Least, Quotients, Squares, Upto; how far a rounding moves: Units. Of loops that
+-- Laws that proofs here and above cite; nothing in this folder has to be believed. Of tests: Bools; of order and bounds: Order,
+-- Within, Bounds, Index, Signs, Values; of rounding and ranges: Sized, Least, Quotients, Squares, Upto; how far a rounding moves: Units. Of loops that
 -- rewrite a slice: Rewrite; of sums: Sums; of refusals: Refusals.
+pub mod Bools
 pub mod Order
 pub mod Within
 pub mod Bounds

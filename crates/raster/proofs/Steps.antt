@@ -3,6 +3,7 @@ use Prim.Native.Nat.{ℕ}
 use mathlib.Core.Path.{_≡_, refl, ap, sym, _∙_}
 use mathlib.Core.Bool.{Bool, true, false, not, _||_}
 pub use borrow.Author.Tests.{eq-eqb, ne-eqb, lt-ltb, le-ltb}
+pub use Rattle.num.specs.Laws.Bools.{not-held, not-failed, or-left, or-right, or-neither}
 use Rattle.raster.specs.Step.{Step, took, refused, andThen, refuseIf}
 use Rattle.raster.specs.Ppm.{Size, size, parsedOf}
 use Rattle.raster.specs.Private.{numberStep, headerStep, refusalOf}
@@ -41,20 +42,5 @@ ended (Refused k) s e = ap parsedOf e
 -- tests
 pub not-asked : (r a b : Bool) → r ≡ a → not r ≡ b → not a ≡ b
 not-asked r a b e h = sym (ap not e) ∙ h
-
-pub not-held : (b : Bool) → b ≡ true → not b ≡ false
-not-held b e = rw e refl
-
-pub not-failed : (b : Bool) → b ≡ false → not b ≡ true
-not-failed b e = rw e refl
-
-pub or-left : (a b : Bool) → a ≡ true → (a || b) ≡ true
-or-left a b e = rw e refl
-
-pub or-right : (a b : Bool) → a ≡ false → b ≡ true → (a || b) ≡ true
-or-right a b e h = rw (e, h) refl
-
-pub or-neither : (a b : Bool) → a ≡ false → b ≡ false → (a || b) ≡ false
-or-neither a b e h = rw (e, h) refl
 
 pub ruleset steps = (refl, number-then, number-stops, header-then, header-stops, guard-then, guard-stops, ended, not-asked, not-held, not-failed, or-left, or-right, or-neither, eq-eqb, ne-eqb, lt-ltb, le-ltb)

@@ -13,7 +13,7 @@ use Rattle.cards.specs.Records.{kinds, among}
 use Rattle.cards.specs.declared.station.Pass.{Pass}
 use Rattle.cards.specs.declared.station.Record.{Record}
 use Rattle.cards.specs.declared.station.Station.{Station}
-use Rattle.cards.specs.Laws.Bools.{both, false-true, or-second, or-map}
+use Rattle.num.specs.Laws.Bools.{both, false-true, or-second, or-map}
 
 pub record Good (s : Station) : Type 0 where
   pub few : s .n ≤ 10

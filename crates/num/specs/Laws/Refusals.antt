@@ -7,13 +7,7 @@ use mathlib.Core.Path.{_≡_, refl, sym, ap}
 use borrow.Author.Tests.{eqb-false, ltb-false}
 use lib.Dec.{eqb, ltb}
 use Rattle.num.specs.Refusals.{badSide, unless}
-
-pub false-true : {A : Type 0} → false ≡ true → A
-false-true e = let z : _≡_ {A = ℕ} 0 1 = cc in absurd (omega arith)
-
-pub neither : (a b : Bool) → a || b ≡ false → (a ≡ false) × (b ≡ false)
-neither true b e = false-true (sym e)
-neither false b e = (refl, e)
+use Rattle.num.specs.Laws.Bools.{neither}
 
 -- a test that gives a number other than 0 went by
 pub by : (t : Bool) (k rest : ℕ) → 0 < k → cond t k rest ≡ 0 → (t ≡ false) × (rest ≡ 0)

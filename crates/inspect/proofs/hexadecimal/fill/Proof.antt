@@ -8,7 +8,7 @@ use mathlib.Core.Path.{_≡_, refl, ap, sym, _∙_}
 use denote.Ref.{now}
 use lib.ListN.{length, drop, set, getD, length-append, length-set}
 use lib.Seq.{append-snoc, drop-cons, set-at}
-use Rattle.cards.specs.Laws.Bools.{false-true}
+use Rattle.num.specs.Laws.Bools.{false-true}
 use Rattle.inspect.specs.Hexadecimal.{Hex, isHex, bytesOf}
 use Rattle.inspect.proofs.Tokens.{Read, read-none, read-space, read-pair, read-other, read-all, read-few}
 use Rattle.inspect.proofs.hexadecimal.fill.Statement.{statement}
