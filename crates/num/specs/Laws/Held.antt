@@ -1,9 +1,9 @@
 -- Laws of what a history holds: one shape is one size, and which sizes may be held. Assumes nothing.
 use Prim.Native.Nat.{ℕ, _≤_, _<_}
 use native.Mathlib.Omega.{arith}
-use mathlib.Core.Bool.{true, false}
-use mathlib.Core.Path.{_≡_, refl, ap₂}
-use borrow.Author.Tests.{eqb-true, le-leb, ne-eqb}
+use mathlib.Core.Bool.{true, _&&_}
+use mathlib.Core.Path.{_≡_, ap₂}
+use borrow.Author.Tests.{eqb-true, leb-true, le-leb, ne-eqb}
 use lib.Dec.{leb, eqb}
 use Rattle.num.specs.Held.{Held, sized, sameHeld, fineHeld}
 use Rattle.num.specs.Laws.Bools.{both}

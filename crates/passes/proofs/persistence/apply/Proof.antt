@@ -32,13 +32,13 @@ module _ (amount : Float) (k : ℕ) (frame : List ℕ) (held size : Held) (past 
   begins e p = rw (p, sym asked ∙ e)
 
 -- as many words of the scratch as the frame has
-front : (c : tie.After-follow-arg3) → let a = c .before .before .before .before .before .before .before .args in
+front : (c : tie.After-follow-arg3) → let a = c .before .before .before .before .before .before .before .before .args in
     length (take (length (a .frame .now)) (a .scratch .now)) ≡ length (a .frame .now)
 front c = length-take-le _ _ (omega arith)
 
 follow-requires : tie.Need-follow-requires
 follow-requires c κs =
-    let p = c .before .before .before .before .before .before .before .pre in
+    let p = c .before .before .before .before .before .before .before .before .pre in
     (p .0, p .1, front c, p .3)
 
 returns : tie.Need-returns
@@ -46,19 +46,19 @@ returns c =
     let after = c .before .before .before .before .before .before in
     let arg = after .before in
     let if1 = arg .before .before .before in
-    let a = if1 .before .before .before .before .args in (
-      follows (a .amount) (a .depth) (a .frame .now) (a .held) (a .history .now) (if1 .if1 .taken) (after .follow .ensures .0) (after .follow .ensures .1),
+    let a = if1 .before .before .before .before .before .args in (
+      follows (a .amount) (a .depth) (a .frame .now) (a .held) (a .size) (a .history .now) (if1 .before .same .ensures) (if1 .if1 .taken) (after .follow .ensures .0) (after .follow .ensures .1),
       drop-at (after .follow .last .1 .1 .0) (drop (length (a .frame .now)) (a .scratch .now)) (length (a .frame .now)) (after .follow .kept .1 .1 .0 ∙ front arg),
     )
 
 returns-2 : tie.Need-returns-2
 returns-2 c =
     let if1 = c .before .before .before .before .before in
-    let a = if1 .before .before .before .before .args in
-    (begins (a .amount) (a .depth) (a .frame .now) (a .held) (a .history .now) (if1 .if1 .left) (c .before .before .refill .ensures), refl)
+    let a = if1 .before .before .before .before .before .args in
+    (begins (a .amount) (a .depth) (a .frame .now) (a .held) (a .size) (a .history .now) (if1 .before .same .ensures) (if1 .if1 .left) (c .before .before .refill .ensures), refl)
 
 pub apply-spec : {M : Type 1} → statement M
 apply-spec =
     tie.close
-    (tie.spec (λ c. search needs) (λ c. search needs) (λ c. sym (front c)) follow-requires (λ c. search needs) (λ c. search needs) (λ c. search needs) returns
-    (λ c κs. search needs) (λ c. search needs) (λ c. search needs) (λ c. search needs) returns-2)
+    (tie.spec (λ c κs. tt) (λ c. search needs) (λ c. sym (front c)) follow-requires (λ c. search needs) (λ c. search needs) (λ c. search needs) returns
+    (λ c κs. search needs) (λ c. search needs) (λ c. search needs) returns-2)
