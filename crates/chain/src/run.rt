@@ -1,7 +1,9 @@
 // A frame's way through the chain: the passes that are on, in the card's order, each known by its promise alone. It assumes that the station
 // is good and that enough is lent, which `refusals` has tested.
 ghost use mathlib.Core.Path.{_≡_};
+ghost use Prim.Native.Nat.{_≤_};
 ghost use lib.ListN.{length, take};
+ghost use Rattle.num.specs.Held.{sized};
 ghost use Rattle.passes.specs.Flow.{flow};
 ghost use Rattle.passes.specs.Painted.{painted};
 ghost use Rattle.chain.specs.Chain.{over, turn, chain};
@@ -24,6 +26,17 @@ use passes::vignette;
 pub(crate) struct Run {
     pub(crate) held: Size,
     pub(crate) clipped: u32,
+}
+
+// The size of a frame, as the history remembers it.
+pub(crate) fn size_of(width: usize, height: usize) -> Size
+    requires { ⌜ (width ≤ 1024) × (height ≤ 1024) ⌝ }
+    ensures { λ r. ⌜ r ≡ sized width height ⌝ }
+{
+    Size {
+        width: width as u16,
+        height: height as u16,
+    }
 }
 
 // One pass.
@@ -78,10 +91,7 @@ pub(crate) fn run_pass(
             Run { held, clipped }
         }
         Pass::Persistence { amount, depth } => {
-            let size = Size {
-                width: width as u16,
-                height: height as u16,
-            };
+            let size = size_of(width, height);
             let kept = persistence::apply(frame, history, ints, amount, depth, held, size);
             let held = kept.held;
             let clipped = kept.clipped;

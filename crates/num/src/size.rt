@@ -23,10 +23,7 @@ pub struct Size {
 pub fn same(a: Size, b: Size) -> bool
     ensures { λ r. ⌜ r ≡ sameHeld a b ⌝ }
 {
-    if a.width != b.width {
-        return false;
-    }
-    a.height == b.height
+    a.width == b.width && a.height == b.height
 }
 
 // Whether a history may hold that: no side above 1024, and both are 0 or neither is.
