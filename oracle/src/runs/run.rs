@@ -171,6 +171,7 @@ fn play(
         called.push(call.to_string());
         sides.call(&call, random, tally, met)?;
     }
+    sides.every_kind(tally)?;
     every_bit(&sides.state, tally)
 }
 

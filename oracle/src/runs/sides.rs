@@ -73,11 +73,32 @@ impl Sides {
                 let here = bridge::depth(&self.state);
                 answered(here, self.machine.depth())?
             }
+            Call::Enabled(kind) => self.enabled(*kind)?,
+            Call::Preset => {
+                let here = bridge::preset(&self.state);
+                answered(here, self.machine.preset())?
+            }
         };
         same("state", self.state, self.machine.state())?;
         same_words("history", &self.history, &self.machine.history)?;
         tally.called(asked, self.history.len());
         self.note(call, before.as_ref(), asked, met);
+        Ok(())
+    }
+
+    /// Asks the switch of that kind on both sides.
+    fn enabled(&self, kind: u8) -> Held<Answer> {
+        let here = bridge::enabled(&self.state, kind);
+        answered(here, self.machine.enabled(kind))
+    }
+
+    /// The same of every byte, kind or not.
+    pub fn every_kind(&self, tally: &mut RunTally) -> Held {
+        for kind in 0..=255 {
+            let asked = self.enabled(kind);
+            let asked = asked.map_err(|text| format!("the switch of kind {kind}: {text}"))?;
+            tally.called(asked, 0);
+        }
         Ok(())
     }
 
@@ -150,6 +171,15 @@ impl Sides {
             }
             (Call::Depth, Ok(_), _) => met.note(Case::Depth),
             (Call::Depth, Err(number), _) => met.note(Case::DepthRefused(number)),
+            (Call::Enabled(_), Ok(on), _) => met.note(Case::Enabled(on != 0)),
+            (Call::Enabled(kind), Err(number), _) => {
+                met.note(Case::EnabledRefused(number));
+                if number == 12 && !(1..=10).contains(kind) {
+                    met.note(Case::EnabledUnknown);
+                }
+            }
+            (Call::Preset, Ok(preset), _) => met.note(Case::Preset(preset)),
+            (Call::Preset, Err(number), _) => met.note(Case::PresetRefused(number)),
             (_, Ok(_), None) => panic!("a bad station takes no call"),
         }
     }
