@@ -111,7 +111,7 @@ stepLut = onFirst 5 stepped
 abbrev pub stepReply : Station → Reply
 stepReply s = unless (lacks s 5) (refusing s) (reply (acceptance (presets (stepLut (chainOf s)))) (rechain (stepLut (chainOf s)) s))
 
--- ## Questions: what stands now, with no station given back
+-- ## Questions: what stands now. No station is given back, so they are no calls of the plain machine (Machine)
 
 -- what f tells of the first record of that kind
 unfoldable pub ofFirst : ℕ → (Record → List ℕ) → List Record → List ℕ

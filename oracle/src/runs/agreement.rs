@@ -254,14 +254,6 @@ impl Own {
                 let asked = self.station.depth().unwrap_or_default() as u32;
                 (bridge::depth(&self.state), Ok(asked))
             }
-            Call::Enabled(kind) => (
-                bridge::enabled(&self.state, *kind),
-                self.station.enabled(*kind),
-            ),
-            Call::Preset => (
-                bridge::preset(&self.state),
-                self.station.preset().ok_or(12),
-            ),
         };
         tally.called(asked, 0);
         if (here, self.state) != (asked, self.station.state()) {

@@ -18,9 +18,6 @@ pub enum Call {
     /// Into a buffer of this length.
     Write(usize),
     Depth,
-    /// Of this kind.
-    Enabled(u8),
-    Preset,
 }
 
 #[derive(Clone)]
@@ -58,8 +55,6 @@ impl fmt::Display for Call {
             Call::Step => write!(f, "step"),
             Call::Write(room) => write!(f, "write {room}"),
             Call::Depth => write!(f, "depth"),
-            Call::Enabled(kind) => write!(f, "enabled {kind}"),
-            Call::Preset => write!(f, "preset"),
         }
     }
 }
@@ -122,16 +117,14 @@ const PAST: usize = 16;
 
 /// The next call on a station whose own history buffer has `room` words.
 pub fn next(station: &Station, sizes: &mut Sizes, room: usize, random: &mut Random) -> Call {
-    match random.below(68) {
+    match random.below(64) {
         0..40 => good(station, sizes, room, random),
         40..46 => faulty(station, sizes, room, random),
         46..48 => Call::Reset,
         48..55 => switch(station, random),
         55..59 => Call::Step,
         59..62 => write(station, random),
-        62..64 => Call::Depth,
-        64..67 => Call::Enabled(kind(station, random)),
-        _ => Call::Preset,
+        _ => Call::Depth,
     }
 }
 
@@ -222,23 +215,18 @@ fn bad_size((width, height): (usize, usize), random: &mut Random) -> (usize, usi
     random.choose(&[(bad, height), (width, bad), (bad, bad)])
 }
 
-/// Mostly one of the chain.
-fn kind(station: &Station, random: &mut Random) -> u8 {
+/// Mostly of a kind in the chain. Persistence is switched on more often than off, so that a history is met.
+fn switch(station: &Station, random: &mut Random) -> Call {
     let any = random.word() as u8;
     let kinds: Vec<u8> = station.records().iter().map(|r| r.kind as u8).collect();
     let known = random.within(1, 10) as u8;
-    match random.below(16) {
+    let kind = match random.below(16) {
         0 => random.choose(&[0, 11, 15, 16, 255, any]),
         1..4 => known,
         4..7 => PERSISTENCE as u8,
         _ if kinds.is_empty() => known,
         _ => random.choose(&kinds),
-    }
-}
-
-/// Persistence is switched on more often than off, so that a history is met.
-fn switch(station: &Station, random: &mut Random) -> Call {
-    let kind = kind(station, random);
+    };
     let off = random.one_in(if u32::from(kind) == PERSISTENCE { 4 } else { 2 });
     let on = random.choose(&[1, 1, 2, 128, 255]);
     Call::Switch(kind, if off { 0 } else { on })

@@ -62,7 +62,7 @@ pub enum Case {
     Depth,
     /// A pass that was told to be off, and one that was told to be on.
     Enabled(bool),
-    /// A kind byte that is no kind, asked for its switch.
+    /// A byte that is no kind, asked for its switch and refused by 12.
     EnabledUnknown,
     /// A preset that was told.
     Preset(u32),

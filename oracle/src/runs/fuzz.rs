@@ -150,15 +150,7 @@ fn call(tape: &mut Tape, sides: &Sides) -> Call {
         10..12 => Call::Switch(tape.byte(), tape.byte()),
         12 | 13 => Call::Step,
         14 => Call::Write(tape.byte().into()),
-        _ => question(tape),
-    }
-}
-
-fn question(tape: &mut Tape) -> Call {
-    match tape.byte() % 4 {
-        0 => Call::Depth,
-        1 => Call::Preset,
-        _ => Call::Enabled(tape.byte()),
+        _ => Call::Depth,
     }
 }
 
