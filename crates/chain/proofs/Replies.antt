@@ -10,13 +10,13 @@ use Rattle.num.specs.Refusals.{unless, accepts}
 use Rattle.cards.specs.Alike.{chainOf}
 use Rattle.cards.specs.Answers.{refusal, acceptance, Reply, reply, refusing}
 use Rattle.chain.specs.Calls.{hold, rechain, lacks, onFirst, ofFirst, heldAfter, turned, switched, switchReply, stepped, steppedPass, presetOf, presets, stepLut, stepReply}
-use Rattle.chain.specs.Lent.{First}
+use Rattle.chain.specs.Lent.{First, Stands}
 use Rattle.cards.specs.Normal.{goodStation}
 use Rattle.cards.specs.Records.{kinds, among}
 use Rattle.cards.specs.declared.station.Pass.{Pass}
 use Rattle.cards.specs.declared.station.Record.{Record}
 use Rattle.cards.specs.declared.station.Station.{Station}
-use Rattle.chain.proofs.First.{first-set, first-told, one-preset}
+use Rattle.chain.proofs.First.{first-set, one-preset}
 use Rattle.cards.specs.Good.{Good, good}
 use Rattle.cards.specs.Scans.{past}
 
@@ -48,12 +48,10 @@ module _ (kind : ℕ) (s : Station) (i : ℕ) (t : First kind (s .n) (s .records
       ∙ ap (reply (acceptance [])) (placed (turned on) (heldAfter kind on (s .held)))
       ∙ accepts (lacks s kind) (refusing s) (reply (acceptance []) (switched kind on s)) refl none
 
-  -- what is asked of it
-  pub tells : (f : Record → List ℕ) {ns : List ℕ} → ns ≡ f (getD (s .records) i past)
-      → acceptance ns ≡ unless (lacks s kind) refusal (acceptance (ofFirst kind f (chainOf s)))
-  tells f e =
-      ap acceptance (e ∙ sym (first-told kind (s .n) f (s .records) i past t room))
-      ∙ accepts (lacks s kind) refusal (acceptance (ofFirst kind f (chainOf s))) refl none
+-- what is asked of the record of that kind
+pub tells : (kind : ℕ) (s : Station) {r : Record} → Stands kind (chainOf s) r → lacks s kind ≡ 0 → (f : Record → List ℕ) {ns : List ℕ} → ns ≡ f r
+    → acceptance ns ≡ unless (lacks s kind) refusal (acceptance (ofFirst kind f (chainOf s)))
+tells kind s t none f e = ap acceptance (e ∙ sym (t .told f)) ∙ accepts (lacks s kind) refusal (acceptance (ofFirst kind f (chainOf s))) refl none
 
 -- the LUT's preset, which is the only one
 pub cycles : (s : Station) (i : ℕ) → First 5 (s .n) (s .records) i → s .n ≤ length (s .records) → lacks s 5 ≡ 0

@@ -7,8 +7,8 @@ ghost use mathlib.Core.List.{[], _∷_};
 ghost use lib.ListN.{take};
 ghost use Rattle.cards.specs.Alike.{chainOf};
 ghost use Rattle.chain.specs.Chain.{depth as depthIn};
-ghost use Rattle.chain.specs.Calls.{heldAfter, next as nextOf, steppedPass, presetOf, resetReply, switchReply, stepReply, enabledReport, presetReport};
-ghost use Rattle.chain.specs.Lent.{First};
+ghost use Rattle.chain.specs.Calls.{lacks as lacksAt, heldAfter, next as nextOf, steppedPass, presetOf, resetReply, switchReply, stepReply, enabledReport, presetReport};
+ghost use Rattle.chain.specs.Lent.{First, Stands};
 ghost use Rattle.cards.specs.Passes.{kindOf};
 ghost use Rattle.chain.specs.Answers.{called, cycled, asked, Applies};
 ghost use Rattle.cards.specs.Records.{kinds, among};
@@ -264,6 +264,17 @@ pub fn cycle_lut(station: Station) -> Cycled
     }
 }
 
+// The record of that kind, where `lacks` refuses nothing.
+pub(crate) fn record_of(station: Station, kind: u8) -> Record
+    requires { ⌜ lacksAt station kind ≡ 0 ⌝ }
+    ensures { λ r. ⌜ Stands kind (chainOf station) r ⌝ }
+{
+    let n = station.n;
+    let records = station.records;
+    let at = place(records, n, kind);
+    records[at]
+}
+
 // Whether the pass of that kind is on: 1, or 0 where it is off.
 pub fn enabled(station: Station, kind: u8) -> Asked
     ensures { λ r. ⌜ asked r ≡ enabledReport kind station ⌝ }
@@ -272,10 +283,7 @@ pub fn enabled(station: Station, kind: u8) -> Asked
     if refusal != 0 {
         return Asked::Refused(refusal);
     }
-    let n = station.n;
-    let records = station.records;
-    let at = place(records, n, kind);
-    let r = records[at];
+    let r = record_of(station, kind);
     let on = r.on;
     if on {
         return Asked::Number(1);
@@ -291,10 +299,7 @@ pub fn preset(station: Station) -> Asked
     if refusal != 0 {
         return Asked::Refused(refusal);
     }
-    let n = station.n;
-    let records = station.records;
-    let at = place(records, n, 5);
-    let r = records[at];
+    let r = record_of(station, 5);
     let pass = r.pass;
     Asked::Number(preset_of(pass))
 }
