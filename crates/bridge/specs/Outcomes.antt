@@ -97,7 +97,8 @@ abbrev pub freed : (number k : ℕ) → ℕ
 freed number k = cond (eqb number 0) k 0
 
 -- what a frame promises: the number, the state, the framebuffer, the history, the number of clipped channels, and the scratch words that stay
-pub record Frames (w h : ℕ) (b words past : List ℕ) (floats : List Float) (ints clipped : List ℕ) (number : ℕ) (b′ words′ past′ : List ℕ) (floats′ : List Float) (ints′ clipped′ : List ℕ) : Type 0 where
+pub record Frames (w h : ℕ) (b words past : List ℕ) (floats : List Float) (ints clipped : List ℕ)
+    (number : ℕ) (b′ words′ past′ : List ℕ) (floats′ : List Float) (ints′ clipped′ : List ℕ) : Type 0 where
   pub replies : shown number b′ words′ past′ clipped′ ≡ frameShown w h b words past (length floats) (length ints) clipped
   pub floats-stay : drop (freed number (6 * (h * w))) floats′ ≡ drop (freed number (6 * (h * w))) floats
   pub ints-stay : drop (freed number (h * w)) ints′ ≡ drop (freed number (h * w)) ints

@@ -64,7 +64,8 @@ pub extern "C" fn hedgemallow_open(card: &[u8], state: &mut [u8; 80]) -> u32
 // The station's card at the start of the buffer, and its length.
 #[no_mangle]
 pub extern "C" fn hedgemallow_write(state: &[u8; 80], buffer: &mut [u8]) -> u32
-    ensures { λ r. ⌜ (r ≡ writeTold (now (state .entry)) (now (buffer .entry))) × (now (buffer .exit) ≡ writeLeft (now (state .entry)) (now (buffer .entry))) ⌝ }
+    ensures { λ r. ⌜ (r ≡ writeTold (now (state .entry)) (now (buffer .entry)))
+        × (now (buffer .exit) ≡ writeLeft (now (state .entry)) (now (buffer .entry))) ⌝ }
 {
     let opened = decode(*state);
     let answer = opened.answer;
@@ -224,7 +225,8 @@ pub extern "C" fn hedgemallow_areas(
     result: &mut [u64],
     read: &mut [u32; 1],
 ) -> u32
-    ensures { λ r. ⌜ (r, (now (read .exit), now (result .exit))) ≡ judgedTold (now (read .entry)) (judged (now (picture .entry)) width height (now (areas .entry)) (now (result .entry))) ⌝ }
+    ensures { λ r. ⌜ (r, (now (read .exit), now (result .exit)))
+        ≡ judgedTold (now (read .entry)) (judged (now (picture .entry)) width height (now (areas .entry)) (now (result .entry))) ⌝ }
 {
     let answer = areas::totals(picture, width, height, areas, result);
     match answer {
