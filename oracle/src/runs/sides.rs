@@ -111,8 +111,8 @@ impl Sides {
 
     fn ask_preset(&self, met: &mut Met<Case>) -> Held {
         let here = bridge::preset(&self.state);
-        let asked = answered(here, self.machine.preset())
-            .map_err(|text| format!("the preset, {text}"))?;
+        let asked =
+            answered(here, self.machine.preset()).map_err(|text| format!("the preset, {text}"))?;
         met.note(asked.map_or_else(Case::PresetRefused, Case::Preset));
         Ok(())
     }
