@@ -810,7 +810,7 @@ pub struct Total {
 }
 
 /// In a list of the comparison at least so many frames have to be turned: else it shows little of them.
-const LEAST_TURNED: u64 = 250;
+const LEAST_TURNED: u64 = 150;
 
 impl Total {
     /// Prints a step's count and adds it.
