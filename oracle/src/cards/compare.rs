@@ -13,12 +13,8 @@ const MARK: u8 = 0xa5;
 /// The longest card has 72 bytes.
 const ROOM: usize = 80;
 
-/// What a station is made to remember: nothing, sizes at the limits, and such as no station may remember.
-const HELD: [Size; 16] = [
-    NOTHING,
-    NOTHING,
-    NOTHING,
-    NOTHING,
+/// What a station is made to remember, where it is something: sizes at the limits, and such as no station may remember.
+const HELD: [Size; 12] = [
     (1, 1),
     (1, 1024),
     (1024, 1),
@@ -77,7 +73,11 @@ fn full() -> Vec<u8> {
 /// Opens and writes one card on both sides. Some buffers are too short, and some stations are
 /// handed back with a history that they cannot have.
 fn one(card: &[u8], random: &mut Random, tally: &mut CardTally) {
-    let held = random.choose(&HELD);
+    let held = if random.one_in(2) {
+        random.choose(&HELD)
+    } else {
+        NOTHING
+    };
     let room = if random.one_in(4) {
         random.below(ROOM)
     } else {
