@@ -144,7 +144,7 @@ near-picture amount k size x y same long some near =
     let words = x .frame .words in
     let blends : blend amount k (x .past) words ≡ blend amount k (y .past) words =
     sym (blend-take amount k (x .past) words)
-    ∙ ap (λ (l : List ℕ). blend amount k l words) (subst (λ (n : ℕ). take (k * n) (x .past) ≡ take (k * n) (y .past)) (t ∙ sym long) (near .places))
+    ∙ ap (λ (l : List ℕ). blend amount k l words) (subst (λ (n : ℕ). take (k * n) (x .past) ≡ take (k * n) (y .past)) (ap area t ∙ sym long) (near .places))
     ∙ blend-take amount k (y .past) words in
     ap (λ (b : Painted). painted (b .words) (x .frame .clipped + b .clipped)) blends
     ∙ ap (onto (blend amount k (y .past))) same)
