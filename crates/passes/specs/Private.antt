@@ -88,9 +88,9 @@ at line i = getD line i nan
 abbrev pub cell : List Float → ℕ → ℕ → ℕ → Float
 cell plane w x y = at plane (y * w + x)
 
--- a line of 1024 places that begins with n values of f
-pub record Begins (n : ℕ) (f : ℕ → Float) (line : List Float) : Type 0 where
-  pub long : length line ≡ 1024
+-- a line of that many places, which begins with n values of f
+pub record Begins (places n : ℕ) (f : ℕ → Float) (line : List Float) : Type 0 where
+  pub long : length line ≡ places
   pub value : (x : ℕ) → x < n → at line x ≡ f x
 
 -- ---- the blur's offsets, four at a time

@@ -11,7 +11,6 @@ ghost use Rattle.passes.specs.Plain.Persistence as Persistence;
 ghost use Rattle.passes.specs.Plain.Pixel.{channel, rgb, unpack};
 ghost use Rattle.passes.specs.Painted.{painted};
 ghost use Rattle.passes.specs.Private.{at, Begins, markClamped, blendedWord, mixedChannel};
-use crate::blur;
 use crate::marks;
 use crate::pixel;
 use crate::pixel::Rgb;
@@ -95,6 +94,13 @@ fn mix_line(
     }
 }
 
+// Room for a line. So few words of the frame and of each place of the history stay near from one channel to the next.
+fn short() -> [f32; 128]
+    ensures { λ r. ⌜ length r ≡ 128 ⌝ }
+{
+    [0.0; 128]
+}
+
 // The same at the front of a line of its own.
 fn channel_line(
     row: &[u32],
@@ -104,11 +110,12 @@ fn channel_line(
     ws: &[f32],
     history: &[u32],
     which: usize,
-) -> [f32; 1024]
-    requires { ⌜ (length (now row) ≤ 1024) × (at + length (now row) ≤ n) × (length (now ws) * n ≤ length (now history)) ⌝ }
-    ensures { λ r. ⌜ Begins (length (now (row .entry))) (mixedChannel w (now (ws .entry)) (now (history .entry)) (now (row .entry)) n at which) r ⌝ }
+) -> [f32; 128]
+    requires { ⌜ (length (now row) ≤ 128) × (at + length (now row) ≤ n) × (length (now ws) * n ≤ length (now history)) ⌝ }
+    ensures { λ r. ⌜ Begins 128 (length (now (row .entry)))
+        (mixedChannel w (now (ws .entry)) (now (history .entry)) (now (row .entry)) n at which) r ⌝ }
 {
-    let mut line = blur::line();
+    let mut line = short();
     mix_line(&mut line[..row.len()], row, at, n, w, ws, history, which);
     line
 }
@@ -132,7 +139,7 @@ fn finish_row(row: &mut [u32], r: &[f32], g: &[f32], b: &[f32])
 
 // A row that begins at word `at` of a frame of n, by way of a line for each channel.
 fn blend_row(row: &mut [u32], at: usize, n: usize, w: f32, ws: &[f32], history: &[u32])
-    requires { ⌜ (length (now row) ≤ 1024) × (at + length (now row) ≤ n) × (length (now ws) * n ≤ length (now history)) ⌝ }
+    requires { ⌜ (length (now row) ≤ 128) × (at + length (now row) ≤ n) × (length (now ws) * n ≤ length (now history)) ⌝ }
     ensures { λ _. ⌜ now (row .exit) ≡ every (λ x. blendedWord w (λ j. getD (now (ws .entry)) j nan) (length (now (ws .entry)))
         (now (history .entry)) n (at + x)) (now (row .entry)) ⌝ }
 {
@@ -142,12 +149,12 @@ fn blend_row(row: &mut [u32], at: usize, n: usize, w: f32, ws: &[f32], history: 
     finish_row(row, &r, &g, &b);
 }
 
-// Where the row from `at` on ends: a line has room for 1024 words.
+// Where the row from `at` on ends: a line has room for 128 words.
 fn row_end(at: usize, n: usize) -> usize
     requires { ⌜ at < n ⌝ }
-    ensures { λ r. ⌜ (at < r) × (r ≤ n) × (r ≤ at + 1024) ⌝ }
+    ensures { λ r. ⌜ (at < r) × (r ≤ n) × (r ≤ at + 128) ⌝ }
 {
-    if n - at < 1024 { n } else { at + 1024 }
+    if n - at < 128 { n } else { at + 128 }
 }
 
 // Each place of the history gets the frame.
@@ -238,8 +245,9 @@ fn follow(
     let mut ws = line();
     weights(&mut ws[..depth], amount, sum);
     blend_rows(frame, 1.0 / sum, &ws[..depth], history);
+    let clipped = marks::collect(frame);
     shift(history, carried, depth);
-    marks::collect(frame)
+    clipped
 }
 
 // What the history then holds, and how many channels were clipped.
