@@ -1,8 +1,8 @@
 -- What adding 2 ^ 23 does to a value from 0 to below 2 ^ 23: the sum is rounded to a whole number, at most a half away, whose last digits stand in
 -- the bit pattern. Assumes nothing.
 use mathlib.Core.Path.{_≡_, refl, sym, ap, _∙_, subst}
-use Prim.Native.Nat.{ℕ, zero, suc, _+_, _-_, _*_, _/_, _%_, _^_, _≤_, _<_, zero-le, suc-le-suc, compare, Ordering, Ordering·lt, Ordering·eq, Ordering·gt}
-use native.Mathlib.Nat.{le-trans, le-of-eq, lt-of-lt-of-le, not-suc-le-zero, zero-mul, mul-left-comm, mul-one, mul-assoc, mul-right-comm, mul-pos, add-mul, suc-mul, add-zero, one-mul, le-of-suc-le-suc, lt-of-mul-lt-mul-right, mul-le-mul-right, mul-lt-mul-of-pos-right, mod-lt, div-add-mod', le-div-iff-mul-le, div-lt-iff-lt-mul, div-eq-of-lt-le}
+use Prim.Native.Nat.{ℕ, zero, suc, _+_, _-_, _*_, _/_, _%_, _^_, _≤_, _<_, compare, Ordering, Ordering·lt, Ordering·eq, Ordering·gt}
+use native.Mathlib.Nat.{le-trans, le-of-eq, lt-of-lt-of-le, mul-left-comm, mul-one, mul-assoc, mul-right-comm, mul-pos, add-mul, suc-mul, add-zero, one-mul, le-of-suc-le-suc, lt-of-mul-lt-mul-right, mul-le-mul-right, mul-lt-mul-of-pos-right, mod-lt, div-add-mod', le-div-iff-mul-le, div-lt-iff-lt-mul, div-eq-of-lt-le}
 use native.Mathlib.Omega.{arith}
 use mathlib.Core.Bool.{Bool, false, not}
 use lib.Dec.{T, isLe, isEq, leb→le, nleb→lt, eqb→eq, ltb→lt, lt→ltb, lit<, lit≤}
@@ -118,15 +118,19 @@ summed (fin false m e) h =
     shifted : (x y C : ℕ) → x ≡ y + 16777216 → x * (C * 1) ≡ y * C + 16777216 * C
     shifted x y C e = ap (λ (k : ℕ). k * (C * 1)) e ∙ ap (λ (k : ℕ). (y + 16777216) * k) (mul-one C) ∙ add-mul y 16777216 C
 
+-- what a pattern that is a base and n tells: no NaN, and n
+pub past : (x : Float) (base n : ℕ) → x ≡ ofBits binary32 (base + n) → base + n < 0x7f80_0000
+    → T (not (isNan x)) × (base ≤ toBits binary32 x) × (toBits binary32 x - base ≡ n)
+past x base n e small =
+    let number : T (not (isNan (ofBits binary32 (base + n)))) = subst (λ (b : Bool). T (not b)) (nanBits-is binary32 (base + n)) (no-nan (base + n) small) in
+    let bits : toBits binary32 x ≡ base + n = ap (toBits binary32) e ∙ toBits-ofBits binary32 (base + n) (omega arith) number in
+    (subst (λ (y : Float). T (not (isNan y))) (sym e) number, omega arith, omega arith)
+
 pub sum-bits : (v : Float) → T (under 8388608 v) → T (not (isNan (sumOf v))) × (1258291200 ≤ toBits binary32 (sumOf v)) × Near v (toBits binary32 (sumOf v) - 1258291200)
 sum-bits v h =
     let s = summed v h in
-    let n = s .0 in
-    let small : n ≤ 8388608 = s .3 in
-    let number : T (not (isNan (ofBits binary32 (1258291200 + n)))) = subst (λ (b : Bool). T (not b)) (nanBits-is binary32 (1258291200 + n)) (no-nan (1258291200 + n) (omega arith)) in
-    let bits : toBits binary32 (sumOf v) ≡ 1258291200 + n = ap (toBits binary32) (s .1) ∙ toBits-ofBits binary32 (1258291200 + n) (omega arith) number in
-    let is : toBits binary32 (sumOf v) - 1258291200 ≡ n = omega arith in
-    (subst (λ (x : Float). T (not (isNan x))) (sym (s .1)) number, omega arith, subst (Near v) (sym is) (s .2))
+    let p = past (sumOf v) 1258291200 (s .0) (s .1) (omega (arith, s .3)) in
+    (p .0, p .1, subst (Near v) (sym (p .2)) (s .2))
 
 -- a whole number near a value below k is at most k
 pub near-le : (k n : ℕ) (v : Float) → T (under k v) → Near v n → n ≤ k

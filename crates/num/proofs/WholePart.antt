@@ -12,12 +12,10 @@ use lib.Pow.{pow-add}
 use lib.Ieee.{Float, nan, inf, fin, binary32, up, down, add, isNan, lt, ofBits, toBits}
 use lib.Ieee.Fits.{down-pos}
 use lib.Ieee.Nearest.{closest, closest-mono}
-use lib.Ieee.Bits.{toBits-ofBits, nanBits-is}
 use Rattle.num.specs.Const.{c0·25, c4194303·75}
 use Rattle.num.specs.Private.{under, floorOf}
 use Rattle.num.specs.Steps.{maxOf}
-use Rattle.num.proofs.NearWhole.{closest-near, at-least, at-most, rounded-bits}
-use Rattle.num.proofs.Patterns.{no-nan}
+use Rattle.num.proofs.NearWhole.{closest-near, at-least, at-most, rounded-bits, past}
 
 -- ---- how many halves there are past 2 ^ 22, for the value A / C
 
@@ -111,9 +109,5 @@ summed (fin false m e) h = go (lt c0·25 (fin false m e)) refl
 pub sum-bits : (v : Float) → T (under 1024 v) → T (not (isNan (sumOf v))) × (1249902592 ≤ toBits binary32 (sumOf v)) × ((toBits binary32 (sumOf v) - 1249902592) / 2 ≡ floorOf v)
 sum-bits v h =
     let s = summed v h in
-    let n = s .0 in
-    let small : n ≤ 8388608 = s .3 in
-    let number : T (not (isNan (ofBits binary32 (1249902592 + n)))) = subst (λ (b : Bool). T (not b)) (nanBits-is binary32 (1249902592 + n)) (no-nan (1249902592 + n) (omega arith)) in
-    let bits : toBits binary32 (sumOf v) ≡ 1249902592 + n = ap (toBits binary32) (s .1) ∙ toBits-ofBits binary32 (1249902592 + n) (omega arith) number in
-    let is : toBits binary32 (sumOf v) - 1249902592 ≡ n = omega arith in
-    (subst (λ (x : Float). T (not (isNan x))) (sym (s .1)) number, omega arith, subst (λ (k : ℕ). k / 2 ≡ floorOf v) (sym is) (s .2))
+    let p = past (sumOf v) 1249902592 (s .0) (s .1) (omega (arith, s .3)) in
+    (p .0, p .1, subst (λ (k : ℕ). k / 2 ≡ floorOf v) (sym (p .2)) (s .2))

@@ -1,12 +1,12 @@
 -- Game Boy's level. A word's channels as 0..1 are none of them negative, so their luma is from +0 to 3, and three times that from +0 to 9. There
 -- `nearest`, as a float, is `round`. Assumes nothing.
-use mathlib.Core.Path.{_≡_, refl, sym, ap, _∙_, subst}
+use mathlib.Core.Path.{_≡_, refl, ap, _∙_, subst}
 use Prim.Native.Nat.{ℕ, _*_, _/_, _%_, _+_, _≤_, _<_}
 use native.Mathlib.Omega.{arith}
-use mathlib.Core.Bool.{Bool, true, false, true≢false}
+use mathlib.Core.Bool.{true, false, true≢false}
 use lib.IntN.{pos}
 use lib.Dec.{T, lit<, lit≤}
-use lib.Ieee.{Float, nan, inf, fin, binary32, up, down, round, add, mul, div, sum, ofInt, ofBits}
+use lib.Ieee.{Float, fin, binary32, up, down, add, mul, div, sum, ofInt, ofBits}
 use lib.Ieee.Fits.{down-pos}
 use lib.Ieee.Exact.{HasValue}
 use Rattle.num.specs.Bounds.{cut-round}
