@@ -4,10 +4,9 @@ use native.Mathlib.Omega.{arith}
 use mathlib.Core.Path.{_≡_, refl, ap, ap₂, sym, _∙_}
 use mathlib.Core.Bool.{true, _&&_}
 use mathlib.Core.List.{List, _++_, append-assoc}
-use borrow.Author.Tests.{leb-true}
 use lib.ListN.{length, getD, take, replicate}
 use lib.Seq.{take-append-seam, getD-append-add}
-use Rattle.num.specs.Held.{Held, nothing, sameHeld, fineHeld}
+use Rattle.num.specs.Held.{Held, nothing, sized, sameHeld, fineHeld}
 use Rattle.cards.specs.Answers.{ok, Reply}
 use Rattle.chain.specs.Calls.{hold}
 use Rattle.cards.specs.Card.{accepted, openOf}
@@ -22,13 +21,9 @@ use Rattle.bridge.specs.State.{padded, heldBytes, laid, encoded, cardIn,
 use Rattle.bridge.proofs.Bytes.{same-itself}
 use Rattle.bridge.proofs.Laid.{padded-long}
 
--- four bytes hold it
-four : (held : ℕ) → held ≤ 1048576 → ((held / 16777216 % 256 * 256 + held / 65536 % 256) * 256 + held / 256 % 256) * 256 + held % 256 ≡ held
-four held h = omega arith
-
-held-small : (held : Held) → fineHeld held ≡ true → held ≤ 1048576
-unfolding fineHeld
-held-small held e = leb-true held 1048576 e
+-- two bytes hold a side
+two : (side : ℕ) → side / 256 * 256 + side % 256 ≡ side
+two side = omega arith
 
 -- the same station with no history has the same card, and is good too
 emptied : (s : Station) → goodStation s ≡ true → goodStation (hold nothing s) ≡ true
@@ -62,7 +57,7 @@ module _ (s : Station) (whole : Whole s) where
       ∙ getD-append-add (padded (cardOf s)) (heldBytes (s .held) ++ replicate 3 0) i 0
 
   held-in : heldIn (laid s) ≡ s .held
-  held-in = rw (byte 0, byte 1, byte 2, byte 3) (four (s .held) (held-small (s .held) (good s (whole .good) .fine)))
+  held-in = rw (byte 0, byte 1, byte 2, byte 3) (ap₂ sized (two (s .held .width)) (two (s .held .height)))
 
   opens : openOf (cardIn (laid s)) ≡ accepted (hold nothing s)
   opens = ap openOf (card-in ∙ sym (same-card s)) ∙ survives (hold nothing s) (emptied s (whole .good)) (whole .typed) refl (whole .ten) (whole .rest)

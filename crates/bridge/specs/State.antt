@@ -1,11 +1,11 @@
--- A station in the 80 bytes that a host lends: the length of its card, the card followed by zeros to 72 bytes, what is held by four bytes, most significant
--- first, three zeros. Assumes nothing.
+-- A station in the 80 bytes that a host lends: the length of its card, the card followed by zeros to 72 bytes, the width
+-- and the height that it remembers by two bytes each, most significant first, three zeros. Assumes nothing.
 use Prim.Native.Nat.{ℕ, _+_, _-_, _*_, _/_, _%_}
 use mathlib.Core.Bool.{Bool, true, false, _&&_, cond}
 use mathlib.Core.List.{List, [], _∷_, _++_}
 use lib.Dec.{eqb}
 use lib.ListN.{length, getD, take, drop, replicate}
-use Rattle.num.specs.Held.{Held}
+use Rattle.num.specs.Held.{Held, sized}
 use Rattle.cards.specs.Answers.{ok, Reply, refusing}
 use Rattle.chain.specs.Calls.{hold}
 use Rattle.cards.specs.Card.{accepted, openOf}
@@ -19,7 +19,7 @@ abbrev pub padded : List ℕ → List ℕ
 padded card = card ++ replicate (72 - length card) 0
 
 abbrev pub heldBytes : Held → List ℕ
-heldBytes held = held / 16777216 % 256 ∷ held / 65536 % 256 ∷ held / 256 % 256 ∷ held % 256 ∷ []
+heldBytes held = held .width / 256 ∷ held .width % 256 ∷ held .height / 256 ∷ held .height % 256 ∷ []
 
 abbrev pub laid : Station → List ℕ
 laid s = length (cardOf s) ∷ padded (cardOf s) ++ heldBytes (s .held) ++ replicate 3 0
@@ -34,7 +34,7 @@ abbrev pub cardIn : List ℕ → List ℕ
 cardIn b = take (getD b 0 0) (drop 1 b)
 
 abbrev pub heldIn : List ℕ → Held
-heldIn b = ((getD b 73 0 * 256 + getD b 74 0) * 256 + getD b 75 0) * 256 + getD b 76 0
+heldIn b = sized (getD b 73 0 * 256 + getD b 74 0) (getD b 75 0 * 256 + getD b 76 0)
 
 abbrev pub stationIn : List ℕ → Station
 stationIn b = hold (heldIn b) (openOf (cardIn b) .station)

@@ -9,22 +9,22 @@ use cards::station::Answer;
 use cards::station::Station;
 use cards::writer::Writing;
 use cards::writer::write;
+use num::size::Size;
 
-fn wide(byte: u8) -> u32
-    ensures { λ r. ⌜ (r ≡ byte) × (r ≤ 255) ⌝ }
+// A side, from its two bytes.
+fn side(high: u8, low: u8) -> u16
+    ensures { λ r. ⌜ r ≡ high * 256 + low ⌝ }
 {
-    byte as u32
+    high as u16 * 256 + low as u16
 }
 
 // What is held, from its four bytes.
-fn held_in(state: [u8; 80]) -> u32
+fn held_in(state: [u8; 80]) -> Size
     ensures { λ r. ⌜ r ≡ heldIn state ⌝ }
 {
-    let a = wide(state[73]);
-    let b = wide(state[74]);
-    let c = wide(state[75]);
-    let d = wide(state[76]);
-    ((a * 256 + b) * 256 + c) * 256 + d
+    let width = side(state[73], state[74]);
+    let height = side(state[75], state[76]);
+    Size { width, height }
 }
 
 // The bytes of a station; zeros where its card is not written.
@@ -39,10 +39,10 @@ pub(crate) fn encode(station: Station) -> [u8; 80]
     };
     let held = station.held;
     state[0] = n as u8;
-    state[73] = (held / 16777216 % 256) as u8;
-    state[74] = (held / 65536 % 256) as u8;
-    state[75] = (held / 256 % 256) as u8;
-    state[76] = (held % 256) as u8;
+    state[73] = (held.width / 256) as u8;
+    state[74] = (held.width % 256) as u8;
+    state[75] = (held.height / 256) as u8;
+    state[76] = (held.height % 256) as u8;
     state
 }
 

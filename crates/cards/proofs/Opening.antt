@@ -7,6 +7,7 @@ use mathlib.Core.Bool.{true, false}
 use mathlib.Core.List.{List, [], _∷_, _++_}
 use lib.ListN.{length, take, drop, set, replicate, length-set, take-append-drop}
 use lib.Seq.{take-suc-set, drop-set-lt, drop-drop, length-take-le}
+use Rattle.num.specs.Held.{nothing}
 use Rattle.cards.specs.Step.{Step, took, refused, andThen, _>>=_, _>>_, stop, refuseIf}
 use Rattle.cards.specs.Bits.{fieldAt}
 use Rattle.cards.specs.Records.{kinds, recordAt}
@@ -100,11 +101,11 @@ module _ (card : List ℕ) (n start : ℕ) (rs : List Record) (next i : ℕ) (d 
       }
 
 abbrev stationWith : List Record → ℕ → Station
-stationWith xs n = record { records = xs; n = n; held = 0 }
+stationWith xs n = record { records = xs; n = n; held = nothing }
 
 -- at the end the station is what the loop filled
 pub done-all : (card : List ℕ) (n start : ℕ) (rs : List Record) (next : ℕ) → Done card n start rs next n
-    → (recordsAt n [] card start ≡ took (take n rs) next) × (stationOf (take n rs) ≡ record { records = rs; n = n; held = 0 })
+    → (recordsAt n [] card start ≡ took (take n rs) next) × (stationOf (take n rs) ≡ record { records = rs; n = n; held = nothing })
 unfolding recordsAt
 done-all card n start rs next d =
     let none : n - n ≡ 0 = omega arith in

@@ -26,6 +26,7 @@ use Rattle.cards.specs.declared.station.Station.{Station}
 use Rattle.cards.proofs.Back.{Settled, Counted}
 use Rattle.cards.proofs.Chain.{NormalPass, NormalChain}
 use Rattle.cards.proofs.Writing.{good-parts}
+use Rattle.num.specs.Held.{Held, nothing}
 use Rattle.cards.proofs.Tests.{held-true, held-not}
 use Rattle.cards.proofs.Theorems.{chain-opens}
 
@@ -79,7 +80,7 @@ chain-of (r ∷ rs) done t h =
       chain-of rs (done ++ r ∷ []) (t .1) (subst (λ (ks : List ℕ). T (normalChain ks rs)) (sym (map-append (λ (r : Record). kindOf (r .pass)) done (r ∷ []))) rest),
     )
 
-abbrev stationWith : List Record → ℕ → ℕ → Station
+abbrev stationWith : List Record → ℕ → Held → Station
 stationWith rs n held = record { records = rs; n = n; held = held }
 
 pub survives : Survives
@@ -88,6 +89,6 @@ survives s good typed none ten rest =
     let parts = good-parts s good in
     let long : length chain ≡ s .n = length-take-le (s .n) (s .records) (omega (arith, parts .0)) in
     let whole : stationOf chain ≡ s =
-    ap (λ (k : ℕ). stationWith (chain ++ replicate (10 - k) unused) k 0) long
-    ∙ ap₂ (λ (xs : List Record) (h : ℕ). stationWith xs (s .n) h) (ap (λ (xs : List Record). chain ++ xs) (sym rest) ∙ take-append-drop (s .n) (s .records)) (sym none) in
+    ap (λ (k : ℕ). stationWith (chain ++ replicate (10 - k) unused) k nothing) long
+    ∙ ap₂ (λ (xs : List Record) (h : Held). stationWith xs (s .n) h) (ap (λ (xs : List Record). chain ++ xs) (sym rest) ∙ take-append-drop (s .n) (s .records)) (sym none) in
     subst (λ (t : Station). openOf (cardOf t) ≡ accepted t) whole (chain-opens chain (omega (arith, parts .0)) (chain-of chain [] typed (parts .1)))

@@ -6,6 +6,7 @@ pub use borrow.Author.Tests.{eq-eqb, ne-eqb, le-leb, lt-leb, lt-ltb, le-ltb, not
 use mathlib.Core.List.{List}
 use lib.Dec.{T}
 use lib.Ieee.{Float}
+use Rattle.num.specs.Held.{Held, fineHeld, sameHeld}
 use Rattle.cards.specs.Normal.{settled, normalPass, normalChain}
 use Rattle.cards.specs.declared.station.Pass.{Pass}
 use Rattle.cards.specs.declared.station.Record.{Record}
@@ -16,6 +17,12 @@ asked low high x b c e h = sym e ∙ h
 
 pub asked-chain : (seen : List ℕ) (rs : List Record) (b c : Bool) → b ≡ normalChain seen rs → b ≡ c → normalChain seen rs ≡ c
 asked-chain seen rs b c e h = sym e ∙ h
+
+pub asked-fine : (held : Held) (b c : Bool) → b ≡ fineHeld held → b ≡ c → fineHeld held ≡ c
+asked-fine held b c e h = sym e ∙ h
+
+pub asked-same : (held other : Held) (b c : Bool) → b ≡ sameHeld held other → b ≡ c → sameHeld held other ≡ c
+asked-same held other b c e h = sym e ∙ h
 
 -- a test that holds, and one whose opposite holds
 pub held-true : (b : Bool) → T b → b ≡ true
@@ -58,4 +65,4 @@ or-last r a b e h = rw e h
 
 pub ruleset tests = (asked, and-both, and-no, and-not, last, failed, failed-first, pass-is, lt-ltb, le-ltb, not-true, not-false)
 
-pub ruleset goods = (asked-chain, and-both, and-no, and-not, last, failed, or-held, or-last, le-leb, lt-leb, eq-eqb, ne-eqb, not-true, not-false)
+pub ruleset goods = (asked-chain, asked-fine, asked-same, and-both, and-no, and-not, last, failed, or-held, or-last, le-leb, lt-leb, eq-eqb, ne-eqb, not-true, not-false)

@@ -9,6 +9,7 @@ use Rattle.cards.specs.Answers.{refusal, acceptance, Reply, reply, repor
 use Rattle.cards.specs.Step.{Step, took, refused, Reader, _>>=_, _>>_, ret, here, refuseIf}
 use Rattle.cards.specs.Bits.{valueAt, fieldAt}
 use Rattle.num.specs.Const.{c0·0}
+use Rattle.num.specs.Held.{nothing}
 use Rattle.cards.specs.Records.{kinds, recordAt}
 use Rattle.cards.specs.declared.station.Pass.the-variants.{Scanlines}
 use Rattle.cards.specs.declared.station.Record.{Record}
@@ -20,7 +21,7 @@ abbrev pub unused : Record
 unused = record { on = false; pass = Scanlines c0·0 }
 
 abbrev pub stationOf : List Record → Station
-stationOf rs = record { records = rs ++ replicate (10 - length rs) unused; n = length rs; held = 0 }
+stationOf rs = record { records = rs ++ replicate (10 - length rs) unused; n = length rs; held = nothing }
 
 -- n records after those that are done, each of a kind not read before
 unfoldable pub recordsAt : ℕ → List Record → Reader (List Record)

@@ -5,6 +5,7 @@ use mathlib.Core.List.{List}
 use mathlib.Core.Logic.{_↔_}
 use mathlib.Core.Path.{_≡_}
 use lib.ListN.{length, drop, replicate}
+use Rattle.num.specs.Held.{nothing}
 use Rattle.cards.specs.Alike.{Alike, chainOf}
 use Rattle.cards.specs.Card.{unused, accepted, openOf, stoppedOf}
 use Rattle.cards.specs.Normal.{goodStation}
@@ -34,7 +35,7 @@ OpensGood = (card : List ℕ) (s : Station) → openOf card ≡ accepted s → (
 -- a good station with no history, whose places past n are filled as at every opening, is read back from its card
 abbrev pub Survives : Type 0
 Survives =
-    (s : Station) → goodStation s ≡ true → TypedChain (chainOf s) → s .held ≡ 0 → length (s .records) ≡ 10
+    (s : Station) → goodStation s ≡ true → TypedChain (chainOf s) → s .held ≡ nothing → length (s .records) ≡ 10
     → drop (s .n) (s .records) ≡ replicate (10 - s .n) unused → openOf (cardOf s) ≡ accepted s
 
 -- reading stops in the card or at its end

@@ -9,6 +9,9 @@ use super::station::Record;
 use super::station::Station;
 use super::station::holds;
 use super::station::kind_of;
+use num::size::Size;
+use num::size::fine;
+use num::size::same;
 
 // Whether x is finite, from low to high, and no negative zero.
 pub(crate) fn is_settled(low: f32, high: f32, x: f32) -> bool
@@ -142,10 +145,14 @@ pub fn is_good(station: Station) -> bool
     if !is_chain(records, n) {
         return false;
     }
-    if 1048576 < held {
+    if !fine(held) {
         return false;
     }
-    if held == 0 {
+    let nothing = Size {
+        width: 0,
+        height: 0,
+    };
+    if same(held, nothing) {
         return true;
     }
     remembers(records, n)

@@ -26,6 +26,7 @@ use super::station::Pass;
 use super::station::Record;
 use super::station::Station;
 use super::station::holds;
+use num::size::Size;
 
 pub enum PassRead {
     Value(Pass, usize),
@@ -305,7 +306,10 @@ pub(crate) fn refused(k: Refusal) -> Reading
     let station = Station {
         records,
         n: 0,
-        held: 0,
+        held: Size {
+            width: 0,
+            height: 0,
+        },
     };
     Reading {
         answer: Answer::Refused(k.number),
@@ -381,7 +385,10 @@ pub(crate) fn read(card: &[u8]) -> Reading
     let station = Station {
         records,
         n,
-        held: 0,
+        held: Size {
+            width: 0,
+            height: 0,
+        },
     };
     Reading {
         answer: Answer::Accepted,

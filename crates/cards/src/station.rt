@@ -5,6 +5,7 @@ ghost use Rattle.cards.specs.Alike.{chainOf};
 ghost use Rattle.cards.specs.Passes.{kindOf};
 ghost use Rattle.cards.specs.Records.{kinds, among};
 ghost use lib.ListN.{take};
+use num::size::Size;
 
 // A pass with its settings.
 pub enum Pass {
@@ -59,7 +60,7 @@ pub struct Record {
 pub struct Station {
     pub records: [Record; 10],
     pub n: usize,
-    pub held: u32,
+    pub held: Size,
 }
 
 // What a call answers: accepted, or a refusal's number.

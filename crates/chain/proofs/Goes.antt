@@ -7,6 +7,7 @@ use mathlib.Core.List.{List, [], _∷_, _++_}
 use borrow.Author.Tests.{ltb-false, not-false}
 use lib.Dec.{ltb}
 use lib.ListN.{length, take, drop}
+use Rattle.num.specs.Held.{Held}
 use Rattle.num.specs.Refusals.{badSide, unless}
 use Rattle.num.specs.Laws.Bools.{neither}
 use Rattle.num.specs.Laws.Refusals.{by, side-fine}
@@ -57,7 +58,7 @@ refused-frame zero w h s words past floats ints n e = absurd (n refl)
 refused-frame (suc k) w h s words past floats ints n e = ap (λ (m : ℕ). unless m (refusingFrame s words past) (shown w h s words past)) e
 
 -- or what the chain makes of it
-pub shown-frame : (w h : ℕ) (s : Station) (words past : List ℕ) (floats ints : ℕ) {frame′ past′ : List ℕ} {held′ clipped′ : ℕ}
+pub shown-frame : (w h : ℕ) (s : Station) (words past : List ℕ) (floats ints : ℕ) {frame′ past′ : List ℕ} {held′ : Held} {clipped′ : ℕ}
     → stops s w h (length words) (length past) floats ints ≡ 0
     → flow (painted frame′ clipped′) held′ past′ ≡ chain w h (chainOf s) (flow (painted (take (h * w) words) 0) (s .held) past)
     → framed (acceptance (clipped′ ∷ [])) (hold held′ s) (frame′ ++ drop (h * w) words) past′ ≡ frameReply w h s words past floats ints

@@ -5,11 +5,11 @@ use native.Mathlib.Omega.{arith}
 use mathlib.Core.Path.{_≡_, refl, ap, ap₂, sym, subst, _∙_}
 use mathlib.Core.Bool.{Bool, true, false, cond}
 use mathlib.Core.List.{List, _++_, append-nil, append-assoc}
-use borrow.Author.Tests.{eqb-true}
 use lib.Ieee.{Float}
 use lib.ListN.{length, take, drop, length-append}
 use lib.Seq.{take-append-add, take-append-le, take-take, length-take-le}
 use Rattle.num.specs.Held.{Held, nothing, area, sameHeld}
+use Rattle.num.specs.Laws.Held.{same-held}
 use Rattle.passes.specs as Text
 use Rattle.passes.specs.Flow.{Flow, flow}
 use Rattle.passes.specs.Painted.{Painted, painted, onto}
@@ -81,10 +81,6 @@ module _ (amount : Float) (k : ℕ) (size : Held) where
   abbrev begun : Flow → Flow
   begun x = flow (x .frame) size (refilled k (x .frame .words) (x .past))
 
-  held-is : (x : Flow) → sameHeld (x .held) size ≡ true → x .held ≡ size
-  unfolding sameHeld
-  held-is x e = eqb-true (x .held) size e
-
   -- by what both hold
   by-held : (P : Flow → Flow → Type 0) (x y : Flow) → x .held ≡ y .held → (x .held ≡ size → P (kept x) (kept y)) → P (begun x) (begun y)
       → P (through x) (through y)
@@ -94,7 +90,7 @@ module _ (amount : Float) (k : ℕ) (size : Held) where
       (go (sameHeld (x .held) size) refl)
     where
       go : (b : Bool) → sameHeld (x .held) size ≡ b → P (cond b (kept x) (begun x)) (cond b (kept y) (begun y))
-      go true t = f (held-is x t)
+      go true t = f (same-held (x .held) size t)
       go false t = g
 
 -- a flow whose frame has that size, with room for the places of depth k
@@ -148,7 +144,7 @@ near-picture amount k size x y same long some near =
     let words = x .frame .words in
     let blends : blend amount k (x .past) words ≡ blend amount k (y .past) words =
     sym (blend-take amount k (x .past) words)
-    ∙ ap (λ (l : List ℕ). blend amount k l words) (subst (λ (n : ℕ). take (k * n) (x .past) ≡ take (k * n) (y .past)) (t ∙ sym long) (near .places))
+    ∙ ap (λ (l : List ℕ). blend amount k l words) (subst (λ (n : ℕ). take (k * n) (x .past) ≡ take (k * n) (y .past)) (ap area t ∙ sym long) (near .places))
     ∙ blend-take amount k (y .past) words in
     ap (λ (b : Painted). painted (b .words) (x .frame .clipped + b .clipped)) blends
     ∙ ap (onto (blend amount k (y .past))) same)

@@ -64,11 +64,11 @@ unfolding wash
 washed w h frame paint {held} {pass} {case} {new} {past} e n o =
     ap (λ (y : Painted). flow y held past) (n ∙ fresh (paint frame)) ∙ sym o ∙ ap (λ (p : Pass). over w h p (flow (painted frame 0) held past)) (sym e)
 
--- persistence, by the frame's length
-pub persisted : (w h : ℕ) (x : Flow) {pass : Pass} {amount : Float} {depth : ℕ} {y : Flow} → length (x .frame .words) ≡ h * w
-    → pass ≡ Persistence amount depth → y ≡ persistence amount depth (length (x .frame .words)) x → y ≡ over w h pass x
+-- persistence, by the frame's size
+pub persisted : (w h : ℕ) (x : Flow) {pass : Pass} {amount : Float} {depth : ℕ} {size : Held} {y : Flow} → size ≡ sized w h
+    → pass ≡ Persistence amount depth → y ≡ persistence amount depth size x → y ≡ over w h pass x
 unfolding overBy
-persisted w h x {pass} {amount} {depth} s e o = o ∙ ap (λ (n : ℕ). persistence amount depth n x) s ∙ ap (λ (p : Pass). over w h p x) (sym e)
+persisted w h x {pass} {amount} {depth} s e o = o ∙ ap (λ (n : Held). persistence amount depth n x) s ∙ ap (λ (p : Pass). over w h p x) (sym e)
 
 pub turn-on : (w h : ℕ) (x : Flow) (r : Record) {y : Flow} → r .on ≡ true → y ≡ over w h (r .pass) x → y ≡ turn w h x r
 unfolding turnBy

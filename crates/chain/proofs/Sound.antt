@@ -5,13 +5,13 @@ use native.Mathlib.Omega.{arith}
 use mathlib.Core.Path.{_≡_, refl, ap, ap₂, sym, _∙_}
 use mathlib.Core.Bool.{Bool, true, false, not, _&&_, _||_, cond}
 use mathlib.Core.List.{List, [], _∷_}
-use borrow.Author.Tests.{eqb-true, eq-eqb, le-leb}
+use borrow.Author.Tests.{eq-eqb}
 use lib.Dec.{ltb, eqb}
 use lib.ListN.{length, take, drop, length-map}
 use lib.Seq.{length-take-le, length-front, take-at, drop-at}
 use Rattle.num.specs.Held.{Held, nothing, sized, sameHeld, fineHeld}
 use Rattle.num.specs.Refusals.{badSide, unless}
-use Rattle.num.specs.Laws.Refusals.{area-fine}
+use Rattle.num.specs.Laws.Held.{same-held, fine-sized}
 use Rattle.passes.specs.Flow.{Flow}
 use Rattle.chain.specs.Agree.{opened}
 use Rattle.cards.specs.Alike.{chainOf}
@@ -78,8 +78,7 @@ module _ (s : Station) (fit : Fit s) where
 
   -- held is nothing while persistence is off or absent
   pub idle-held : persists (chainOf s) ≡ false → s .held ≡ nothing
-  unfolding sameHeld
-  idle-held o = eqb-true (s .held) nothing (or-first-only (eqb (s .held) nothing) (persists (chainOf s)) o (g .idle))
+  idle-held o = same-held (s .held) nothing (or-first-only (sameHeld (s .held) nothing) (persists (chainOf s)) o (g .idle))
 
   -- in what it holds
   after-hold : (held : Held) → fineHeld held ≡ true → sameHeld held nothing || persists (chainOf s) ≡ true → After s (hold held s)
@@ -140,10 +139,6 @@ module _ (s : Station) (fit : Fit s) where
 
 -- ## An accepted frame
 
-fine-sized : (w h : ℕ) → w ≤ 1024 → h ≤ 1024 → fineHeld (sized w h) ≡ true
-unfolding fineHeld
-fine-sized w h a b = le-leb (h * w) 1048576 (area-fine a b)
-
 pub good-apart : (s : Station) → Fit s → Apart (chainOf s)
 good-apart s f = apart (chainOf s) (good s (f .sound) .normal)
 
@@ -184,7 +179,7 @@ call-after (frame w h words l m i) s f =
     by-stop (λ r. After (s .station) (r .station)) _ (s .station) words past _ (after-itself (s .station) f)
     (λ z.
     let g = goes (s .station) w h (length words) (length past) m i z in
-    after-frame w h (s .station) words past f (fine-sized w h (g .wide .1) (g .high .1)))
+    after-frame w h (s .station) words past f (fine-sized w h (g .wide .0) (g .wide .1) (g .high .0) (g .high .1)))
 call-after reset s f = by-lack (λ r. After (s .station) (r .station)) _ (s .station) _ (after-itself (s .station) f) (after-reset (s .station) f)
 call-after (switch kind on) s f =
     by-lack (λ r. After (s .station) (r .station)) _ (s .station) _ (after-itself (s .station) f) (after-switch (s .station) f kind on)

@@ -17,7 +17,7 @@ use lib.Ieee.Fits.{up-pos}
 use lib.Ieee.Positive.{num, den}
 use lib.Ieee.Scale.{finite}
 use Rattle.num.specs.Const.{c0·0, c0·95}
-use Rattle.num.specs.Held.{nothing, sized}
+use Rattle.num.specs.Held.{nothing, area, sized}
 use Rattle.num.specs.Refusals.{unless}
 use Rattle.passes.specs.Flow.{Flow}
 use Rattle.passes.specs.Fold.{fold}
@@ -96,7 +96,7 @@ module _ (on : Bool) (amount : Float) (k w h : ℕ) (words : List ℕ) where
   -- all places hold the frame, if any frame of that size is held
   record Steady (s : State) : Type 0 where
     is-alone : chainOf (s .station) ≡ alone on amount k
-    full : goodStation (s .station) ≡ true → 0 < h * w → s .station .held ≡ h * w
+    full : goodStation (s .station) ≡ true → 0 < h * w → s .station .held ≡ sized w h
         → take (k * (h * w)) (s .history) ≡ copies k F
 
   -- a good station accepts the reset, and holds nothing then
@@ -106,7 +106,7 @@ module _ (on : Bool) (amount : Float) (k w h : ℕ) (words : List ℕ) where
     where
       go : (n : ℕ) → lacks (s .station) 4 ≡ n
           → Steady (record { station = unless n (refusing (s .station)) (reply (acceptance []) (hold nothing (s .station))) .station; history = s .history })
-      go zero z = record { is-alone = e; full = λ g p held. absurd (omega arith) }
+      go zero z = record { is-alone = e; full = λ g p held. let none : 0 ≡ h * w = ap area held in absurd (omega arith) }
       go (suc n) z =
           record {
             is-alone = e;
@@ -125,8 +125,8 @@ module _ (on : Bool) (amount : Float) (k w h : ℕ) (words : List ℕ) where
   turned : (b : Bool) (x : Flow) →
       let words = x .frame .words in
       let y : Flow = cond b (persistence amount k (sized w h) x) x in
-      Settings amount k → length words ≡ h * w → k * (h * w) ≤ length (x .past) → (x .held ≡ h * w → Full k words (x .past))
-      → Still words (y .frame .words) × (length (y .past) ≡ length (x .past)) × (y .held ≡ h * w → Full k words (y .past))
+      Settings amount k → length words ≡ h * w → k * (h * w) ≤ length (x .past) → (x .held ≡ sized w h → Full k words (x .past))
+      → Still words (y .frame .words) × (length (y .past) ≡ length (x .past)) × (y .held ≡ sized w h → Full k words (y .past))
   turned true x set long room full =
       let fits : k * length (x .frame .words) ≤ length (x .past) = rw long room in
       let p = persistence-still amount (set .own) (set .most) k (set .few) (sized w h) x fits full in
@@ -136,7 +136,7 @@ module _ (on : Bool) (amount : Float) (k w h : ℕ) (words : List ℕ) where
   -- an accepted frame of which the chain made y
   leaves : (s : State) (other : List ℕ) (lent : ℕ) (y : Flow) → Steady s → Still F (y .frame .words)
       → length (y .frame .words) ≡ h * w → k * (h * w) ≤ length (y .past)
-      → (y .held ≡ h * w → take (k * (h * w)) (y .past) ≡ copies k F)
+      → (y .held ≡ sized w h → take (k * (h * w)) (y .past) ≡ copies k F)
       → Gives lent s (framed (acceptance (y .frame .clipped ∷ [])) (hold (y .held) (s .station)) (y .frame .words ++ drop (h * w) other) (y .past))
   leaves s other lent y t still long room full = (
     λ z. rw (take-at (y .frame .words) (drop (h * w) other) (h * w) long) still,

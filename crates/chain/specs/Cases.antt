@@ -1,14 +1,13 @@
--- The cases of the refusals of the calls, and of what a frame reports. Each list pairs what a definition gives with what it should give, and
--- one proof by computation holds the whole list.
--- Assumes nothing.
+-- The cases of the refusals of the calls, of what a frame reports, and of turned frames. Each list pairs what a definition gives with
+-- what it should give, and one proof by computation holds the whole list. Assumes nothing.
 use Prim.Native.Nat.{ℕ}
 use mathlib.Core.Bool.{Bool, true, false}
-use mathlib.Core.List.{List, [], _∷_}
+use mathlib.Core.List.{List, [], _∷_, map}
 use mathlib.Core.Path.{refl}
 use lib.Ieee.{ofBits, ofInt, add, sub, mul, div, lt, neg}
 use Rattle.num.specs.Cases.{Hold}
-use Rattle.num.specs.Const.{c0·0, c0·30, c1·0}
-use Rattle.num.specs.Held.{sameHeld, fineHeld}
+use Rattle.num.specs.Const.{c0·0, c0·30, c0·5, c1·0}
+use Rattle.num.specs.Held.{Held, nothing, sized, sameHeld, fineHeld}
 use Rattle.num.specs.Refusals.{badSide, unless}
 use Rattle.num.specs.Rewrite.{rewrite}
 use Rattle.num.specs.Steps.{clampOf, cutOf}
@@ -21,7 +20,9 @@ use Rattle.cards.specs.Answers.{Report, refusal, acceptance}
 use Rattle.cards.specs.Card.{stationOf}
 use Rattle.cards.specs.Normal.{settled, normalPass, normalChain, persists, goodStation}
 use Rattle.chain.specs.Calls.{hold, stops, lacks, shownBy, frameReply, frameReplyBy}
+use Rattle.chain.specs.Agree.{opened}
 use Rattle.chain.specs.Chain.{wash, overBy, turnBy, depth}
+use Rattle.chain.specs.Machine.{Call, frame, State, call, after, run, saw}
 use Rattle.cards.specs.declared.station.Pass.the-variants.{Persistence, Lut, ColorCorrection, Scanlines}
 use Rattle.cards.specs.declared.station.Record.{Record}
 use Rattle.cards.specs.declared.station.Station.{Station}
@@ -30,15 +31,19 @@ use Rattle.cards.specs.declared.station.Station.{Station}
 abbrev kept : Bool → Station
 kept on = stationOf (record { on = on; pass = Persistence c0·0 8 } ∷ record { on = true; pass = Scanlines c0·0 } ∷ [])
 
--- Frames: a doubled kind, and a count held while persistence is off (13); a side of 0 and of 1025 (8), and 1024 taken; a framebuffer of one word too few (9); a
--- history of one word too few, on and off (10); one f32 word too few, and one u32 word (11); nothing too few. The first that holds is given.
+-- Frames: a doubled kind, a size remembered while persistence is off, a remembered side of 1025, and one side of 0 beside another
+-- (13), and sides of 1024 remembered; a side of 0 and of 1025 (8), and 1024 taken; a framebuffer of one word too few (9); a history
+-- of one word too few, on and off (10); one f32 word too few, and one u32 word (11); nothing too few. The first that holds is given.
 -- Other calls: on a bad station (13), on a kind that is not there, and that no pass has (12), and on one that is there.
 abbrev pub stopped : List (ℕ × ℕ)
 stopped =
     (stops (stationOf (record { on = true; pass = Scanlines c0·0 } ∷ record { on = false; pass = Scanlines c0·0 } ∷ [])) 0 0 0 0 0 0, 13)
-    ∷ (stops (hold 1 (kept false)) 0 0 0 0 0 0, 13)
-    ∷ (stops (hold 1048577 (kept true)) 1 1 1 8 6 1, 13)
-    ∷ (stops (hold 1048576 (kept true)) 1 1 1 8 6 1, 0)
+    ∷ (stops (hold (sized 1 1) (kept false)) 0 0 0 0 0 0, 13)
+    ∷ (stops (hold (sized 1025 1) (kept true)) 1 1 1 8 6 1, 13)
+    ∷ (stops (hold (sized 1 1025) (kept true)) 1 1 1 8 6 1, 13)
+    ∷ (stops (hold (sized 0 1) (kept true)) 1 1 1 8 6 1, 13)
+    ∷ (stops (hold (sized 1 0) (kept true)) 1 1 1 8 6 1, 13)
+    ∷ (stops (hold (sized 1024 1024) (kept true)) 1 1 1 8 6 1, 0)
     ∷ (stops (kept true) 0 1 0 0 0 0, 8)
     ∷ (stops (kept true) 1 0 0 0 0 0, 8)
     ∷ (stops (kept true) 1025 1 1025 8200 6150 1025, 8)
@@ -50,7 +55,7 @@ stopped =
     ∷ (stops (kept true) 3 2 6 48 35 6, 11)
     ∷ (stops (kept true) 3 2 6 48 36 5, 11)
     ∷ (stops (kept true) 3 2 6 48 36 6, 0)
-    ∷ (lacks (hold 1 (kept false)) 4, 13)
+    ∷ (lacks (hold (sized 1 1) (kept false)) 4, 13)
     ∷ (lacks (kept false) 5, 12)
     ∷ (lacks (kept false) 11, 12)
     ∷ (lacks (kept false) 4, 0)
@@ -64,7 +69,7 @@ stopped-hold = refl
 -- Colour, brightness 1, clips the three channels of 010101 and none of black, which comes to lie exactly at the end; LUT, high contrast,
 -- then clips all six of two white words, and of the frame as it came, if it is alone. Persistence at 0.3 clips all six where its history
 -- is white, and none when it refills it. A refusal reports its number alone.
-abbrev reportOf : List Record → (held : ℕ) → (words past : List ℕ) → Report
+abbrev reportOf : List Record → (held : Held) → (words past : List ℕ) → Report
 reportOf rs held words past = frameReply 2 1 (hold held (stationOf rs)) words past 12 2 .answer
 
 abbrev dark : List ℕ
@@ -81,14 +86,14 @@ tube = record { on = true; pass = Persistence c0·30 1 } ∷ record { on = true;
 
 abbrev pub reports : List (Report × Report)
 reports =
-    (reportOf [] 0 dark [], acceptance (0 ∷ []))
-    ∷ (reportOf (toned true true) 0 dark [], acceptance (9 ∷ []))
-    ∷ (reportOf (toned true false) 0 dark [], acceptance (3 ∷ []))
-    ∷ (reportOf (toned false true) 0 dark [], acceptance (6 ∷ []))
-    ∷ (reportOf (toned false false) 0 dark [], acceptance (0 ∷ []))
-    ∷ (reportOf tube 2 white white, acceptance (6 ∷ []))
-    ∷ (reportOf tube 1 white white, acceptance (0 ∷ []))
-    ∷ (reportOf tube 2 white (0xffffff ∷ []), refusal 10)
+    (reportOf [] nothing dark [], acceptance (0 ∷ []))
+    ∷ (reportOf (toned true true) nothing dark [], acceptance (9 ∷ []))
+    ∷ (reportOf (toned true false) nothing dark [], acceptance (3 ∷ []))
+    ∷ (reportOf (toned false true) nothing dark [], acceptance (6 ∷ []))
+    ∷ (reportOf (toned false false) nothing dark [], acceptance (0 ∷ []))
+    ∷ (reportOf tube (sized 2 1) white white, acceptance (6 ∷ []))
+    ∷ (reportOf tube (sized 1 2) white white, acceptance (0 ∷ []))
+    ∷ (reportOf tube (sized 2 1) white (0xffffff ∷ []), refusal 10)
     ∷ []
 
 pub reports-hold : Hold reports
@@ -100,3 +105,38 @@ unfolding frameReplyBy unless shownBy stops badSide goodStation fineHeld sameHel
     Text.Persistence.add Text.Persistence.mix Text.Persistence.blend Persistence.copies Persistence.refilled
     Persistence.shifted
 reports-hold = refl
+
+-- Turned frames (request P1). Persistence 0.5 of depth 1, frames of two words, upright (1 by 2) and turned (2 by 1). A black frame shows
+-- the white one before it as 555555; turned, it is shown unaltered. A turn and back: each begins anew. Two stations, one of which was
+-- turned before, agree from the second shared frame on, since the depth is 1.
+abbrev half : State
+half = opened (stationOf (record { on = true; pass = Persistence c0·5 1 } ∷ [])) (7 ∷ 8 ∷ [])
+
+abbrev upright : List ℕ → Call
+upright words = frame 1 2 words 2 12 2
+
+abbrev turned : List ℕ → Call
+turned words = frame 2 1 words 2 12 2
+
+abbrev black : List ℕ
+black = 0 ∷ 0 ∷ []
+
+abbrev pictures : State → List Call → List (List ℕ)
+pictures s cs = map (λ g. g .picture) (saw s cs)
+
+abbrev pub turns : List (List (List ℕ) × List (List ℕ))
+turns =
+    (pictures half (upright white ∷ upright black ∷ []), white ∷ (0x555555 ∷ 0x555555 ∷ []) ∷ [])
+    ∷ (pictures half (upright white ∷ turned black ∷ []), white ∷ black ∷ [])
+    ∷ (pictures half (upright white ∷ turned black ∷ upright white ∷ []), white ∷ black ∷ white ∷ [])
+    ∷ (pictures (run half (turned white ∷ [])) (upright white ∷ upright black ∷ []), white ∷ (0x555555 ∷ 0x555555 ∷ []) ∷ [])
+    ∷ (pictures (run half (upright black ∷ [])) (upright white ∷ upright black ∷ []), (0xaaaaaa ∷ 0xaaaaaa ∷ []) ∷ (0x555555 ∷ 0x555555 ∷ []) ∷ [])
+    ∷ []
+
+pub turns-hold : Hold turns
+unfolding run saw after call frameReplyBy unless shownBy stops badSide goodStation fineHeld sameHeld normalChain normalPass settled persists
+    depth fold turnBy overBy ofBits ofInt add sub mul div neg lt clampOf cutOf rewrite sum converted Text.Pixel.unpack Text.Pixel.pack
+    Text.Pixel.packClamped Text.Pixel.clip Text.Pixel.clips Text.Persistence.persistence Text.Persistence.decay
+    Text.Persistence.total Text.Persistence.add Text.Persistence.mix Text.Persistence.blend Persistence.copies
+    Persistence.refilled Persistence.shifted
+turns-hold = refl

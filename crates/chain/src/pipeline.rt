@@ -23,6 +23,7 @@ use cards::station::Record;
 use cards::station::Station;
 use cards::station::few;
 use cards::station::kind_of;
+use num::size::Size;
 
 // What a reset and a switch answer, with the station.
 pub struct Called {
@@ -136,7 +137,10 @@ pub fn reset(station: Station) -> Called
     let after = Station {
         records,
         n,
-        held: 0,
+        held: Size {
+            width: 0,
+            height: 0,
+        },
     };
     Called {
         answer: Answer::Accepted,
@@ -162,12 +166,15 @@ pub(crate) fn place(records: [Record; 10], n: usize, kind: u8) -> usize
 }
 
 // What is held once a pass is switched: persistence that is off holds nothing.
-pub(crate) fn still_held(kind: u8, on: bool, held: u32) -> u32
+pub(crate) fn still_held(kind: u8, on: bool, held: Size) -> Size
     ensures { λ r. ⌜ r ≡ heldAfter kind on held ⌝ }
 {
     if kind == 4 {
         if !on {
-            return 0;
+            return Size {
+                width: 0,
+                height: 0,
+            };
         }
     }
     held

@@ -1,13 +1,16 @@
 // A frame's way through the chain: the passes that are on, in the card's order, each known by its promise alone. It assumes that the station
 // is good and that enough is lent, which `refusals` has tested.
 ghost use mathlib.Core.Path.{_≡_};
+ghost use Prim.Native.Nat.{_≤_};
 ghost use lib.ListN.{length, take};
+ghost use Rattle.num.specs.Held.{sized};
 ghost use Rattle.passes.specs.Flow.{flow};
 ghost use Rattle.passes.specs.Painted.{painted};
 ghost use Rattle.chain.specs.Chain.{over, turn, chain};
 ghost use Rattle.chain.specs.Lent.{Lent, Ready, Readies};
 use cards::station::Pass;
 use cards::station::Record;
+use num::size::Size;
 use passes::auto_gradient;
 use passes::bloom;
 use passes::color_correction;
@@ -21,8 +24,19 @@ use passes::vignette;
 
 // What a run leaves beside the frame and the history: what is held, and how many channels it clipped.
 pub(crate) struct Run {
-    pub(crate) held: u32,
+    pub(crate) held: Size,
     pub(crate) clipped: u32,
+}
+
+// The size of a frame, as the history remembers it.
+pub(crate) fn size_of(width: usize, height: usize) -> Size
+    requires { ⌜ (width ≤ 1024) × (height ≤ 1024) ⌝ }
+    ensures { λ r. ⌜ r ≡ sized width height ⌝ }
+{
+    Size {
+        width: width as u16,
+        height: height as u16,
+    }
 }
 
 // One pass.
@@ -34,7 +48,7 @@ pub(crate) fn run_pass(
     ints: &mut [u32],
     width: usize,
     height: usize,
-    held: u32,
+    held: Size,
 ) -> Run
     requires { ⌜ Lent width height (now frame) (now floats) (now ints) ⌝ ∗ ⌜ Ready width height pass (length (now history)) ⌝ }
     ensures { λ r. ⌜ flow (painted (now (frame .exit)) (r .clipped)) (r .held) (now (history .exit))
@@ -77,7 +91,8 @@ pub(crate) fn run_pass(
             Run { held, clipped }
         }
         Pass::Persistence { amount, depth } => {
-            let kept = persistence::apply(frame, history, ints, amount, depth, held);
+            let size = size_of(width, height);
+            let kept = persistence::apply(frame, history, ints, amount, depth, held, size);
             let held = kept.held;
             let clipped = kept.clipped;
             Run { held, clipped }
@@ -123,7 +138,7 @@ pub(crate) fn run_record(
     ints: &mut [u32],
     width: usize,
     height: usize,
-    held: u32,
+    held: Size,
 ) -> Run
     requires { ⌜ Lent width height (now frame) (now floats) (now ints) ⌝ ∗ ⌜ Ready width height (rec .pass) (length (now history)) ⌝ }
     ensures { λ r. ⌜ flow (painted (now (frame .exit)) (r .clipped)) (r .held) (now (history .exit))
@@ -147,7 +162,7 @@ pub(crate) fn run_chain(
     ints: &mut [u32],
     width: usize,
     height: usize,
-    held: u32,
+    held: Size,
 ) -> Run
     requires { ⌜ Lent width height (now frame) (now floats) (now ints) ⌝ ∗ ⌜ Readies width height n records (length (now history)) ⌝ }
     ensures { λ r. ⌜ flow (painted (now (frame .exit)) (r .clipped)) (r .held) (now (history .exit))

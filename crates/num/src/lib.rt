@@ -2,6 +2,6 @@
 // definition of specs/, for every operand, a NaN, an infinity and either zero included, and none has
 // a `requires`. Nothing here is assumed.
 pub mod root; // the square root
-pub mod size; // whether a side of a picture is taken
+pub mod size; // sizes of pictures: whether a side is taken, what a history holds
 pub mod steps; // clamp, min, max, limit, abs
 pub mod whole; // cut, cut_clamped, cut_unit, round, nearest

@@ -7,7 +7,7 @@ use Prim.Native.Nat.{ℕ, zero, suc, _+_, _*_}
 use lib.Ieee.{ofBits, ofInt, add, sub, mul, div, neg, lt, le}
 use Rattle.num.specs.Cases.{Hold}
 use Rattle.num.specs.Const.{c0·0, c0·30, c0·5, c1·0}
-use Rattle.num.specs.Held.{sized, sameHeld}
+use Rattle.num.specs.Held.{nothing, sized, sameHeld}
 use Rattle.num.specs.Root.{rootOf}
 use Rattle.num.specs.Steps.{clampOf, minOf, maxOf, absOf, cutOf, roundOf}
 use Rattle.passes.specs as Text
@@ -38,7 +38,7 @@ abbrev shown : Flow → ℕ → Flow
 shown x p = Persistence.persistence c0·5 1 (sized 1 1) (flow (painted (p ∷ []) 0) (x .held) (x .past))
 
 abbrev first : Flow
-first = shown (flow (painted [] 0) 0 (7 ∷ 8 ∷ [])) 0xffffff
+first = shown (flow (painted [] 0) nothing (7 ∷ 8 ∷ [])) 0xffffff
 
 abbrev second : Flow
 second = shown first 0
@@ -114,8 +114,8 @@ clipped =
     -- clips nothing, and leaves what was clipped before
     ∷ (Persistence.blend c0·5 1 (0xffffff ∷ []) (0xffffff ∷ []), painted (0xffffff ∷ []) 0)
     ∷ (Persistence.blend c0·30 1 (0xffffff ∷ []) (0xffffff ∷ []), painted (0xffffff ∷ []) 3)
-    ∷ (Persistence.persistence c0·30 1 (sized 1 1) (flow (painted (0xffffff ∷ []) 5) 1 (0xffffff ∷ [])) .frame, painted (0xffffff ∷ []) 8)
-    ∷ (Persistence.persistence c0·30 1 (sized 1 1) (flow (painted (0xffffff ∷ []) 5) 2 (0xffffff ∷ [])) .frame, painted (0xffffff ∷ []) 5)
+    ∷ (Persistence.persistence c0·30 1 (sized 1 1) (flow (painted (0xffffff ∷ []) 5) (sized 1 1) (0xffffff ∷ [])) .frame, painted (0xffffff ∷ []) 8)
+    ∷ (Persistence.persistence c0·30 1 (sized 1 1) (flow (painted (0xffffff ∷ []) 5) (sized 1 2) (0xffffff ∷ [])) .frame, painted (0xffffff ∷ []) 5)
     ∷ []
 
 pub clipped-hold : Hold clipped

@@ -15,6 +15,8 @@ use crate::marks;
 use crate::pixel;
 use crate::pixel::Rgb;
 use crate::rows;
+use num::size::Size;
+use num::size::same;
 
 // 1 + amount + amount * 0.55 + ..
 fn total(amount: f32, depth: usize) -> f32
@@ -238,7 +240,7 @@ fn follow(
 
 // What the history then holds, and how many channels were clipped.
 pub struct Kept {
-    pub held: u32,
+    pub held: Size,
     pub clipped: u32,
 }
 
@@ -249,16 +251,17 @@ pub fn apply(
     scratch: &mut [u32],
     amount: f32,
     depth: u8,
-    held: u32,
+    held: Size,
+    size: Size,
 ) -> Kept
     requires { ⌜ (depth ≤ 8) × (depth * length (now frame) ≤ length (now history)) × (length (now frame) ≤ length (now scratch))
         × (length (now frame) ≤ 1048576) ⌝ }
     ensures { λ r. ⌜ (flow (painted (now (frame .exit)) (r .clipped)) (r .held) (now (history .exit))
-        ≡ Persistence.persistence amount depth (length (now (frame .entry))) (flow (painted (now (frame .entry)) 0) held (now (history .entry))))
+        ≡ Persistence.persistence amount depth size (flow (painted (now (frame .entry)) 0) held (now (history .entry))))
         × (drop (length (now (frame .entry))) (now (scratch .exit)) ≡ drop (length (now (frame .entry))) (now (scratch .entry))) ⌝ }
 {
     let count = frame.len();
-    if held == count as u32 {
+    if same(held, size) {
         let clipped = follow(
             frame,
             history,
@@ -266,11 +269,14 @@ pub fn apply(
             amount,
             depth as usize,
         );
-        return Kept { held, clipped };
+        return Kept {
+            held: size,
+            clipped,
+        };
     }
     refill(history, frame, depth as usize);
     Kept {
-        held: count as u32,
+        held: size,
         clipped: 0,
     }
 }

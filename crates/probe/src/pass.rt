@@ -15,6 +15,8 @@ ghost use Rattle.passes.specs.Plain.ColorCorrection as ColorCorrection;
 ghost use Rattle.passes.specs.Plain.Lut as Lut;
 ghost use Rattle.passes.specs.Plain.Scanlines as Scanlines;
 ghost use Rattle.passes.specs.Plain.Vignette as Vignette;
+ghost use Rattle.probe.specs.Sizes.{sizeIn};
+use num::size::Size;
 
 #[no_mangle]
 pub extern "C" fn probe_auto_gradient(
@@ -106,7 +108,17 @@ pub extern "C" fn probe_ntsc(
     passes::ntsc::apply(frame, width, height, strength, bleed)
 }
 
-// Answers what is held, and puts the number of clipped channels into `clipped`.
+fn size_in(sides: &[u16; 2]) -> Size
+    ensures { λ r. ⌜ r ≡ sizeIn (now (sides .entry)) ⌝ }
+{
+    Size {
+        width: sides[0],
+        height: sides[1],
+    }
+}
+
+// `held` is the width and the height that the history holds, `size` those of the frame, which it holds afterwards. Puts the number of
+// clipped channels into `clipped`.
 #[no_mangle]
 pub extern "C" fn probe_persistence(
     frame: &mut [u32],
@@ -114,18 +126,21 @@ pub extern "C" fn probe_persistence(
     scratch: &mut [u32],
     amount: f32,
     depth: u8,
-    held: u32,
+    held: &[u16; 2],
+    size: &[u16; 2],
     clipped: &mut [u32; 1],
-) -> u32
+)
     requires { ⌜ (depth ≤ 8) × (depth * length (now frame) ≤ length (now history)) × (length (now frame) ≤ length (now scratch))
         × (length (now frame) ≤ 1048576) ⌝ }
-    ensures { λ r. ⌜ (flow (painted (now (frame .exit)) (getD (now (clipped .exit)) 0 0)) r (now (history .exit))
-        ≡ Persistence.persistence amount depth (length (now (frame .entry))) (flow (painted (now (frame .entry)) 0) held (now (history .entry))))
+    ensures { λ _. ⌜ (flow (painted (now (frame .exit)) (getD (now (clipped .exit)) 0 0)) (sizeIn (now (size .entry))) (now (history .exit))
+        ≡ Persistence.persistence amount depth (sizeIn (now (size .entry)))
+        (flow (painted (now (frame .entry)) 0) (sizeIn (now (held .entry))) (now (history .entry))))
         × (drop (length (now (frame .entry))) (now (scratch .exit)) ≡ drop (length (now (frame .entry))) (now (scratch .entry))) ⌝ }
 {
-    let kept = passes::persistence::apply(frame, history, scratch, amount, depth, held);
+    let before = size_in(held);
+    let now = size_in(size);
+    let kept = passes::persistence::apply(frame, history, scratch, amount, depth, before, now);
     *clipped = [kept.clipped];
-    kept.held
 }
 
 #[no_mangle]

@@ -37,7 +37,7 @@ mul-room c = omega (arith, area-fine (none c .wide .1) (none c .high .1))
 
 run-chain-requires : tie.Need-run-chain-requires
 run-chain-requires c κs =
-    let else = c .before .before .before .before .before in
+    let else = c .before .before .before .before .before .before in
     let start = else .before .before .before .before .before .before in
     let a = start .args in
     let g = none else in (
@@ -53,8 +53,8 @@ run-chain-requires c κs =
 
 returns-2 : tie.Need-returns-2
 returns-2 c =
-    let run = c .before .before .before .before .before .before .before .before in
-    let else = run .before .before .before .before .before .before in
+    let run = c .before .before .before .before .before .before .before .before .before in
+    let else = run .before .before .before .before .before .before .before in
     let a = else .before .before .before .before .before .before .args in
     let g = none else in
     record {
@@ -68,7 +68,7 @@ pub apply-spec : {M : Type 1} → statement M
 apply-spec =
     tie.close
     (tie.spec (λ c κs. tt) returns mul-count mul-room
-    (λ c. none (c .before) .frame-room) (λ c. sym (length-take-le _ _ (none (c .before .before) .frame-room)))
-    (λ c. none (c .before .before .before) .floats-room) (λ c. sym (length-take-le _ _ (none (c .before .before .before .before) .floats-room)))
-    (λ c. none (c .before .before .before .before) .ints-room) (λ c. sym (length-take-le _ _ (none (c .before .before .before .before .before) .ints-room)))
+    (λ c. none (c .before .before) .frame-room) (λ c. sym (length-take-le _ _ (none (c .before .before .before) .frame-room)))
+    (λ c. none (c .before .before .before .before) .floats-room) (λ c. sym (length-take-le _ _ (none (c .before .before .before .before .before) .floats-room)))
+    (λ c. none (c .before .before .before .before .before) .ints-room) (λ c. sym (length-take-le _ _ (none (c .before .before .before .before .before .before) .ints-room)))
     run-chain-requires (λ c. search needs) (λ c. search needs) (λ c. search needs) (λ c. search needs) returns-2)

@@ -24,22 +24,22 @@ returns : tie.Need-returns
 returns c = refuses _ _ _ (c .before .lacks .ensures) (c .if1 .taken)
 
 place-requires : tie.Need-place-requires
-place-requires c κs = let p = present _ _ (none (c .before)) in (p .0 .few, p .1)
+place-requires c κs = let p = present _ _ (none (c .before .before)) in (p .0 .few, p .1)
 
 inside : (c : tie.After-place) → c .place .result < 10
-inside c = let few = present _ _ (none (c .before .before)) .0 .few in omega (arith, c .place .ensures .within)
+inside c = let few = present _ _ (none (c .before .before .before)) .0 .few in omega (arith, c .place .ensures .within)
 
 preset-of-requires : tie.Need-preset-of-requires
 preset-of-requires c κs =
     let place = c .before .before in
-    let records = place .before .before .before .before .args .station .records in
+    let records = place .before .before .before .before .before .args .station .records in
     ap kindOf (c .step-pass .ensures) ∙ stepped-kind (getD records (place .place .result) past .pass) ∙ place .place .ensures .there past
 
 returns-2 : tie.Need-returns-2
 returns-2 c =
     let step = c .before in
     let place = step .before .before in
-    let else = place .before .before in
+    let else = place .before .before .before in
     let start = else .before .before in
     let few = present _ _ (none else) .0 .few in
     cycles (start .args .station) (place .place .result) (place .place .ensures) (omega (arith, long start)) (none else) (step .step-pass .ensures) (c .preset-of .ensures)

@@ -17,11 +17,11 @@ use Rattle.chain.proofs.run.run_chain.Statement.{statement}
 use Rattle.chain.proofs.run.run_chain.Tie as tie
 
 abbrev Inv-loop : tie.InvT-loop
-Inv-loop n frame₀ history₀ floats₀ ints₀ width height held records held₀ clipped₀ i₀ frame history floats ints held' clipped i =
-    Running width height n i (length history₀) records (flow (painted frame₀ 0) held history₀) frame clipped held' history floats ints
+Inv-loop n frame₀ history₀ floats₀ ints₀ width height records held₀ clipped₀ i₀ frame history floats ints held' clipped i =
+    Running width height n i (length history₀) records (flow (painted frame₀ 0) held₀ history₀) frame clipped held' history floats ints
 
 abbrev μ-loop : tie.MeasureT-loop
-μ-loop n frame₀ history₀ floats₀ ints₀ width height held records held₀ clipped₀ i₀ frame history floats ints held' clipped i = n - i
+μ-loop n frame₀ history₀ floats₀ ints₀ width height records held₀ clipped₀ i₀ frame history floats ints held' clipped i = n - i
 
 loop-holds : tie.Need-loop-holds Inv-loop μ-loop
 loop-holds c = record { near = omega arith; so-far = none _ _ _; few = omega arith; lent = c .before .before .before .before .pre .0; kept = refl }
@@ -43,7 +43,7 @@ few w h x y r e f z =
 
 add-clipped : tie.Need-add-clipped Inv-loop μ-loop
 add-clipped c =
-    let run = c .before .before .before .before .before .before .before .before .before in
+    let run = c .before .before .before .before .before .before .before .before .before .before in
     let test = run .before .before .before .before .before .before in
     let l = test .before in
     let start = l .before .before .before .before .before in
@@ -51,7 +51,7 @@ add-clipped c =
 
 loop-again : tie.Need-loop-again Inv-loop μ-loop
 loop-again c =
-    let run = c .before .before .before .before .before .before .before .before .before in
+    let run = c .before .before .before .before .before .before .before .before .before .before in
     let test = run .before .before .before .before .before .before in
     let l = test .before in
     let start = l .before .before .before .before .before in

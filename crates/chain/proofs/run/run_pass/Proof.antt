@@ -22,10 +22,13 @@ apply-requires-2 c κs =
     let start = c .before .before .before .before .before .before .before .before .before in
     (start .pre .0 .shape, (radius-fine (start .pre .1) (c .before .before .before .pass2 .given .1), omega (arith, start .pre .0 .shape .area, start .pre .0 .floats-room)))
 
+size-of-requires : tie.Need-size-of-requires
+size-of-requires c κs = let start = c .before .before .before .before .before .before .before in (start .pre .0 .shape .wide, start .pre .0 .shape .high)
+
 apply-requires-4 : tie.Need-apply-requires-4
 apply-requires-4 c κs =
-    let start = c .before .before .before .before .before .before .before .before .before .before in
-    let deep = depth-fine (start .pre .1) (start .pre .0 .shape) (c .before .before .before .before .pass4 .given .1) in
+    let start = c .before .before .before .before .before .before .before .before .before .before .before in
+    let deep = depth-fine (start .pre .1) (start .pre .0 .shape) (c .before .before .before .before .before .pass4 .given .1) in
     let room = start .pre .0 .ints-room ∙ sym (start .pre .0 .shape .area) in
     (deep .0, deep .1, omega arith, frame-small (start .pre .0 .shape))
 
@@ -59,9 +62,10 @@ returns-3 c =
 
 returns-4 : tie.Need-returns-4
 returns-4 c =
-    let start = c .before .before .before .before .before .before .before .before .before .before .before .before .before .before .before .before .before in
+    let start = c .before .before .before .before .before .before .before .before .before .before .before .before .before .before .before .before .before .before .before in
     let a = start .args in
-    persisted (a .width) (a .height) (flow (painted (a .frame .now) 0) (a .held) (a .history .now)) (start .pre .0 .shape .area) (c .before .before .before .before .before .before .before .before .before .before .before .pass4 .given .1) (c .before .before .before .before .before .before .apply4 .ensures .0)
+    persisted (a .width) (a .height) (flow (painted (a .frame .now) 0) (a .held) (a .history .now)) (c .before .before .before .before .before .before .before .before .before .before .before .size-of .ensures)
+    (c .before .before .before .before .before .before .before .before .before .before .before .before .before .pass4 .given .1) (c .before .before .before .before .before .before .before .apply4 .ensures .0)
 
 returns-5 : tie.Need-returns-5
 unfolding overBy
@@ -104,7 +108,7 @@ run-pass-spec =
     tie.close
     (tie.spec
     (λ c. search needs) (λ c. search needs) apply-requires (λ c. search needs) (λ c. search needs) apply-requires-2 (λ c. search needs)
-    (λ c κs. search needs) (λ c. search needs) apply-requires-4 (λ c. search needs) apply-requires-5 (λ c. search needs) (λ c κs. search needs)
+    (λ c κs. search needs) (λ c. search needs) size-of-requires apply-requires-4 (λ c. search needs) apply-requires-5 (λ c. search needs) (λ c κs. search needs)
     (λ c. search needs) apply-requires-7 (λ c. search needs) (λ c κs. search needs) (λ c. search needs) (λ c κs. search needs)
     (λ c. search needs) (λ c κs. search needs) (λ c. search needs) returns (λ c. search needs) (λ c. search needs) returns-2 (λ c. search needs)
     returns-3 (λ c. search needs) (λ c. search needs) (λ c. search needs) returns-4 (λ c. search needs) returns-5 (λ c. search needs)

@@ -6,8 +6,6 @@ use mathlib.Core.Path.{_≡_, refl, sym, ap, _∙_, subst}
 use mathlib.Core.Bool.{Bool, true, false, cond}
 use mathlib.Core.Logic.{inl}
 use mathlib.Core.List.{List}
-use borrow.Author.Tests.{eqb-true}
-use lib.Dec.{eqb}
 use lib.ListN.{length, getD}
 use lib.Ieee.{Float}
 use lib.Ieee.Exact.{HasValue}
@@ -15,6 +13,7 @@ use lib.Ieee.Positive.{num, den}
 use Rattle.num.specs.Const.{c1·0}
 use Rattle.num.specs.F32.{_⊘_}
 use Rattle.num.specs.Held.{Held, sameHeld}
+use Rattle.num.specs.Laws.Held.{same-held}
 use Rattle.num.specs.Laws.Rewrite.{getD-rewrite}
 use Rattle.passes.specs as Text
 use Rattle.passes.specs.Flow.{Flow, flow}
@@ -64,15 +63,15 @@ module _ (amount : Float) (own : HasValue amount false (num amount) (den amount)
       let words = x .frame .words in
       k * length words ≤ length (x .past) → (x .held ≡ size → Full k words (x .past))
       → Still words (persistence amount k size x .frame .words) × Full k words (persistence amount k size x .past)
-  unfolding Text.Persistence.persistence sameHeld
-  persistence-still size x room full = go (eqb (x .held) size) refl
+  unfolding Text.Persistence.persistence
+  persistence-still size x room full = go (sameHeld (x .held) size) refl
     where
-      go : (b : Bool) → eqb (x .held) size ≡ b →
+      go : (b : Bool) → sameHeld (x .held) size ≡ b →
           let words = x .frame .words in
           let met = flow (onto (blend amount k (x .past)) (x .frame)) size (shifted k words (x .past)) in
           let y = cond b met (flow (x .frame) size (refilled k words (x .past))) in
           Still words (y .frame .words) × Full k words (y .past)
       go true e =
-          let all = full (eqb-true (x .held) size e) in
+          let all = full (same-held (x .held) size e) in
           (full-still (x .past) (x .frame .words) all, full-shifted k (x .frame .words) (x .past) room all)
       go false e = (still-itself (x .frame .words), full-refilled k (x .frame .words) (x .past))

@@ -3,6 +3,7 @@ use borrow.Author.Needs.{needs}
 use Prim.Native.Nat.{ℕ, _+_}
 use mathlib.Core.List.{List, []}
 use mathlib.Core.Path.{_≡_, ap, sym, _∙_}
+use Rattle.num.specs.Held.{Held}
 use Rattle.cards.specs.Answers.{Report, refusal, acceptance, Reply, reported, reportedWriting, opened, written, told, left}
 use Rattle.cards.specs.Card.{openOf}
 use Rattle.cards.specs.Write.{writeReply, writeInto}
@@ -14,7 +15,7 @@ use Rattle.probe.specs.Cards.{holding, andThen, answerOf, bytesOf}
 use Rattle.probe.proofs.card.probe_card.Statement.{statement}
 use Rattle.probe.proofs.card.probe_card.Tie as tie
 
-module _ (card : List ℕ) (held : ℕ) (out : List ℕ) (o : Opened) (e : opened o ≡ openOf card) where
+module _ (card : List ℕ) (held : Held) (out : List ℕ) (o : Opened) (e : opened o ≡ openOf card) where
   -- what the opening answered, whatever comes after it
   after : (a next : Report) (new : List ℕ) → reported (o .answer) ≡ a
       → (told (andThen a next) ≡ told (andThen (openOf card .answer) next)) × (left a out new ≡ left (openOf card .answer) out new)
