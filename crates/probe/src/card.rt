@@ -21,7 +21,8 @@ pub extern "C" fn probe_card(card: &[u8], width: u16, height: u16, out: &mut [u8
     if let Answer::Refused(k) = answer {
         return 256 + k as usize;
     }
-    station.held = Size { width, height };
+    let held = Size { width, height };
+    station.held = held;
     let written = writer::write(station, out);
     let told = written.answer;
     match told {

@@ -17,10 +17,10 @@ wrote c =
     laid-card _ (w .write .result) _ (w .write .ensures .0) (w .write .ensures .1) _ (c .before .answer .given .1)
 
 cast-state : tie.Need-cast-state
-cast-state c = record { fits = omega (arith, wrote c .short) }
+cast-state c = record { fits = omega (arith, wrote (c .before) .short) }
 
 returns-2 : tie.Need-returns-2
-returns-2 c = laid-down _ _ _ (wrote c)
+returns-2 c = laid-down _ _ _ (wrote (c .before .before .before .before .before))
 
 pub encode-spec : {M : Type 1} → statement M
 encode-spec =
