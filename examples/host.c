@@ -1,5 +1,5 @@
-/* A host in C: opens a card, runs frames, and prints a checksum of the last picture, the channels that were clipped on the way, and
-   the totals of the picture's middle. */
+/* A host in C: opens a card, runs frames, and prints a checksum of the last picture, the channels that were clipped on the way, the
+   totals of the picture's middle, and how the switches stand then, as a front end shows them. */
 #include <stdio.h>
 #include "hedgemallow.h"
 
@@ -10,6 +10,9 @@ static const uint8_t card[] = {0x13, 0x49, 0xF8, 0x00, 0x00, 0x00, 0x1A, 0xC9, 0
                                0x00, 0x00, 0x05, 0x4F, 0xC0, 0x00, 0x00, 0x00};
 /* Left, top, width, height. */
 static const uint16_t middle[] = {16, 12, 32, 24};
+/* By the kinds' numbers. */
+static const char *const names[] = {"", "NTSC", "bloom", "gradient", "persistence", "LUT", "curvature", "colour", "CRT", "vignette",
+                                    "scanlines"};
 static uint32_t frame[COUNT], history[DEPTH * COUNT], ints[COUNT];
 static float floats[6 * COUNT];
 
@@ -26,6 +29,18 @@ static uint32_t checksum(void) {
         for (int shift = 0; shift < 32; shift += 8)
             sum = (sum ^ (frame[i] >> shift & 255)) * 16777619u;
     return sum;
+}
+
+/* The passes of the chain, on or off, and the LUT's preset: asking changes nothing. */
+static void show(const uint8_t *state) {
+    printf("switches:");
+    for (uint8_t kind = HEDGEMALLOW_NTSC; kind <= HEDGEMALLOW_SCANLINES; kind++) {
+        uint32_t on = hedgemallow_enabled(state, kind);
+        if (on < HEDGEMALLOW_REFUSED) printf(" %s %s", names[kind], on ? "on" : "off");
+    }
+    uint32_t preset = hedgemallow_preset(state);
+    if (preset < HEDGEMALLOW_REFUSED) printf(", preset %u", (unsigned)preset);
+    printf("\n");
 }
 
 int main(void) {
@@ -61,5 +76,6 @@ int main(void) {
            (unsigned)checksum(), (unsigned)sum);
     printf("middle: %u words, red %lu, green %lu, blue %lu\n", (unsigned)read[0], (unsigned long)totals[0], (unsigned long)totals[1],
            (unsigned long)totals[2]);
+    show(state);
     return 0;
 }

@@ -1,7 +1,7 @@
 //! A host in Rust: opens a card, runs frames, and prints a checksum of the last picture, the channels that were clipped on the way,
-//! and the totals of the picture's middle.
+//! the totals of the picture's middle, and how the switches stand then, as a front end shows them.
 
-use hedgemallow::{areas, history_words, scratch_words, Kind, Preset, Refusal, Station};
+use hedgemallow::{areas, history_words, scratch_words, Kind, Preset, Refusal, Station, KINDS};
 
 const WIDTH: usize = 64;
 const HEIGHT: usize = 48;
@@ -27,6 +27,24 @@ fn paint(frame: &mut [u32], number: u32) {
 fn checksum(frame: &[u32]) -> u32 {
     let bytes = frame.iter().flat_map(|word| word.to_le_bytes());
     bytes.fold(2166136261, |sum, byte| (sum ^ u32::from(byte)).wrapping_mul(16777619))
+}
+
+/// By the kinds' numbers, from 1 on.
+const NAMES: [&str; 10] =
+    ["NTSC", "bloom", "gradient", "persistence", "LUT", "curvature", "colour", "CRT", "vignette", "scanlines"];
+
+/// The passes of the chain, on or off, and the LUT's preset: asking changes nothing.
+fn show(station: &Station) {
+    print!("switches:");
+    for (kind, name) in KINDS.into_iter().zip(NAMES) {
+        if let Ok(on) = station.enabled(kind) {
+            print!(" {name} {}", if on { "on" } else { "off" });
+        }
+    }
+    if let Ok(preset) = station.preset() {
+        print!(", preset {}", preset as u8);
+    }
+    println!();
 }
 
 fn run() -> Result<(), Refusal> {
@@ -55,6 +73,7 @@ fn run() -> Result<(), Refusal> {
         checksum(&frame)
     );
     println!("middle: {read} words, red {}, green {}, blue {}", totals[0], totals[1], totals[2]);
+    show(&station);
     Ok(())
 }
 

@@ -41,8 +41,8 @@
  * subnormal numbers are flushed, a card's subnormal setting opens as 0, which normalises to another
  * card, and a state with such a setting may be refused by 13.
  *
- * Stack. hedgemallow_apply was measured at 44,936 bytes at most, whatever the size of the frame. A
- * thread that is made with a small stack should have 64 KiB left for it.
+ * Stack. hedgemallow_apply was measured at 45,208 bytes (2026-11-16), whatever the card and the size of the
+ * frame. A thread that is made with a small stack should have 64 KiB left for it.
  *
  * No function keeps a pointer, allocates, or has state of its own, so calls on different buffers
  * may run at the same time.
@@ -92,7 +92,7 @@ enum hedgemallow_refusal {
                                             each, an area that leaves the picture, or too few totals */
 };
 
-/* The kinds of passes, as a card and hedgemallow_set_enabled name them. */
+/* The kinds of passes, as a card, hedgemallow_set_enabled and hedgemallow_enabled name them. */
 enum hedgemallow_kind {
     HEDGEMALLOW_NTSC = 1,
     HEDGEMALLOW_BLOOM = 2,
@@ -106,7 +106,7 @@ enum hedgemallow_kind {
     HEDGEMALLOW_SCANLINES = 10
 };
 
-/* The presets of a LUT, as a card and hedgemallow_cycle_lut number them. */
+/* The presets of a LUT, as a card, hedgemallow_cycle_lut and hedgemallow_preset number them. */
 enum hedgemallow_preset {
     HEDGEMALLOW_IDENTITY = 0,
     HEDGEMALLOW_WARM_CRT = 1,
@@ -145,6 +145,13 @@ uint32_t hedgemallow_cycle_lut(uint8_t state[HEDGEMALLOW_STATE]);
 
 /* Reports how many frames of count words the history must have room for, 0 to 8. Refusal 13. */
 uint32_t hedgemallow_depth(const uint8_t state[HEDGEMALLOW_STATE]);
+
+/* Reports whether the pass of that kind, 1 to 10, is on: 1, or 0 where it is off. Nothing is switched.
+   Refusals 13, 12: a pass that the card does not name is neither. */
+uint32_t hedgemallow_enabled(const uint8_t state[HEDGEMALLOW_STATE], uint8_t kind);
+
+/* Reports the LUT's preset, 0 to 6, whether it is on or off. Nothing is stepped. Refusals 13, 12. */
+uint32_t hedgemallow_preset(const uint8_t state[HEDGEMALLOW_STATE]);
 
 /* The totals of up to 64 areas of a picture, in one reading: three for each, in the order given, at
    the front of the result; its rest stays. A word is read if an area holds it, and then once, and

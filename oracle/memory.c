@@ -64,13 +64,15 @@ static int frame(void) {
     float *floats = room(6 * words * sizeof *floats);
     for (size_t i = 0; i < words; i++)
         picture[i] = (uint32_t)pixels[3 * i] << 16 | (uint32_t)pixels[3 * i + 1] << 8 | pixels[3 * i + 2];
-    uint32_t answer = hedgemallow_apply(state, picture, words, width, height, history, places, floats, 6 * words, ints, words);
+    uint32_t *clipped = room(sizeof *clipped);
+    uint32_t answer = hedgemallow_apply(state, picture, words, width, height, history, places, floats, 6 * words, ints, words, clipped);
     printf("F");
     for (size_t i = 0; i < words; i++) printf(" %06X", (unsigned)picture[i]);
     printf("\n");
     free(picture);
     free(ints);
     free(floats);
+    free(clipped);
     return answer == 0;
 }
 

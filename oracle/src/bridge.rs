@@ -102,6 +102,16 @@ pub fn depth(state: &State) -> Answer {
     answer(unsafe { exports::hedgemallow_depth(state.as_ptr()) })
 }
 
+pub fn enabled(state: &State, kind: u8) -> Answer {
+    // SAFETY: as above.
+    answer(unsafe { exports::hedgemallow_enabled(state.as_ptr(), kind) })
+}
+
+pub fn preset(state: &State) -> Answer {
+    // SAFETY: as above.
+    answer(unsafe { exports::hedgemallow_preset(state.as_ptr()) })
+}
+
 /// The totals of rectangles, and in `read` how many words were read. The picture is a place in memory and its words: not all of it
 /// may be readable.
 pub fn areas(

@@ -189,9 +189,22 @@ pub fn cycle_lut(state: &mut State) -> Answer {
     on_state(state, plain::cycle_lut)
 }
 
-pub fn depth(state: &State) -> Answer {
+/// A question, which leaves the state.
+fn of_state(state: &State, question: impl Fn(&State) -> Answer) -> Answer {
     let mut copy = *state;
-    let answer = on_state(&mut copy, |state| plain::depth(state));
+    let answer = on_state(&mut copy, |state| question(state));
     assert!(copy == *state, "the state was written");
     answer
+}
+
+pub fn depth(state: &State) -> Answer {
+    of_state(state, plain::depth)
+}
+
+pub fn enabled(state: &State, kind: u8) -> Answer {
+    of_state(state, |state| plain::enabled(state, kind))
+}
+
+pub fn preset(state: &State) -> Answer {
+    of_state(state, plain::preset)
 }

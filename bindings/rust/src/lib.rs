@@ -3,7 +3,8 @@
 //!
 //! The types see to pointers, lengths and threads. Two things are left to the caller, as the header
 //! says: the thread's control word for floats (MXCSR) rounds to nearest, keeps subnormal numbers and
-//! masks all exceptions, as Rust itself takes for granted; and a call takes up to 44,936 bytes of stack.
+//! masks all exceptions, as Rust itself takes for granted; and a frame takes 45,208 bytes of stack
+//! (measured on 2026-11-16).
 //!
 //! ```
 //! use hedgemallow::{scratch_words, Kind, Refusal, Station};
@@ -51,6 +52,8 @@ pub(crate) mod exports {
         pub fn hedgemallow_set_enabled(state: *mut u8, kind: u8, on: u8) -> u32;
         pub fn hedgemallow_cycle_lut(state: *mut u8) -> u32;
         pub fn hedgemallow_depth(state: *const u8) -> u32;
+        pub fn hedgemallow_enabled(state: *const u8, kind: u8) -> u32;
+        pub fn hedgemallow_preset(state: *const u8) -> u32;
         pub fn hedgemallow_areas(
             picture: *const u32,
             picture_len: usize,
@@ -181,6 +184,25 @@ const PRESETS: [Preset; 7] = [
     Preset::HighContrast,
 ];
 
+/// The preset of a number that a call reports: 0 to 6, since every station that is not refused has such a one.
+fn preset(number: u32) -> Preset {
+    PRESETS[number as usize % PRESETS.len()]
+}
+
+/// In the order of their numbers.
+pub const KINDS: [Kind; 10] = [
+    Kind::Ntsc,
+    Kind::Bloom,
+    Kind::AutoGradient,
+    Kind::Persistence,
+    Kind::Lut,
+    Kind::Curvature,
+    Kind::ColorCorrection,
+    Kind::Crt,
+    Kind::Vignette,
+    Kind::Scanlines,
+];
+
 /// The most bytes that a card has.
 pub const CARD: usize = 72;
 
@@ -271,9 +293,40 @@ impl Station {
 
     /// Steps the LUT to its next preset, and reports it.
     pub fn cycle_lut(&mut self) -> Result<Preset, Refusal> {
-        let preset = report(unsafe { exports::hedgemallow_cycle_lut(self.state.as_mut_ptr()) })?;
-        // A step reports 0 to 6: that is proved.
-        Ok(PRESETS[preset as usize % PRESETS.len()])
+        report(unsafe { exports::hedgemallow_cycle_lut(self.state.as_mut_ptr()) }).map(preset)
+    }
+
+    /// Whether the pass of that kind is on. `NotInChain` tells that the card does not name it.
+    ///
+    /// ```
+    /// # use hedgemallow::{Kind, Refusal, Station};
+    /// // Scanlines at full strength, on.
+    /// let mut station = Station::open(&[0x11, 0xA9, 0xFC, 0x00, 0x00, 0x00])?;
+    /// assert_eq!(station.enabled(Kind::Scanlines), Ok(true));
+    /// assert_eq!(station.enabled(Kind::Lut), Err(Refusal::NotInChain));
+    ///
+    /// station.set_enabled(Kind::Scanlines, false)?;
+    /// assert_eq!(station.enabled(Kind::Scanlines), Ok(false));
+    /// # Ok::<(), Refusal>(())
+    /// ```
+    pub fn enabled(&self, kind: Kind) -> Result<bool, Refusal> {
+        report(unsafe { exports::hedgemallow_enabled(self.state.as_ptr(), kind as u8) }).map(|on| on != 0)
+    }
+
+    /// The LUT's preset, on or off.
+    ///
+    /// ```
+    /// # use hedgemallow::{Preset, Refusal, Station};
+    /// // A LUT with preset 4 at full strength, on.
+    /// let mut station = Station::open(&[0x11, 0x5C, 0x3F, 0x80, 0x00, 0x00])?;
+    /// assert_eq!(station.preset(), Ok(Preset::GameBoy));
+    ///
+    /// assert_eq!(station.cycle_lut(), Ok(Preset::Amber));
+    /// assert_eq!(station.preset(), Ok(Preset::Amber));
+    /// # Ok::<(), Refusal>(())
+    /// ```
+    pub fn preset(&self) -> Result<Preset, Refusal> {
+        report(unsafe { exports::hedgemallow_preset(self.state.as_ptr()) }).map(preset)
     }
 
     /// How many older frames the history has room for.
@@ -401,6 +454,29 @@ mod tests {
         assert_eq!(frame, [0xFFFFFF; 4]);
     }
 
+    /// Of the three kinds of the card, and of no other.
+    #[test]
+    fn switches_and_the_preset_are_told_as_they_stand() {
+        let mut station = opened();
+        let told = |station: &Station| KINDS.map(|kind| station.enabled(kind).ok());
+        let on = |kind: Kind| KINDS.iter().position(|&other| other == kind).unwrap();
+        let mut asked = [None; 10];
+        for kind in [Kind::Persistence, Kind::Lut, Kind::Scanlines] {
+            asked[on(kind)] = Some(true);
+        }
+        assert_eq!((told(&station), station.preset()), (asked, Ok(Preset::WarmCrt)));
+        station.set_enabled(Kind::Lut, false).unwrap();
+        asked[on(Kind::Lut)] = Some(false);
+        assert_eq!((told(&station), station.preset()), (asked, Ok(Preset::WarmCrt)));
+        for preset in [2, 3, 4, 5, 6, 0, 1] {
+            assert_eq!(station.cycle_lut(), Ok(PRESETS[preset]));
+            assert_eq!((told(&station), station.preset()), (asked, Ok(PRESETS[preset])));
+        }
+        let empty = Station::open(&[0x10]).unwrap();
+        assert_eq!(KINDS.map(|kind| empty.enabled(kind)), [Err(NotInChain); 10]);
+        assert_eq!(empty.preset(), Err(NotInChain));
+    }
+
     #[test]
     fn areas_are_added_up_in_the_order_given() {
         let (picture, mut result) = ([0xFF010203, 0x040506, 0x070809, 0x0A0B0C], [9; 7]);
@@ -435,6 +511,8 @@ mod tests {
                         assert_eq!(station.reset(), Err(BadStation));
                         assert_eq!(station.set_enabled(Kind::Scanlines, false), Err(BadStation));
                         assert_eq!(station.cycle_lut(), Err(BadStation));
+                        assert_eq!(station.enabled(Kind::Scanlines), Err(BadStation));
+                        assert_eq!(station.preset(), Err(BadStation));
                         let (mut frame, mut history) = ([7], [7; 3]);
                         assert_eq!(station.apply(&mut frame, 1, 1, &mut history, &mut [0.0; 6], &mut [0]), Err(BadStation));
                         assert_eq!((station.state, frame, history), (bytes, [7], [7; 3]));

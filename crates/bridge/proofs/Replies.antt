@@ -7,13 +7,11 @@ use mathlib.Core.List.{List, [], _∷_}
 use borrow.Author.Tests.{ne-eqb}
 use lib.Ieee.{Float}
 use lib.ListN.{length, drop}
-use Rattle.cards.specs.Alike.{chainOf}
 use Rattle.cards.specs.Answers.{reported, Reply, reply, refusal, reportedWriting, opened, written, told}
 use Rattle.cards.specs.Laws.Answers.{accepted-not}
 use Rattle.chain.specs.Answers.{reportedFrame, reportedStep, cycled, free, Applies}
 use Rattle.chain.specs.Calls.{framed, frameReply}
 use Rattle.cards.specs.Card.{accepted, openOf}
-use Rattle.chain.specs.Chain.{depth}
 use Rattle.cards.specs.Write.{writeReply, writeInto}
 use Rattle.chain.specs.declared.pipeline.Applied.{Applied}
 use Rattle.chain.specs.declared.pipeline.Cycle.{Cycle}
@@ -26,7 +24,7 @@ use Rattle.cards.specs.declared.station.Answer.{Answer}
 use Rattle.cards.specs.declared.station.Answer.the-variants.{Accepted, Refused}
 use Rattle.cards.specs.declared.station.Station.{Station}
 use Rattle.cards.specs.declared.writer.Written.{Written}
-use Rattle.bridge.specs.Outcomes.{Outcome, outcome, answered, damaged, opening, onState, depthTold, writeTold, writeLeft, Shown, shown, framedNumber, framedShown, frameShown, freed, Frames}
+use Rattle.bridge.specs.Outcomes.{Outcome, outcome, answered, damaged, opening, onState, askedOf, writeTold, writeLeft, Shown, shown, framedNumber, framedShown, frameShown, freed, Frames}
 use Rattle.bridge.specs.State.{encoded, stationIn, isState, decoded}
 
 pub opens : (card b : List ℕ) (o : Opened) (x : Outcome) → opened o ≡ openOf card → x ≡ answered b (opened o) → x ≡ opening card b
@@ -98,15 +96,16 @@ module _ (f : Station → Reply) (b : List ℕ) where
   unfolding onState
   on-station s a x t e h = rw (t .sound) (h ∙ ap (answered b) (e ∙ ap f (t .station)))
 
--- ## The depth
+-- ## Questions
 
-pub depth-none : (b : List ℕ) (k n : ℕ) → Unread b k → n ≡ 256 + k → n ≡ depthTold b
-unfolding depthTold
-depth-none b k n u e = rw (u .broken) (e ∙ u .by-13)
+module _ (f : Station → ℕ) (b : List ℕ) where
+  pub ask-none : (k n : ℕ) → Unread b k → n ≡ 256 + k → n ≡ askedOf f b
+  unfolding askedOf
+  ask-none k n u e = rw (u .broken) (e ∙ u .by-13)
 
-pub depth-some : (b : List ℕ) (s : Station) (n : ℕ) → Read b s → n ≡ depth (chainOf s) → n ≡ depthTold b
-unfolding depthTold
-depth-some b s n t e = rw (t .sound) (e ∙ ap (λ (q : Station). depth (chainOf q)) (t .station))
+  pub ask-some : (s : Station) (n : ℕ) → Read b s → n ≡ f s → n ≡ askedOf f b
+  unfolding askedOf
+  ask-some s n t e = rw (t .sound) (e ∙ ap f (t .station))
 
 -- ## Writing
 

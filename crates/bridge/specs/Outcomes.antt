@@ -10,7 +10,7 @@ use lib.Ieee.{Float}
 use lib.ListN.{length, drop}
 use Rattle.cards.specs.Alike.{chainOf}
 use Rattle.cards.specs.Answers.{Report, refusal, acceptance, Reply, told, left}
-use Rattle.chain.specs.Calls.{Framed, frameReply}
+use Rattle.chain.specs.Calls.{Framed, frameReply, enabledReport, presetReport}
 use Rattle.cards.specs.Card.{openOf}
 use Rattle.chain.specs.Chain.{depth}
 use Rattle.cards.specs.Write.{writeReply, writeInto}
@@ -39,9 +39,19 @@ opening card b = answered b (openOf card)
 unfoldable pub onState : (Station → Reply) → List ℕ → Outcome
 onState f b = cond (isState b) (answered b (f (stationIn b))) (outcome damaged b)
 
+-- a question of the station of the state, whose bytes are lent to be read alone
+unfoldable pub askedOf : (Station → ℕ) → List ℕ → ℕ
+askedOf f b = cond (isState b) (f (stationIn b)) damaged
+
 -- document 01's K
-unfoldable pub depthTold : List ℕ → ℕ
-depthTold b = cond (isState b) (depth (chainOf (stationIn b))) damaged
+abbrev pub depthTold : List ℕ → ℕ
+depthTold = askedOf (λ s. depth (chainOf s))
+
+abbrev pub enabledTold : ℕ → List ℕ → ℕ
+enabledTold kind = askedOf (λ s. told (enabledReport kind s))
+
+abbrev pub presetTold : List ℕ → ℕ
+presetTold = askedOf (λ s. told (presetReport s))
 
 -- ## Writing
 

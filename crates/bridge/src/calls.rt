@@ -5,10 +5,11 @@ ghost use Prim.Native.Nat.{_+_};
 ghost use mathlib.Core.Bool.{not};
 ghost use lib.Dec.{eqb};
 ghost use Rattle.areas.specs.Areas.{judged};
-ghost use Rattle.cards.specs.Answers.{reply, reported};
+ghost use Rattle.cards.specs.Answers.{reply, reported, told as toldBy};
+ghost use Rattle.chain.specs.Answers.{asked};
 ghost use Rattle.chain.specs.Calls.{resetReply, switchReply, stepReply};
 ghost use Rattle.bridge.specs.Judged.{judgedTold};
-ghost use Rattle.bridge.specs.Outcomes.{outcome, answered, opening, onState, depthTold, writeTold, writeLeft, Frames};
+ghost use Rattle.bridge.specs.Outcomes.{outcome, answered, opening, onState, depthTold, enabledTold, presetTold, writeTold, writeLeft, Frames};
 use super::state::decode;
 use super::state::encode;
 use cards::reader;
@@ -17,6 +18,7 @@ use cards::station::Station;
 use cards::writer;
 use cards::writer::Writing;
 use chain::pipeline;
+use chain::pipeline::Asked;
 use chain::pipeline::Cycle;
 use chain::pipeline::FrameAnswer;
 
@@ -36,6 +38,16 @@ fn keep(answer: Answer, station: Station, state: &mut [u8; 80]) -> u32
     }
     *state = encode(station);
     0
+}
+
+// Tells what a question was answered by.
+fn tell(answer: Asked) -> u32
+    ensures { λ r. ⌜ r ≡ toldBy (asked answer) ⌝ }
+{
+    match answer {
+        Asked::Number(n) => n as u32,
+        Asked::Refused(k) => refusal(k),
+    }
 }
 
 // The station of a card, written as the state.
@@ -173,6 +185,34 @@ pub extern "C" fn hedgemallow_depth(state: &[u8; 80]) -> u32
         return refusal(k);
     }
     pipeline::places(station) as u32
+}
+
+// Whether the pass of that kind is on: 1, or 0 where it is off.
+#[no_mangle]
+pub extern "C" fn hedgemallow_enabled(state: &[u8; 80], kind: u8) -> u32
+    ensures { λ r. ⌜ r ≡ enabledTold kind (now (state .entry)) ⌝ }
+{
+    let opened = decode(*state);
+    let answer = opened.answer;
+    let station = opened.station;
+    if let Answer::Refused(k) = answer {
+        return refusal(k);
+    }
+    tell(pipeline::enabled(station, kind))
+}
+
+// The LUT's preset.
+#[no_mangle]
+pub extern "C" fn hedgemallow_preset(state: &[u8; 80]) -> u32
+    ensures { λ r. ⌜ r ≡ presetTold (now (state .entry)) ⌝ }
+{
+    let opened = decode(*state);
+    let answer = opened.answer;
+    let station = opened.station;
+    if let Answer::Refused(k) = answer {
+        return refusal(k);
+    }
+    tell(pipeline::preset(station))
 }
 
 // The totals of rectangles of a picture, three for each, at the front of the result; and how many words were read. It asks for no station.

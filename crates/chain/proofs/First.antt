@@ -10,7 +10,7 @@ use borrow.Author.Tests.{eqb-true, eqb-false, eq-eqb, ne-eqb}
 use lib.Dec.{eqb}
 use lib.ListN.{length, take, drop, getD, set, drop-of-length-le, take-append-drop}
 use lib.Seq.{slice-cons, length-take-le}
-use Rattle.chain.specs.Calls.{onFirst, stepped, steppedPass, presetOf, presets}
+use Rattle.chain.specs.Calls.{onFirst, ofFirst, stepped, steppedPass, presetOf, presets}
 use Rattle.chain.specs.Lent.{First}
 use Rattle.cards.specs.Normal.{normalChain}
 use Rattle.cards.specs.Passes.{kindOf}
@@ -70,6 +70,10 @@ module _ {kind n : ℕ} {rs : List Record} {i : ℕ} (t : Sought kind n rs i) (l
       let end : drop (suc i) (take n rs) ≡ [] = drop-of-length-le (take n rs) {i = suc i} (omega (arith, length-take-le n rs (omega arith))) in
       sought-found (eqb-true _ _ (or-first-only _ _ (ap (λ (q : List Record). among kind (kinds q)) end) next-kind))
 
+-- among the records after another
+later : {kind n : ℕ} {r : Record} {rs : List Record} {i : ℕ} → First kind (suc n) (r ∷ rs) (suc i) → First kind n rs i
+later t = record { within = le-of-suc-le-suc (t .within); there = t .there; earlier = λ j e m. t .earlier (suc j) e (suc-le-suc m) }
+
 -- ## Changing it in its place
 
 pub first-set : (kind n : ℕ) (f : Record → Record) (rs : List Record) (i : ℕ) (d : Record) → First kind n rs i → n ≤ length rs
@@ -80,8 +84,19 @@ first-set kind (suc n) f [] i d t l = absurd (not-suc-le-zero l)
 first-set kind (suc n) f (r ∷ rs) zero d t l = rw (eq-eqb (kindOf (r .pass)) kind (t .there d)) (ap (λ (q : List Record). f r ∷ q) (take-append-drop n rs))
 first-set kind (suc n) f (r ∷ rs) (suc i) d t l =
     let other : eqb (kindOf (r .pass)) kind ≡ false = ne-eqb (kindOf (r .pass)) kind (t .earlier 0 d (suc-le-suc zero-le)) in
-    let rest : First kind n rs i = record { within = le-of-suc-le-suc (t .within); there = t .there; earlier = λ j e m. t .earlier (suc j) e (suc-le-suc m) } in
-    rw other (ap (λ (q : List Record). r ∷ q) (first-set kind n f rs i d rest (le-of-suc-le-suc l)))
+    rw other (ap (λ (q : List Record). r ∷ q) (first-set kind n f rs i d (later t) (le-of-suc-le-suc l)))
+
+-- ## Asking it
+
+pub first-told : (kind n : ℕ) (f : Record → List ℕ) (rs : List Record) (i : ℕ) (d : Record) → First kind n rs i → n ≤ length rs
+    → ofFirst kind f (take n rs) ≡ f (getD rs i d)
+unfolding ofFirst
+first-told kind zero f rs i d t l = absurd (not-suc-le-zero (t .within))
+first-told kind (suc n) f [] i d t l = absurd (not-suc-le-zero l)
+first-told kind (suc n) f (r ∷ rs) zero d t l = rw (eq-eqb (kindOf (r .pass)) kind (t .there d)) refl
+first-told kind (suc n) f (r ∷ rs) (suc i) d t l =
+    let other : eqb (kindOf (r .pass)) kind ≡ false = ne-eqb (kindOf (r .pass)) kind (t .earlier 0 d (suc-le-suc zero-le)) in
+    rw other (first-told kind n f rs i d (later t) (le-of-suc-le-suc l))
 
 -- ## The one preset
 
@@ -106,5 +121,4 @@ one-preset seen (suc n) (r ∷ rs) zero d h t l =
 one-preset seen (suc n) (r ∷ rs) (suc i) d h t l =
     let not-5 = t .earlier 0 d (suc-le-suc zero-le) in
     let other : eqb (kindOf (r .pass)) 5 ≡ false = ne-eqb (kindOf (r .pass)) 5 not-5 in
-    let rest : First 5 n rs i = record { within = le-of-suc-le-suc (t .within); there = t .there; earlier = λ j e m. t .earlier (suc j) e (suc-le-suc m) } in
-    rw (other, no-lut (r .pass) not-5 .no-preset) (one-preset (seen ++ kindOf (r .pass) ∷ []) n rs i d (headed seen r (take n rs) h .others) rest (le-of-suc-le-suc l))
+    rw (other, no-lut (r .pass) not-5 .no-preset) (one-preset (seen ++ kindOf (r .pass) ∷ []) n rs i d (headed seen r (take n rs) h .others) (later t) (le-of-suc-le-suc l))

@@ -1,4 +1,4 @@
--- The calls on one pass: a reply by its refusal, what no refusal tells, and the record changed in its place. Assumes nothing.
+-- The calls on one pass: a reply by its refusal, what no refusal tells, and the record changed or asked in its place. Assumes nothing.
 use Prim.Native.Nat.{ℕ, zero, suc, _≤_}
 use native.Mathlib.Omega.{arith}
 use mathlib.Core.Path.{_≡_, refl, sym, ap, _∙_}
@@ -6,11 +6,12 @@ use mathlib.Core.Bool.{Bool, true, false, not, cond}
 use mathlib.Core.List.{List, [], _∷_}
 use lib.ListN.{length, getD, set}
 use Rattle.num.specs.Held.{Held}
+use Rattle.num.specs.Refusals.{unless}
 use Rattle.num.specs.Laws.Refusals.{accepts}
 use Rattle.cards.specs.Alike.{chainOf}
 use Rattle.cards.specs.Answers.{refusal, acceptance, Reply, reply, refusing}
-use Rattle.chain.specs.Calls.{hold, rechain, lacks, onFirst, heldAfter, turned, switched, switchReply, stepped, steppedPass, presetOf, presets, stepLut, stepReply}
-use Rattle.chain.specs.Lent.{First}
+use Rattle.chain.specs.Calls.{hold, rechain, lacks, onFirst, ofFirst, heldAfter, turned, switched, switchReply, stepped, steppedPass, presetOf, presets, stepLut, stepReply}
+use Rattle.chain.specs.Lent.{First, Stands}
 use Rattle.cards.specs.Normal.{goodStation}
 use Rattle.cards.specs.Records.{kinds, among}
 use Rattle.cards.specs.declared.station.Pass.{Pass}
@@ -47,6 +48,11 @@ module _ (kind : ℕ) (s : Station) (i : ℕ) (t : First kind (s .n) (s .records
       ap (λ (h : Held). reply (acceptance []) (put i (turned on (getD (s .records) i past)) h s)) e
       ∙ ap (reply (acceptance [])) (placed (turned on) (heldAfter kind on (s .held)))
       ∙ accepts (lacks s kind) (refusing s) (reply (acceptance []) (switched kind on s)) refl none
+
+-- what is asked of the record of that kind
+pub tells : (kind : ℕ) (s : Station) {r : Record} → Stands kind (chainOf s) r → lacks s kind ≡ 0 → (f : Record → List ℕ) {ns : List ℕ} → ns ≡ f r
+    → acceptance ns ≡ unless (lacks s kind) refusal (acceptance (ofFirst kind f (chainOf s)))
+tells kind s t none f e = ap acceptance (e ∙ sym (t .told f)) ∙ accepts (lacks s kind) refusal (acceptance (ofFirst kind f (chainOf s))) refl none
 
 -- the LUT's preset, which is the only one
 pub cycles : (s : Station) (i : ℕ) → First 5 (s .n) (s .records) i → s .n ≤ length (s .records) → lacks s 5 ≡ 0

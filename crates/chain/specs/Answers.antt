@@ -7,6 +7,8 @@ use lib.Ieee.{Float}
 use Rattle.cards.specs.Answers.{Report, refusal, acceptance, Reply, reply, reported}
 use Rattle.chain.specs.Calls.{framed, frameReply}
 use Rattle.chain.specs.declared.pipeline.Applied.{Applied}
+use Rattle.chain.specs.declared.pipeline.Asked.{Asked}
+use Rattle.chain.specs.declared.pipeline.Asked.the-variants as Asked
 use Rattle.chain.specs.declared.pipeline.Called.{Called}
 use Rattle.chain.specs.declared.pipeline.Cycled.{Cycled}
 use Rattle.chain.specs.declared.pipeline.Cycle.{Cycle}
@@ -24,6 +26,11 @@ reportedFrame (Frame.Refused k) = refusal k
 abbrev pub reportedStep : Cycle → Report
 reportedStep (Cycle.Preset p) = acceptance (p ∷ [])
 reportedStep (Cycle.Refused k) = refusal k
+
+-- of a question: acceptance reports its number
+abbrev pub asked : Asked → Report
+asked (Asked.Number n) = acceptance (n ∷ [])
+asked (Asked.Refused k) = refusal k
 
 abbrev pub called : Called → Reply
 called r = reply (reported (r .answer)) (r .station)

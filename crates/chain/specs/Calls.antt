@@ -111,6 +111,23 @@ stepLut = onFirst 5 stepped
 abbrev pub stepReply : Station → Reply
 stepReply s = unless (lacks s 5) (refusing s) (reply (acceptance (presets (stepLut (chainOf s)))) (rechain (stepLut (chainOf s)) s))
 
+-- ## Questions: what stands now. No station is given back, so they are no calls of the plain machine (Machine)
+
+-- what f tells of the first record of that kind
+unfoldable pub ofFirst : ℕ → (Record → List ℕ) → List Record → List ℕ
+ofFirst kind f [] = []
+ofFirst kind f (r ∷ rs) = cond (eqb (kindOf (r .pass)) kind) (f r) (ofFirst kind f rs)
+
+-- on is 1, off is 0
+abbrev pub switchOf : Record → List ℕ
+switchOf r = cond (r .on) 1 0 ∷ []
+
+abbrev pub enabledReport : ℕ → Station → Report
+enabledReport kind s = unless (lacks s kind) refusal (acceptance (ofFirst kind switchOf (chainOf s)))
+
+abbrev pub presetReport : Station → Report
+presetReport s = unless (lacks s 5) refusal (acceptance (ofFirst 5 (λ r. presetOf (r .pass)) (chainOf s)))
+
 -- ## Frame
 
 -- a frame leaves the framebuffer and the lent history too

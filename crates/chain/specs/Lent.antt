@@ -6,6 +6,7 @@ use mathlib.Core.List.{List}
 use lib.ListN.{length, getD}
 use lib.Ieee.{Float}
 use Rattle.passes.specs.Rows.{Frame}
+use Rattle.chain.specs.Calls.{ofFirst}
 use Rattle.chain.specs.Chain.{depthOf}
 use Rattle.cards.specs.Normal.{normalPass}
 use Rattle.cards.specs.Passes.{kindOf}
@@ -35,3 +36,8 @@ pub record First (kind n : ℕ) (rs : List Record) (i : ℕ) : Type 0 where
   pub within : i < n
   pub there : (d : Record) → kindOf (getD rs i d .pass) ≡ kind
   pub earlier : (j : ℕ) (d : Record) → j < i → kindOf (getD rs j d .pass) ≡ kind → ⊥
+
+-- r is the first record of that kind in the chain
+pub record Stands (kind : ℕ) (rs : List Record) (r : Record) : Type 0 where
+  pub kind-is : kindOf (r .pass) ≡ kind
+  pub told : (f : Record → List ℕ) → ofFirst kind f rs ≡ f r

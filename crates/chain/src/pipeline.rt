@@ -1,5 +1,5 @@
-// The calls on a station: a frame, a reset, a switch, a preset step. None has a condition: what it cannot do it refuses, by a number of document 01's table,
-// and a refusal changes nothing.
+// The calls on a station: a frame, a reset, a switch, a preset step, and two questions. None has a condition: what it cannot do it refuses, by a number of
+// document 01's table, and a refusal changes nothing.
 ghost use mathlib.Core.Path.{_≡_};
 ghost use Prim.Native.Nat.{_≤_, _<_};
 ghost use mathlib.Core.Bool.{true};
@@ -7,10 +7,11 @@ ghost use mathlib.Core.List.{[], _∷_};
 ghost use lib.ListN.{take};
 ghost use Rattle.cards.specs.Alike.{chainOf};
 ghost use Rattle.chain.specs.Chain.{depth as depthIn};
-ghost use Rattle.chain.specs.Calls.{heldAfter, next as nextOf, steppedPass, presetOf, resetReply, switchReply, stepReply};
-ghost use Rattle.chain.specs.Lent.{First};
+ghost use Rattle.chain.specs.Calls.{lacks as lacksAt, heldAfter, next as nextOf, steppedPass, presetOf};
+ghost use Rattle.chain.specs.Calls.{resetReply, switchReply, stepReply, enabledReport, presetReport};
+ghost use Rattle.chain.specs.Lent.{First, Stands};
 ghost use Rattle.cards.specs.Passes.{kindOf};
-ghost use Rattle.chain.specs.Answers.{called, cycled, Applies};
+ghost use Rattle.chain.specs.Answers.{called, cycled, asked, Applies};
 ghost use Rattle.cards.specs.Records.{kinds, among};
 use super::refusals::depth;
 use super::refusals::lacks;
@@ -50,6 +51,12 @@ pub enum Cycle {
 pub struct Cycled {
     pub answer: Cycle,
     pub station: Station,
+}
+
+// What a question answers: one number, or a refusal's. It gives back no station, since it gets one only to look at.
+pub enum Asked {
+    Number(u8),
+    Refused(u8),
 }
 
 // Document 01's K: how many older frames the history has places for.
@@ -263,4 +270,44 @@ pub fn cycle_lut(station: Station) -> Cycled
         answer: Cycle::Preset(preset_of(pass)),
         station: after,
     }
+}
+
+// The record of that kind, where `lacks` refuses nothing.
+pub(crate) fn record_of(station: Station, kind: u8) -> Record
+    requires { ⌜ lacksAt station kind ≡ 0 ⌝ }
+    ensures { λ r. ⌜ Stands kind (chainOf station) r ⌝ }
+{
+    let n = station.n;
+    let records = station.records;
+    let at = place(records, n, kind);
+    records[at]
+}
+
+// Whether the pass of that kind is on: 1, or 0 where it is off.
+pub fn enabled(station: Station, kind: u8) -> Asked
+    ensures { λ r. ⌜ asked r ≡ enabledReport kind station ⌝ }
+{
+    let refusal = lacks(station, kind);
+    if refusal != 0 {
+        return Asked::Refused(refusal);
+    }
+    let r = record_of(station, kind);
+    let on = r.on;
+    if on {
+        return Asked::Number(1);
+    }
+    Asked::Number(0)
+}
+
+// The LUT's preset.
+pub fn preset(station: Station) -> Asked
+    ensures { λ r. ⌜ asked r ≡ presetReport station ⌝ }
+{
+    let refusal = lacks(station, 5);
+    if refusal != 0 {
+        return Asked::Refused(refusal);
+    }
+    let r = record_of(station, 5);
+    let pass = r.pass;
+    Asked::Number(preset_of(pass))
 }

@@ -37,6 +37,8 @@ pub enum Case {
     StepRefused(u32),
     WriteRefused(u32),
     DepthRefused(u32),
+    EnabledRefused(u32),
+    PresetRefused(u32),
     /// The only fault of a frame or of a writing.
     OneShort(Short),
     SideZero,
@@ -58,6 +60,12 @@ pub enum Case {
     StepOff,
     Written,
     Depth,
+    /// A pass that was told to be off, and one that was told to be on.
+    Enabled(bool),
+    /// A byte that is no kind, asked for its switch and refused by 12.
+    EnabledUnknown,
+    /// A preset that was told.
+    Preset(u32),
     /// A state with a bit changed: a bad one, and one that is another good station's.
     Bad,
     Another,
@@ -99,6 +107,10 @@ impl Listed for Case {
         Case::WriteRefused(13),
         Case::WriteRefused(14),
         Case::DepthRefused(13),
+        Case::EnabledRefused(12),
+        Case::EnabledRefused(13),
+        Case::PresetRefused(12),
+        Case::PresetRefused(13),
         Case::OneShort(Short::Framebuffer),
         Case::OneShort(Short::History),
         Case::OneShort(Short::HistoryOff),
@@ -121,6 +133,16 @@ impl Listed for Case {
         Case::StepOff,
         Case::Written,
         Case::Depth,
+        Case::Enabled(false),
+        Case::Enabled(true),
+        Case::EnabledUnknown,
+        Case::Preset(0),
+        Case::Preset(1),
+        Case::Preset(2),
+        Case::Preset(3),
+        Case::Preset(4),
+        Case::Preset(5),
+        Case::Preset(6),
         Case::Bad,
         Case::Another,
     ];

@@ -5,7 +5,7 @@
 use super::station::{Lengths, Station};
 use crate::bridge::{Answer, State};
 use crate::passes::both::Both;
-use crate::passes::chain::{name, preset, PERSISTENCE};
+use crate::passes::chain::{name, preset, LUT, PERSISTENCE};
 use crate::passes::effects::built;
 
 pub struct Machine {
@@ -85,6 +85,18 @@ impl Machine {
     pub fn depth(&self) -> Answer {
         let station = self.station.as_ref().ok_or(13u32)?;
         Ok(station.depth().unwrap_or_default() as u32)
+    }
+
+    /// The original tells no switch: this is the station's own.
+    pub fn enabled(&self, kind: u8) -> Answer {
+        self.station.as_ref().ok_or(13u32)?.enabled(kind)
+    }
+
+    /// The preset is the original's.
+    pub fn preset(&self) -> Answer {
+        let station = self.station.as_ref().ok_or(13u32)?;
+        station.place(LUT).ok_or(12u32)?;
+        Ok(preset(self.pipeline.original()))
     }
 }
 

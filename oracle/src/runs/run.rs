@@ -171,6 +171,7 @@ fn play(
         called.push(call.to_string());
         sides.call(&call, random, tally, met)?;
     }
+    sides.ask_every_switch(met)?;
     every_bit(&sides.state, tally)
 }
 

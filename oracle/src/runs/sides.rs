@@ -17,10 +17,15 @@ pub struct Sides {
     pub history: Vec<u32>,
     /// The size of the frame that was taken last: for the cases alone.
     last: (usize, usize),
+    /// How many calls were made: which kind is asked for after each.
+    made: usize,
 }
 
 /// What a difference is: told in words.
 pub type Held<T = ()> = Result<T, String>;
+
+/// The kinds whose switches are asked for, and two bytes that are none.
+const ASKED: [u8; 12] = [1, 2, 3, 4, 5, 6, 7, 8, 9, 10, 0, 11];
 
 /// What stands in a card buffer before a card is written.
 const MARK: u8 = 0xa5;
@@ -33,6 +38,7 @@ impl Sides {
             state,
             history,
             last: (0, 0),
+            made: 0,
         }
     }
 
@@ -40,11 +46,13 @@ impl Sides {
     pub fn damaged(&self, state: State) -> Self {
         Sides {
             last: self.last,
+            made: self.made,
             ..Sides::new(state, self.history.clone())
         }
     }
 
-    /// Makes one call on both sides and holds all that it gives to the machine's.
+    /// Makes one call on both sides and holds all that it gives to the machine's. Then a switch is asked for, one kind after
+    /// another, and the preset.
     pub fn call(
         &mut self,
         call: &Call,
@@ -78,6 +86,34 @@ impl Sides {
         same_words("history", &self.history, &self.machine.history)?;
         tally.called(asked, self.history.len());
         self.note(call, before.as_ref(), asked, met);
+        self.ask_switch(ASKED[self.made % ASKED.len()], met)?;
+        self.ask_preset(met)?;
+        self.made += 1;
+        Ok(())
+    }
+
+    /// The switch of every byte, kind or not.
+    pub fn ask_every_switch(&self, met: &mut Met<Case>) -> Held {
+        (0..=255).try_for_each(|kind| self.ask_switch(kind, met))
+    }
+
+    fn ask_switch(&self, kind: u8, met: &mut Met<Case>) -> Held {
+        let here = bridge::enabled(&self.state, kind);
+        let asked = answered(here, self.machine.enabled(kind))
+            .map_err(|text| format!("the switch of kind {kind}, {text}"))?;
+        met.note(match asked {
+            Ok(on) => Case::Enabled(on != 0),
+            Err(12) if !(1..=10).contains(&kind) => Case::EnabledUnknown,
+            Err(number) => Case::EnabledRefused(number),
+        });
+        Ok(())
+    }
+
+    fn ask_preset(&self, met: &mut Met<Case>) -> Held {
+        let here = bridge::preset(&self.state);
+        let asked =
+            answered(here, self.machine.preset()).map_err(|text| format!("the preset, {text}"))?;
+        met.note(asked.map_or_else(Case::PresetRefused, Case::Preset));
         Ok(())
     }
 

@@ -129,6 +129,12 @@ impl Station {
         Ok(0)
     }
 
+    /// Whether the pass of that kind is on, as 1 or 0.
+    pub fn enabled(&self, kind: u8) -> Answer {
+        let place = self.place(kind.into()).ok_or(12u32)?;
+        Ok(self.records()[place].on.into())
+    }
+
     pub fn step(&mut self) -> Answer {
         let place = self.place(LUT).ok_or(12u32)?;
         let preset = (self.preset().unwrap_or_default() + 1) % 7;
