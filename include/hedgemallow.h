@@ -1,13 +1,14 @@
 /*
  * Hedgemallow: a picture chain set by a card. The functions of libbridge.a, for C and C++.
  *
- * A station is the chain of passes of one card with their switches and settings, and how much of a
- * history of older frames it holds. It lives in 80 bytes that the caller owns, the state. Copy
- * them, store them, compare them: two stations are equal exactly when their states are.
+ * A station is the chain of passes of one card with their switches and settings, and the width and
+ * height of the older frames in its history. It lives in 80 bytes that the caller owns, the state.
+ * Copy them, store them, compare them: two stations are equal exactly when their states are.
  *
  *     byte  0        L, the length of the normalised card, 1 to 72
  *     bytes 1 to 72  the card, followed by zeros
- *     bytes 73 to 76 the words of one frame in the history, 0 for none; most significant byte first
+ *     bytes 73, 74   the width of the frames in the history, most significant byte first
+ *     bytes 75, 76   their height, likewise; where the history holds none, both are 0
  *     bytes 77 to 79 zero
  *
  * Every state is checked on the way in. Bytes that are no state, damaged ones too, are refused by
@@ -24,7 +25,8 @@
  *     floats       6 * count words of scratch, whatever they hold
  *     ints         count words of scratch, whatever they hold
  * Longer ones are taken: the words past these are neither read nor changed, except that the length
- * decides a refusal. The history's words belong to the station between its frames.
+ * decides a refusal. The history's words belong to the station between its frames. A frame of another
+ * width or height than the one before it begins the history anew: one that is turned, too.
  *
  * Areas. A rectangle of a picture is four numbers of a list: left, top, width, height. It has three
  * totals: the sums of its words' red, green and blue bytes.

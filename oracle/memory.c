@@ -13,7 +13,7 @@ static size_t left; /* bytes that are still to be read: the last ones of the inp
 static const uint8_t *next;
 
 static uint8_t *state;
-static uint32_t *history; /* for frames of `count` words; a frame of another count fills it anew */
+static uint32_t *history; /* for frames of `count` words; a frame of another count is of another size, and fills it anew */
 static size_t count;
 
 static void *room(size_t bytes) {

@@ -30,6 +30,12 @@ impl<C: Listed> Met<C> {
         self.counts[place.unwrap_or_else(|| panic!("{case:?} is not listed"))] += 1;
     }
 
+    /// How often this one was met.
+    pub fn count(&self, case: C) -> u64 {
+        let place = self.all.iter().position(|&other| other == case);
+        self.counts[place.unwrap_or_else(|| panic!("{case:?} is not listed"))]
+    }
+
     #[cfg(fuzz)]
     pub fn counts(&self) -> &[u64] {
         &self.counts

@@ -2,6 +2,8 @@
 //! these declarations against the library's source in crates/probe/src, so a change there must be made here
 //! too. What a pass requires is asserted.
 
+use crate::cards::paper::Size;
+
 /// The declarations, in a module of their own so that the safe functions may bear short names.
 mod exports {
     #[link(name = "probe", kind = "static")]
@@ -15,7 +17,8 @@ mod exports {
         pub fn probe_card(
             card: *const u8,
             card_len: usize,
-            held: u32,
+            width: u16,
+            height: u16,
             out: *mut u8,
             out_len: usize,
         ) -> usize;
@@ -85,9 +88,10 @@ mod exports {
             scratch_len: usize,
             amount: f32,
             depth: u8,
-            held: u32,
+            held: *const u16,
+            size: *const u16,
             clipped: *mut u32,
-        ) -> u32;
+        );
         pub fn probe_scanlines(
             frame: *mut u32,
             frame_len: usize,
@@ -122,20 +126,33 @@ fn over<T>(export: Export<T>, xs: &[f32], out: &mut [T]) {
 /// What `probe_card` adds to a refusal's number: no card is so long.
 const REFUSED: usize = 256;
 
-/// Opens a card, gives its station a history of `held` words, and writes it. Answers the length, or a
+/// Opens a card, lets its station remember frames of size `held`, and writes it. Answers the length, or a
 /// refusal's number.
-pub fn card(card: &[u8], held: u32, out: &mut [u8]) -> Result<usize, u32> {
+pub fn card(card: &[u8], held: Size, out: &mut [u8]) -> Result<usize, u32> {
     assert_lendable(card.as_ptr(), card.len());
     assert_lendable(out.as_ptr(), out.len());
     // SAFETY: both pointers come with the length of their own slice, and a shared and a mutable
     // slice never overlap. The export keeps neither pointer.
+    let [width, height] = sides(held);
     let answer = unsafe {
-        exports::probe_card(card.as_ptr(), card.len(), held, out.as_mut_ptr(), out.len())
+        exports::probe_card(
+            card.as_ptr(),
+            card.len(),
+            width,
+            height,
+            out.as_mut_ptr(),
+            out.len(),
+        )
     };
     match answer.checked_sub(REFUSED) {
         None => Ok(answer),
         Some(number) => Err(number as u32),
     }
+}
+
+/// A size as the library takes it.
+fn sides((width, height): Size) -> [u16; 2] {
+    [width, height].map(|side| side.try_into().expect("a side has 16 bits"))
 }
 
 /// What the library takes for granted of a slice that it is lent, an empty one included: bytes, or
@@ -307,26 +324,26 @@ pub fn ntsc(frame: &mut [u32], width: usize, height: usize, strength: f32, bleed
     unsafe { exports::probe_ntsc(start, len, width, height, strength, bleed) }
 }
 
-/// Gives the count that is held after the call, and the clipped channels. It takes no width and no height: the frame may be
-/// of any shape.
+/// Gives the clipped channels. `held` is the size of the frames that the history holds; after the call, `size` is.
 pub fn persistence(
     frame: &mut [u32],
     history: &mut [u32],
     scratch: &mut [u32],
     amount: f32,
     depth: u8,
-    held: u32,
-) -> (u32, u32) {
-    assert_lendable(frame.as_ptr(), frame.len());
+    held: Size,
+    size: Size,
+) -> u32 {
+    assert_frame(frame, size.0, size.1);
     assert_lendable(history.as_ptr(), history.len());
     assert_lendable(scratch.as_ptr(), scratch.len());
-    assert!(frame.len() <= 1024 * 1024);
     assert!((1..=8).contains(&depth));
     assert!(history.len() >= usize::from(depth) * frame.len());
     assert!(scratch.len() >= frame.len());
+    let (held, size) = (sides(held), sides(size));
     let mut clipped = [u32::MAX];
     // SAFETY: as said of the passes.
-    let held = unsafe {
+    unsafe {
         exports::probe_persistence(
             frame.as_mut_ptr(),
             frame.len(),
@@ -336,11 +353,12 @@ pub fn persistence(
             scratch.len(),
             amount,
             depth,
-            held,
+            held.as_ptr(),
+            size.as_ptr(),
             clipped.as_mut_ptr(),
         )
     };
-    (held, clipped[0])
+    clipped[0]
 }
 
 pub fn scanlines(frame: &mut [u32], width: usize, height: usize, strength: f32) {

@@ -37,7 +37,7 @@ fn calls(random: &mut Random) -> Vec<u8> {
     let mut bytes = vec![random.word() as u8];
     if random.one_in(4) {
         let mut station = Station::open(&card).expect("the card is a good one");
-        station.take(random.within(1, 64));
+        station.take((random.within(1, 16), random.within(1, 16)));
         bytes.push(STATE);
         bytes.extend(station.state());
     } else {

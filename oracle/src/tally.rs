@@ -3,6 +3,8 @@
 
 use std::fmt;
 
+use crate::cards::paper::Size;
+
 /// How many differing inputs of a step or pass are printed.
 const SHOWN: usize = 5;
 
@@ -178,6 +180,8 @@ pub struct FrameTally {
     words: u64,
     /// The channels that the original clips.
     clipped: u64,
+    /// The frames at which the original's memory is made to begin anew.
+    turned: u64,
     different: u64,
     /// The first few differences, each with the place of its case.
     shown: Vec<(usize, String)>,
@@ -190,6 +194,7 @@ impl FrameTally {
             frames: 0,
             words: 0,
             clipped: 0,
+            turned: 0,
             different: 0,
             shown: Vec::new(),
         }
@@ -228,6 +233,11 @@ impl FrameTally {
         self.different += different as u64 - 1;
     }
 
+    /// Counts a turned frame.
+    pub fn turn(&mut self) {
+        self.turned += 1;
+    }
+
     /// Holds the clipped channels that are reported here to those of the original.
     pub fn check_clipped(
         &mut self,
@@ -261,6 +271,7 @@ impl FrameTally {
         self.frames += other.frames;
         self.words += other.words;
         self.clipped += other.clipped;
+        self.turned += other.turned;
         self.different += other.different;
         self.shown.extend(other.shown);
         self.shown.sort_by_key(|&(at, _)| at);
@@ -277,6 +288,7 @@ impl fmt::Display for FrameTally {
             clipped,
             different,
             shown,
+            ..
         } = self;
         writeln!(
             f,
@@ -314,7 +326,13 @@ impl CardTally {
     }
 
     /// Holds the answer to a card and the buffer after it to the paper's.
-    pub fn check(&mut self, card: &[u8], held: u32, here: (Answer, &[u8]), paper: (Answer, &[u8])) {
+    pub fn check(
+        &mut self,
+        card: &[u8],
+        held: Size,
+        here: (Answer, &[u8]),
+        paper: (Answer, &[u8]),
+    ) {
         match paper.0 {
             Ok(_) => self.taken += 1,
             Err(number) => self.refused[number as usize] += 1,
@@ -326,7 +344,7 @@ impl CardTally {
         if self.shown.len() < SHOWN {
             let at = self.cards() as usize - 1;
             let text = format!(
-                "card {card:02x?}, held {held}: here {:?} and {:02x?}, by the paper {:?} and {:02x?}",
+                "card {card:02x?}, held {held:?}: here {:?} and {:02x?}, by the paper {:?} and {:02x?}",
                 here.0, here.1, paper.0, paper.1
             );
             self.shown.push((at, text));
@@ -785,10 +803,14 @@ pub struct Total {
     words: u64,
     inputs: u64,
     calls: u64,
+    turned: u64,
     pub different: u64,
     /// What a comparison was to meet and did not.
     pub unmet: u64,
 }
+
+/// In a list of the comparison at least so many frames have to be turned: else it shows little of them.
+const LEAST_TURNED: u64 = 150;
 
 impl Total {
     /// Prints a step's count and adds it.
@@ -844,6 +866,23 @@ impl Total {
         self.words += tally.words;
         self.different += tally.different;
     }
+
+    /// The same of a pass with memory.
+    pub fn add_runs_of_frames(&mut self, tally: &FrameTally) {
+        self.add_frames(tally);
+        self.add_turned(tally.turned);
+    }
+
+    /// Prints how many frames of a list came in another shape than the ones before them, with as many words, and adds them. The
+    /// original would mix such a frame with those: there it was made to begin anew.
+    pub fn add_turned(&mut self, turned: u64) {
+        println!("    turned frames: {turned}");
+        self.turned += turned;
+        if turned < LEAST_TURNED {
+            println!("    too few: less than {LEAST_TURNED}");
+            self.unmet += 1;
+        }
+    }
 }
 
 impl fmt::Display for Total {
@@ -856,6 +895,7 @@ impl fmt::Display for Total {
             words,
             inputs,
             calls,
+            turned,
             different,
             unmet,
         } = self;
@@ -865,6 +905,9 @@ impl fmt::Display for Total {
         )?;
         if *frames > 0 {
             write!(f, ", {frames} frames of {words} words, {calls} calls")?;
+        }
+        if *turned > 0 {
+            write!(f, ", {turned} turned frames")?;
         }
         write!(
             f,

@@ -250,7 +250,7 @@ impl Station {
     }
 
     /// A frame: the passes that are on, over the first width * height words of the framebuffer. The answer is how many channels
-    /// their final conversions clipped.
+    /// their final conversions clipped. One of another width or height than the frame before it begins the history anew.
     pub fn apply(
         &mut self,
         framebuffer: &mut [u32],
@@ -416,10 +416,29 @@ mod tests {
         bytes[1..18].copy_from_slice(&CARD);
         assert_eq!(station.as_bytes(), &bytes);
         station.apply(&mut [0; 600], 30, 20, &mut [0; 1800], &mut [0.0; 3600], &mut [0; 600]).unwrap();
-        bytes[75..77].copy_from_slice(&[2, 88]);
+        bytes[73..77].copy_from_slice(&[0, 30, 0, 20]);
+        assert_eq!(station.as_bytes(), &bytes);
+        station.apply(&mut [0; 600], 2, 300, &mut [0; 1800], &mut [0.0; 3600], &mut [0; 600]).unwrap();
+        bytes[73..77].copy_from_slice(&[0, 2, 1, 44]);
         assert_eq!(station.as_bytes(), &bytes);
         station.reset().unwrap();
         assert_eq!(station, opened());
+    }
+
+    /// Persistence 0.5, depth 1, white and then black: a black frame shows what was white; one that is turned shows itself.
+    #[test]
+    fn a_turned_frame_begins_anew() {
+        let mut station = Station::open(&[0x11, 0x49, 0xF8, 0, 0, 0, 0x08]).unwrap();
+        let (mut history, mut floats, mut ints) = ([7; 2], [0.0; 12], [0; 2]);
+        let mut shows = |word: u32, width: usize, height: usize| {
+            let mut frame = [word; 2];
+            station.apply(&mut frame, width, height, &mut history, &mut floats, &mut ints).unwrap();
+            frame
+        };
+        assert_eq!(shows(0xFFFFFF, 1, 2), [0xFFFFFF; 2]);
+        assert_eq!(shows(0, 1, 2), [0x555555; 2]);
+        assert_eq!(shows(0xFFFFFF, 2, 1), [0xFFFFFF; 2]);
+        assert_eq!(shows(0, 1, 2), [0; 2]);
     }
 
     #[test]

@@ -1,5 +1,6 @@
 //! Opening and writing, compared with the paper on many cards.
 
+use super::paper::{Size, NOTHING};
 use super::{damage, paper};
 use crate::probe;
 use crate::random::Random;
@@ -11,6 +12,22 @@ const MARK: u8 = 0xa5;
 
 /// The longest card has 72 bytes.
 const ROOM: usize = 80;
+
+/// What a station is made to remember, where it is something: sizes at the limits, and such as no station may remember.
+const HELD: [Size; 12] = [
+    (1, 1),
+    (1, 1024),
+    (1024, 1),
+    (1024, 1024),
+    (1025, 1),
+    (1, 1025),
+    (0, 1),
+    (1, 0),
+    (0, 1025),
+    (65535, 1),
+    (1, 65535),
+    (65535, 65535),
+];
 
 pub fn run(mode: Mode, total: &mut Total) {
     println!("Cards, with a reading of document 01");
@@ -56,7 +73,11 @@ fn full() -> Vec<u8> {
 /// Opens and writes one card on both sides. Some buffers are too short, and some stations are
 /// handed back with a history that they cannot have.
 fn one(card: &[u8], random: &mut Random, tally: &mut CardTally) {
-    let held = random.choose(&[0, 0, 0, 1, 1_048_576, 1_048_577, u32::MAX]);
+    let held = if random.one_in(2) {
+        random.choose(&HELD)
+    } else {
+        NOTHING
+    };
     let room = if random.one_in(4) {
         random.below(ROOM)
     } else {

@@ -3,6 +3,12 @@
 /// A refusal's number.
 pub type Number = u32;
 
+/// A width and a height.
+pub type Size = (usize, usize);
+
+/// What a station remembers whose history holds no frame.
+pub const NOTHING: Size = (0, 0);
+
 /// A refusal, and the first bit of the field that is refused; for 7 the bit after the last field.
 #[derive(Clone, Copy)]
 pub struct Refusal {
@@ -176,10 +182,13 @@ pub fn read(card: &[u8]) -> Result<Opened, Refusal> {
 }
 
 impl Opened {
-    /// Whether a station of this chain may hold a history of `held` words.
-    pub fn may_hold(&self, held: u32) -> bool {
+    /// Whether a station of this chain may remember frames of that size, by the three parts of refusal 13.
+    pub fn may_hold(&self, held: Size) -> bool {
+        let (width, height) = held;
+        let above = width > 1024 || height > 1024;
+        let half = (width == 0) != (height == 0);
         let remembers = self.records.iter().any(|r| r.kind == 4 && r.on);
-        held == 0 || held <= 1_048_576 && remembers
+        !above && !half && (held == NOTHING || remembers)
     }
 
     /// The normalised card.

@@ -15,18 +15,19 @@ use crate::tally::{FrameTally, Total};
 pub fn run(mode: Mode, total: &mut Total) {
     println!("Passes, each alone, with the original's");
     for pass in PASSES {
-        let tally = if pass.needs.history > 0 {
+        if pass.needs.history > 0 {
             let runs = runs::of(pass, mode);
-            share(pass, &runs, |run, room, tally, at| {
+            let tally = share(pass, &runs, |run, room, tally, at| {
                 runs::compare(pass, run, room, tally, at)
-            })
+            });
+            total.add_runs_of_frames(&tally);
         } else {
             let cases = cases::of(pass, mode);
-            share(pass, &cases, |case, room, tally, at| {
+            let tally = share(pass, &cases, |case, room, tally, at| {
                 frame(pass, case, room, tally, at)
-            })
-        };
-        total.add_frames(&tally);
+            });
+            total.add_frames(&tally);
+        }
     }
 }
 

@@ -1,5 +1,7 @@
 //! The buffers that are lent to a pass beside the frame.
 
+use crate::cards::paper::{Size, NOTHING};
+
 /// The most words that a frame has.
 const LARGEST: usize = 1024 * 1024;
 
@@ -30,7 +32,7 @@ pub struct Room {
     floats: Vec<f32>,
     words: Vec<u32>,
     history: Vec<u32>,
-    held: u32,
+    held: Size,
 }
 
 /// The part that is lent for one call.
@@ -38,7 +40,8 @@ pub struct Lent<'a> {
     pub floats: &'a mut [f32],
     pub words: &'a mut [u32],
     pub history: &'a mut [u32],
-    pub held: &'a mut u32,
+    /// The size of the frames in the history.
+    pub held: &'a mut Size,
 }
 
 impl Room {
@@ -49,7 +52,7 @@ impl Room {
             floats: vec![f32::from_bits(MARK); needs.floats * LARGEST + PAST],
             words: vec![MARK; needs.words * LARGEST + PAST],
             history: vec![MARK; needs.history * LARGEST],
-            held: 0,
+            held: NOTHING,
         }
     }
 

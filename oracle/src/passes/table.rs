@@ -214,10 +214,17 @@ pub static PASSES: &[Pass] = &[
         kind: 4,
         ours: |s, f, lent| {
             let (amount, depth) = (s.float(0), s.byte(1));
-            let (held, clipped) =
-                probe::persistence(f.words, lent.history, lent.words, amount, depth, *lent.held);
-            *lent.held = held;
-            clipped
+            let (held, size) = (lent.held, (f.width, f.height));
+            let before = std::mem::replace(held, size);
+            probe::persistence(
+                f.words,
+                lent.history,
+                lent.words,
+                amount,
+                depth,
+                before,
+                size,
+            )
         },
         cost: |s| 10 + 4 * s.whole(1),
         measured: &[&[0.35, 3.0], &[0.35, 8.0]],

@@ -146,10 +146,10 @@ mod of_run {
         Frames(usize),
         /// A frame through a chain without persistence, or with persistence off.
         Frame,
-        /// A frame that fills the history, one that meets it, and one that meets it in another shape.
+        /// A frame that fills the history, one that meets it, and one that fills it since it has the same count in another shape.
         Refill,
         Blend,
-        BlendTurned,
+        Turned,
         /// A frame of this size: the smallest, and the largest that are taken.
         Size(usize, usize),
         /// A header with a comment in it, one with other white bytes than space and newline, and one with neither.
@@ -184,7 +184,7 @@ mod of_run {
             OfRun::Frame,
             OfRun::Refill,
             OfRun::Blend,
-            OfRun::BlendTurned,
+            OfRun::Turned,
             OfRun::Size(1, 1),
             OfRun::Size(256, 240),
             OfRun::Size(60, 1024),

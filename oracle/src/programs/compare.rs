@@ -146,6 +146,7 @@ mod files {
         let (tally, met) = share("filter", times(mode, 1_000), new, FileTally::join, compare)?;
         total.add_files(&tally);
         total.unmet += met.report();
+        total.add_turned(met.count(OfRun::Turned));
         Ok(())
     }
 

@@ -111,9 +111,11 @@ pub(super) fn any_size(random: &mut Random) -> (usize, usize) {
 
 /// Mostly that of the last frame, so that a history is met; often turned.
 fn next_size(last: (usize, usize), random: &mut Random) -> (usize, usize) {
-    match random.below(8) {
-        0..5 => last,
-        5 | 6 => (last.1, last.0),
+    match random.below(16) {
+        0..9 => last,
+        9..13 => (last.1, last.0),
+        // A column of as many pixels.
+        13 if last.0 * last.1 <= 1024 => (1, last.0 * last.1),
         _ => any_size(random),
     }
 }

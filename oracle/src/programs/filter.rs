@@ -1,12 +1,13 @@
 //! What program `filter` writes: the files as ppm.rs reads them, under the original's pipeline of the card. The frames
-//! of a run go through one pipeline, and each picture stands in the file of its frame, with the header as it was.
+//! of a run go through one pipeline, which begins anew at a turned frame, and each picture stands in the file of its frame, with the
+//! header as it was.
 
 use super::card::refused;
 use super::cases::OfRun;
 use super::files::Run;
 use super::ppm::{self, Frame};
 use super::process::{Said, PIPE};
-use crate::cards::paper;
+use crate::cards::paper::{self, Size};
 use crate::met::Met;
 use crate::passes::both::Both;
 use crate::passes::chain::PERSISTENCE;
@@ -60,14 +61,18 @@ fn played(run: &Run, met: &mut Met<OfRun>) -> Result<(Said, Vec<usize>), Said> {
 
     let remembers = |r: &paper::Record| r.kind == PERSISTENCE && r.on;
     let remembers = opened.records.iter().any(remembers);
-    let pipeline = Both::built(&opened.records);
+    let mut pipeline = Both::built(&opened.records);
     let mut written = Vec::new();
     let mut told = String::new();
     let mut counts = Vec::new();
     let mut held = None;
     for ((frame, bytes), file) in files.into_iter().zip(&run.files) {
-        note(&frame, bytes, held, remembers, met);
+        let case = taken(&frame, held, remembers);
+        note(&frame, bytes, case, met);
         held = Some((frame.width, frame.height));
+        if case == OfRun::Turned {
+            pipeline = Both::built(&opened.records);
+        }
         let (header, pixels) = bytes.split_at(frame.start);
         let word = |rgb: &[u8]| u32::from_be_bytes([0, rgb[0], rgb[1], rgb[2]]);
         let mut words: Vec<u32> = pixels.chunks(3).map(word).collect();
@@ -93,26 +98,26 @@ fn played(run: &Run, met: &mut Met<OfRun>) -> Result<(Said, Vec<usize>), Said> {
     Ok((said, counts))
 }
 
-/// What happens at a frame. `held` is the size of the one before it.
-fn note(
-    frame: &Frame,
-    file: &[u8],
-    held: Option<(usize, usize)>,
-    remembers: bool,
-    met: &mut Met<OfRun>,
-) {
+/// Which case a frame is. `held` is the size of the one before it.
+fn taken(frame: &Frame, held: Option<Size>, remembers: bool) -> OfRun {
+    let &Frame { width, height, .. } = frame;
+    match held {
+        _ if !remembers => OfRun::Frame,
+        Some((w, h)) if w * h != width * height => OfRun::Refill,
+        Some(before) if before != (width, height) => OfRun::Turned,
+        Some(_) => OfRun::Blend,
+        None => OfRun::Refill,
+    }
+}
+
+/// What happens at a frame.
+fn note(frame: &Frame, file: &[u8], case: OfRun, met: &mut Met<OfRun>) {
     let &Frame {
         width,
         height,
         start,
     } = frame;
-    met.note(match held {
-        _ if !remembers => OfRun::Frame,
-        Some((w, h)) if w * h != width * height => OfRun::Refill,
-        Some(before) if before != (width, height) => OfRun::BlendTurned,
-        Some(_) => OfRun::Blend,
-        None => OfRun::Refill,
-    });
+    met.note(case);
     let size = OfRun::Size(width, height);
     if met.listed(size) {
         met.note(size);

@@ -45,14 +45,20 @@ pub fn compare(seed: u64, at: usize, tally: &mut RunTally, met: &mut Met<Point>)
 
 fn trial(random: &mut Random, tally: &mut RunTally, met: &mut Met<Point>) -> Held<bool> {
     let (mut a, mut b) = pair(random, met)?;
-    own_list(&mut a, random, tally)?;
-    own_list(&mut b, random, tally)?;
+    own_list(&mut a, random, tally, met)?;
+    own_list(&mut b, random, tally, met)?;
+    if random.one_in(4) {
+        turn(&a, &mut b, random, tally)?;
+    }
     if random.one_in(2) {
         std::mem::swap(&mut a, &mut b);
     }
     equalise(&a, &mut b, random, tally)?;
     if a.station.held != b.station.held {
         met.note(Point::HeldDiffers);
+    }
+    if a.station.holds() && a.station.turned(b.station.held) {
+        met.note(Point::HeldTurned);
     }
     shared_list(&mut a, &mut b, random, tally, met)
 }
@@ -104,10 +110,38 @@ fn own(card: &[u8], station: &Station, longest: usize, random: &mut Random) -> H
 }
 
 /// Any past, none included.
-fn own_list(own: &mut Own, random: &mut Random, tally: &mut RunTally) -> Held {
+fn own_list(
+    own: &mut Own,
+    random: &mut Random,
+    tally: &mut RunTally,
+    met: &mut Met<Point>,
+) -> Held {
     for _ in 0..random.below(20) {
         let call = calls::next(&own.station, &mut own.sizes, own.history.len(), random);
-        own.call(&call, random, tally)?;
+        let before = own.station.clone();
+        let seen = own.call(&call, random, tally)?;
+        if turns(&before, &call, seen.answer) {
+            met.note(Point::OwnTurned);
+        }
+    }
+    Ok(())
+}
+
+/// Whether a call was a frame that a station takes, of another shape than those before it and as many words.
+fn turns(before: &Station, call: &Call, answer: Answer) -> bool {
+    match call {
+        Call::Frame(frame) => answer.is_ok() && before.turned(frame.size),
+        _ => false,
+    }
+}
+
+/// The last frames of `b` are those of a station that stands as `a` does, turned.
+fn turn(a: &Own, b: &mut Own, random: &mut Random, tally: &mut RunTally) -> Held {
+    let (width, height) = a.sizes.last;
+    b.sizes.last = (height, width);
+    for _ in 0..random.within(1, 3) {
+        let call = calls::of_size(&b.station, (height, width), b.history.len(), random);
+        b.call(&call, random, tally)?;
     }
     Ok(())
 }
@@ -175,8 +209,11 @@ impl Course {
         match (call, answer) {
             (Call::Frame(frame), Ok(_)) => {
                 self.left -= 1;
-                if station.held as usize != frame.size.0 * frame.size.1 {
+                if !station.meets(frame.size) {
                     met.note(Point::RefillBefore);
+                }
+                if station.turned(frame.size) {
+                    met.note(Point::TurnedBefore);
                 }
             }
             (_, Err(_)) => met.note(Point::RefusedBefore),
@@ -200,6 +237,7 @@ fn shared_list(
         let call = shared_call(a, room, random);
         course.reach(&a.station, &call, met);
         let before = a.station.clone();
+        let beside = b.station.clone();
         let here = a.call(&call, random, tally)?;
         let there = b.call(&call, random, tally)?;
         if course.agreed && here != there {
@@ -210,6 +248,13 @@ fn shared_list(
         differed |= here.picture != there.picture;
         if here.answer != there.answer {
             met.note(Point::ClippedDiffers);
+        }
+        if let Call::Frame(frame) = &call {
+            let turned = [(&before, &here), (&beside, &there)]
+                .map(|(station, seen)| turns(station, &call, seen.answer));
+            if turned[0] && beside.meets(frame.size) || turned[1] && before.meets(frame.size) {
+                met.note(Point::OneTurned);
+            }
         }
         course.went(&before, &call, here.answer, met);
     }
@@ -238,7 +283,7 @@ impl Own {
                 let asked = self.station.frame(frame.size.0, frame.size.1, &frame.lent);
                 let here = self.frame(frame, random, &mut picture);
                 if asked.is_ok() {
-                    self.station.take(frame.size.0 * frame.size.1);
+                    self.station.take(frame.size);
                     tally.frame(picture.len());
                 }
                 // The clipped channels depend on the history: the runs hold them to the original's.

@@ -4,6 +4,7 @@ use std::fmt;
 
 use super::noise::Noise;
 use super::station::{Lengths, Station};
+use crate::cards::paper::Size;
 use crate::passes::chain::PERSISTENCE;
 use crate::passes::frames::Picture;
 use crate::random::Random;
@@ -85,18 +86,25 @@ impl Sizes {
         self.last = match random.below(16) {
             0..9 => self.last,
             9..11 => (height, width),
-            11..13 => {
-                let count = width * height;
-                let other = random.within(1, self.longest);
-                if count % other == 0 && count / other <= self.longest {
-                    (other, count / other)
-                } else {
-                    self.last
-                }
-            }
+            11 => self.reshaped(1),
+            12 => self.reshaped(random.within(1, self.longest)),
             _ => self.any(random),
         };
         self.last
+    }
+
+    /// As many words in another shape: of this width or of this height, where there is one.
+    fn reshaped(&self, side: usize) -> (usize, usize) {
+        let (width, height) = self.last;
+        let other = width * height / side;
+        if side * other != width * height || other > self.longest {
+            return self.last;
+        }
+        if width == side {
+            (other, side)
+        } else {
+            (side, other)
+        }
     }
 
     fn any(&self, random: &mut Random) -> (usize, usize) {
@@ -130,7 +138,11 @@ pub fn next(station: &Station, sizes: &mut Sizes, room: usize, random: &mut Rand
 
 /// A frame with enough of everything, as far as the own history buffer goes.
 pub fn good(station: &Station, sizes: &mut Sizes, room: usize, random: &mut Random) -> Call {
-    let size = sizes.next(random);
+    of_size(station, sizes.next(random), room, random)
+}
+
+/// The same of this size.
+pub fn of_size(station: &Station, size: Size, room: usize, random: &mut Random) -> Call {
     Call::Frame(Frame {
         size,
         picture: Picture::random(random),

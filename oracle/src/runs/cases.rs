@@ -17,12 +17,12 @@ pub enum Short {
 #[derive(Clone, Copy, PartialEq, Debug)]
 pub enum Case {
     /// A frame through a chain without persistence, with persistence off, one that fills the history, one that
-    /// meets it, and one that meets it in another shape.
+    /// meets it, and one that fills it since it has the same count in another shape.
     FrameAbsent,
     FrameOff,
     Refill,
     Blend,
-    BlendTurned,
+    Turned,
     /// An accepted frame of which no channel was clipped, and one of which some were.
     Clipped(bool),
     /// A frame that is lent not a word more than it needs.
@@ -69,6 +69,10 @@ pub enum Case {
     /// A state with a bit changed: a bad one, and one that is another good station's.
     Bad,
     Another,
+    /// A state that remembers another size, with a side above 1024, with one side 0, and a good one.
+    HeldAbove,
+    HeldHalf,
+    HeldOther,
 }
 
 impl Listed for Case {
@@ -77,7 +81,7 @@ impl Listed for Case {
         Case::FrameOff,
         Case::Refill,
         Case::Blend,
-        Case::BlendTurned,
+        Case::Turned,
         Case::Clipped(false),
         Case::Clipped(true),
         Case::Exact,
@@ -145,6 +149,9 @@ impl Listed for Case {
         Case::Preset(6),
         Case::Bad,
         Case::Another,
+        Case::HeldAbove,
+        Case::HeldHalf,
+        Case::HeldOther,
     ];
 }
 
@@ -162,12 +169,19 @@ pub enum Point {
     Never,
     /// The cards differ, and normalise alike.
     Respelt,
-    /// One station holds words and the other none, or words of another count.
+    /// One station holds frames and the other none, or frames of another size.
     HeldDiffers,
+    /// Both hold frames of one count, of two shapes: one of them was turned.
+    HeldTurned,
+    /// A turned frame in an own list.
+    OwnTurned,
     /// A refused call before the point.
     RefusedBefore,
-    /// A frame of another count before the point.
+    /// A frame of another size before the point, and one of them that is turned.
     RefillBefore,
+    TurnedBefore,
+    /// A shared frame that is turned at one station and meets the history of the other.
+    OneTurned,
     /// Another number of clipped channels before the point.
     ClippedDiffers,
 }
@@ -182,8 +196,12 @@ impl Listed for Point {
         Point::Never,
         Point::Respelt,
         Point::HeldDiffers,
+        Point::HeldTurned,
+        Point::OwnTurned,
         Point::RefusedBefore,
         Point::RefillBefore,
+        Point::TurnedBefore,
+        Point::OneTurned,
         Point::ClippedDiffers,
     ];
 }

@@ -26,6 +26,7 @@ fn runs(mode: Mode, total: &mut Total) {
     let (tally, met) = share("runs", mode, &runs, compare);
     total.add_runs(&tally);
     total.unmet += met.report();
+    total.add_turned(met.count(Case::Turned));
 }
 
 fn trials(mode: Mode, total: &mut Total) {

@@ -1,9 +1,11 @@
 //! Document 01's plain machine over the original: a station, the words of its history buffer, and the
 //! original's pipeline, which runs from call to call. The history's words are made apart from it, of the frames
-//! as the original's effects before persistence leave them.
+//! as the original's effects before persistence leave them. At a turned frame, which the original would mix with the frames before
+//! the turn, its effects are built anew: that is what document 02's P1 asks.
 
 use super::station::{Lengths, Station};
 use crate::bridge::{Answer, State};
+use crate::cards::paper::Size;
 use crate::passes::both::Both;
 use crate::passes::chain::{name, preset, LUT, PERSISTENCE};
 use crate::passes::effects::built;
@@ -39,15 +41,18 @@ impl Machine {
     }
 
     /// A frame: the picture takes the place of the first words. The answer is how many channels were clipped.
-    pub fn frame(&mut self, words: &mut [u32], size: (usize, usize), lent: &Lengths) -> Answer {
+    pub fn frame(&mut self, words: &mut [u32], size: Size, lent: &Lengths) -> Answer {
         let (width, height) = size;
         let station = self.station.as_mut().ok_or(13u32)?;
         station.frame(width, height, lent)?;
         let words = &mut words[..width * height];
         if station.remembers() {
+            if station.turned(size) {
+                self.pipeline = Both::built(station.records());
+            }
             let incoming = before_persistence(station, words, size);
-            remember(station, &mut self.history, &incoming);
-            station.take(incoming.len());
+            remember(station, &mut self.history, &incoming, size);
+            station.take(size);
         }
         Ok(self.pipeline.apply(words, width, height))
     }
@@ -101,11 +106,7 @@ impl Machine {
 }
 
 /// The frame as it comes to persistence.
-fn before_persistence(
-    station: &Station,
-    words: &[u32],
-    (width, height): (usize, usize),
-) -> Vec<u32> {
+fn before_persistence(station: &Station, words: &[u32], (width, height): Size) -> Vec<u32> {
     let place = station.place(PERSISTENCE).unwrap_or_default();
     let mut words = words.to_vec();
     built(&station.records()[..place]).apply(&mut words, width, height);
@@ -113,11 +114,11 @@ fn before_persistence(
 }
 
 /// Fills all places, or shifts them by one and puts the frame first.
-fn remember(station: &Station, history: &mut [u32], incoming: &[u32]) {
+fn remember(station: &Station, history: &mut [u32], incoming: &[u32], size: Size) {
     let count = incoming.len();
     let depth = station.depth().unwrap_or_default();
     let places = &mut history[..depth * count];
-    if station.held as usize == count {
+    if station.meets(size) {
         places.copy_within(..(depth - 1) * count, count);
         places[..count].copy_from_slice(incoming);
     } else {
@@ -131,17 +132,18 @@ fn remember(station: &Station, history: &mut [u32], incoming: &[u32]) {
 /// first, while all else is off.
 fn refilled(station: &Station, history: &[u32]) -> Both {
     let mut pipeline = Both::built(station.records());
-    let (held, depth) = (station.held as usize, station.depth().unwrap_or_default());
+    let (width, height) = station.held;
+    let (count, depth) = (width * height, station.depth().unwrap_or_default());
     // More than the buffer has room for meets no frame: the next one fills all places.
-    if held == 0 || depth * held > history.len() {
+    if !station.holds() || depth * count > history.len() {
         return pipeline;
     }
     let others = || station.records().iter().filter(|r| r.kind != PERSISTENCE);
     for record in others() {
         pipeline.set_enabled(name(record.kind), false);
     }
-    for place in history[..depth * held].chunks_exact(held).rev() {
-        pipeline.apply(&mut place.to_vec(), held, 1);
+    for place in history[..depth * count].chunks_exact(count).rev() {
+        pipeline.apply(&mut place.to_vec(), width, height);
     }
     for record in others() {
         pipeline.set_enabled(name(record.kind), record.on);

@@ -160,7 +160,7 @@ fn play(
         let station = sides.machine.station().expect("a good station stays good");
         let call = calls::next(station, &mut sizes, sides.history.len(), random);
         if random.one_in(8) {
-            let state = damaged(&sides.state, random);
+            let state = damaged(&sides.state, random, met);
             let mut other = sides.damaged(state);
             called.push(format!("with a damaged state {call}"));
             other.call(&call, random, tally, met)?;
@@ -222,19 +222,47 @@ pub fn open_both(card: &[u8], random: &mut Random, met: &mut Met<Case>) -> Held<
     ))
 }
 
-/// The state with one bit changed; or with another byte; or with another count held.
-fn damaged(state: &State, random: &mut Random) -> State {
+/// The state with one bit changed; or with another byte; or with another size remembered.
+fn damaged(state: &State, random: &mut Random, met: &mut Met<Case>) -> State {
     let mut state = *state;
     let place = random.below(state.len());
     match random.below(4) {
         0 => state[place] = random.word() as u8,
         1 => {
-            let held: u32 = random.choose(&[0, 1, 1_048_576, 1_048_577, u32::MAX]);
-            state[73..77].copy_from_slice(&held.to_be_bytes());
+            let held = another(&state, random);
+            state[73..75].copy_from_slice(&held.0.to_be_bytes());
+            state[75..77].copy_from_slice(&held.1.to_be_bytes());
+            met.note(match held {
+                (1025.., _) | (_, 1025..) => Case::HeldAbove,
+                (0, 1..) | (1.., 0) => Case::HeldHalf,
+                _ => Case::HeldOther,
+            });
         }
         _ => state[place] ^= 1 << random.below(8),
     }
     state
+}
+
+/// A size at the limits, or the remembered one turned.
+fn another(state: &State, random: &mut Random) -> (u16, u16) {
+    let side = |place: usize| u16::from_be_bytes([state[place], state[place + 1]]);
+    let turned = (side(75), side(73));
+    random.choose(&[
+        (0, 0),
+        (1, 1),
+        (1024, 1024),
+        (1025, 1),
+        (1, 1025),
+        (0, 1),
+        (1, 0),
+        (u16::MAX, 1),
+        (1, u16::MAX),
+        (u16::MAX, u16::MAX),
+        turned,
+        turned,
+        turned,
+        turned,
+    ])
 }
 
 /// Each of the 640 bits changed in turn: the state is a bad one, or another good station's, whose card is

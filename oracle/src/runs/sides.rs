@@ -6,6 +6,7 @@ use super::machine::Machine;
 use super::noise::Noise;
 use super::station::{Lengths, Station};
 use crate::bridge::{self, Answer, Lent, State};
+use crate::cards::paper::Size;
 use crate::met::Met;
 use crate::passes::chain::{LUT, PERSISTENCE};
 use crate::random::Random;
@@ -15,8 +16,6 @@ pub struct Sides {
     pub machine: Machine,
     pub state: State,
     pub history: Vec<u32>,
-    /// The size of the frame that was taken last: for the cases alone.
-    last: (usize, usize),
     /// How many calls were made: which kind is asked for after each.
     made: usize,
 }
@@ -37,7 +36,6 @@ impl Sides {
             machine: Machine::resumed(&state, history.clone()),
             state,
             history,
-            last: (0, 0),
             made: 0,
         }
     }
@@ -45,7 +43,6 @@ impl Sides {
     /// The same with another state.
     pub fn damaged(&self, state: State) -> Self {
         Sides {
-            last: self.last,
             made: self.made,
             ..Sides::new(state, self.history.clone())
         }
@@ -85,7 +82,7 @@ impl Sides {
         same("state", self.state, self.machine.state())?;
         same_words("history", &self.history, &self.machine.history)?;
         tally.called(asked, self.history.len());
-        self.note(call, before.as_ref(), asked, met);
+        note(call, before.as_ref(), asked, met);
         self.ask_switch(ASKED[self.made % ASKED.len()], met)?;
         self.ask_preset(met)?;
         self.made += 1;
@@ -149,81 +146,80 @@ impl Sides {
         }
         Ok(answer)
     }
+}
 
-    /// Tells the list of cases what this was.
-    fn note(&mut self, call: &Call, before: Option<&Station>, asked: Answer, met: &mut Met<Case>) {
-        match (call, asked, before) {
-            (Call::Frame(frame), Ok(clipped), Some(before)) => {
-                met.note(Case::Clipped(clipped > 0));
-                self.note_taken(frame, before, met);
-            }
-            (Call::Frame(frame), Err(number), _) => {
-                met.note(Case::Frame(number));
-                if let Some(fault) = before.and_then(|before| fault(before, frame)) {
-                    met.note(fault);
-                }
-            }
-            (Call::Switch(kind, on), Ok(_), Some(before)) => {
-                note_switch((*kind).into(), *on != 0, before, met);
-            }
-            (Call::Switch(kind, _), Err(number), _) => {
-                met.note(Case::SwitchRefused(number));
-                if number == 12 && !(1..=10).contains(kind) {
-                    met.note(Case::SwitchUnknown);
-                }
-            }
-            (Call::Reset, Ok(_), Some(before)) if before.held > 0 => met.note(Case::ResetHeld),
-            (Call::Reset, Ok(_), _) => met.note(Case::Reset),
-            (Call::Reset, Err(number), _) => met.note(Case::ResetRefused(number)),
-            (Call::Step, Ok(preset), Some(before)) => note_step(preset, before, met),
-            (Call::Step, Err(number), _) => met.note(Case::StepRefused(number)),
-            (Call::Write(_), Ok(_), _) => met.note(Case::Written),
-            (Call::Write(room), Err(number), _) => {
-                met.note(Case::WriteRefused(number));
-                if before.is_some_and(|before| before.opened.written().len() == room + 1) {
-                    met.note(Case::OneShort(Short::Card));
-                }
-            }
-            (Call::Depth, Ok(_), _) => met.note(Case::Depth),
-            (Call::Depth, Err(number), _) => met.note(Case::DepthRefused(number)),
-            (_, Ok(_), None) => panic!("a bad station takes no call"),
+/// Tells the list of cases what this was.
+fn note(call: &Call, before: Option<&Station>, asked: Answer, met: &mut Met<Case>) {
+    match (call, asked, before) {
+        (Call::Frame(frame), Ok(clipped), Some(before)) => {
+            met.note(Case::Clipped(clipped > 0));
+            note_taken(frame, before, met);
         }
+        (Call::Frame(frame), Err(number), _) => {
+            met.note(Case::Frame(number));
+            if let Some(fault) = before.and_then(|before| fault(before, frame)) {
+                met.note(fault);
+            }
+        }
+        (Call::Switch(kind, on), Ok(_), Some(before)) => {
+            note_switch((*kind).into(), *on != 0, before, met);
+        }
+        (Call::Switch(kind, _), Err(number), _) => {
+            met.note(Case::SwitchRefused(number));
+            if number == 12 && !(1..=10).contains(kind) {
+                met.note(Case::SwitchUnknown);
+            }
+        }
+        (Call::Reset, Ok(_), Some(before)) if before.holds() => met.note(Case::ResetHeld),
+        (Call::Reset, Ok(_), _) => met.note(Case::Reset),
+        (Call::Reset, Err(number), _) => met.note(Case::ResetRefused(number)),
+        (Call::Step, Ok(preset), Some(before)) => note_step(preset, before, met),
+        (Call::Step, Err(number), _) => met.note(Case::StepRefused(number)),
+        (Call::Write(_), Ok(_), _) => met.note(Case::Written),
+        (Call::Write(room), Err(number), _) => {
+            met.note(Case::WriteRefused(number));
+            if before.is_some_and(|before| before.opened.written().len() == room + 1) {
+                met.note(Case::OneShort(Short::Card));
+            }
+        }
+        (Call::Depth, Ok(_), _) => met.note(Case::Depth),
+        (Call::Depth, Err(number), _) => met.note(Case::DepthRefused(number)),
+        (_, Ok(_), None) => panic!("a bad station takes no call"),
     }
+}
 
-    fn note_taken(&mut self, frame: &Frame, before: &Station, met: &mut Met<Case>) {
-        met.note(self.taken(frame.size, before));
-        if frame.lent == needed(before, frame.size) {
-            met.note(Case::Exact);
-        }
-        let size = Case::Size(frame.size.0, frame.size.1);
-        if met.listed(size) {
-            met.note(size);
-        }
+fn note_taken(frame: &Frame, before: &Station, met: &mut Met<Case>) {
+    met.note(taken(frame.size, before));
+    if frame.lent == needed(before, frame.size) {
+        met.note(Case::Exact);
     }
+    let size = Case::Size(frame.size.0, frame.size.1);
+    if met.listed(size) {
+        met.note(size);
+    }
+}
 
-    /// Which case an accepted frame is.
-    fn taken(&mut self, size: (usize, usize), before: &Station) -> Case {
-        if !before.has(PERSISTENCE) {
-            return Case::FrameAbsent;
-        }
-        if !before.remembers() {
-            return Case::FrameOff;
-        }
-        let last = std::mem::replace(&mut self.last, size);
-        if before.held as usize != size.0 * size.1 {
-            Case::Refill
-        } else if last == size {
-            Case::Blend
-        } else {
-            Case::BlendTurned
-        }
+/// Which case an accepted frame is.
+fn taken(size: Size, before: &Station) -> Case {
+    if !before.has(PERSISTENCE) {
+        return Case::FrameAbsent;
+    }
+    if !before.remembers() {
+        return Case::FrameOff;
+    }
+    if before.meets(size) {
+        Case::Blend
+    } else if before.turned(size) {
+        Case::Turned
+    } else {
+        Case::Refill
     }
 }
 
 fn note_switch(kind: u32, on: bool, before: &Station, met: &mut Met<Case>) {
     let was = before.is_on(kind);
     met.note(Case::Switch(was, on));
-    if kind == PERSISTENCE && was && !on && before.held > 0 {
+    if kind == PERSISTENCE && was && !on && before.holds() {
         met.note(Case::Forget);
     }
 }

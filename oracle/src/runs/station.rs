@@ -2,17 +2,19 @@
 //! what each call on it answers.
 
 use crate::bridge::{Answer, State};
-use crate::cards::paper::{self, Opened, Record, Value};
+use crate::cards::paper::{self, Opened, Record, Size, Value, NOTHING};
 use crate::passes::chain::{LUT, PERSISTENCE};
 
-/// Where the parts of the 80 bytes end: a length, the card's room, what is held.
+/// Where the parts of the 80 bytes end: a length, the card's room, the remembered width, the height.
 const CARD_END: usize = 73;
-const HELD_END: usize = 77;
+const WIDTH_END: usize = 75;
+const HEIGHT_END: usize = 77;
 
 #[derive(Clone)]
 pub struct Station {
     pub opened: Opened,
-    pub held: u32,
+    /// The size of the frames that its history holds.
+    pub held: Size,
 }
 
 /// The words that are lent to a frame.
@@ -27,7 +29,10 @@ pub struct Lengths {
 impl Station {
     pub fn open(card: &[u8]) -> Result<Station, u32> {
         let opened = paper::open(card)?;
-        Ok(Station { opened, held: 0 })
+        Ok(Station {
+            opened,
+            held: NOTHING,
+        })
     }
 
     /// What these bytes say, if they are a good station's.
@@ -35,12 +40,16 @@ impl Station {
         let card = state[1..CARD_END].get(..state[0].into())?;
         let after = &state[1 + card.len()..CARD_END];
         let zero = |bytes: &[u8]| bytes.iter().all(|&byte| byte == 0);
-        if !zero(after) || !zero(&state[HELD_END..]) {
+        if !zero(after) || !zero(&state[HEIGHT_END..]) {
             return None;
         }
-        let held = state[CARD_END..HELD_END]
-            .iter()
-            .fold(0, |held, &byte| held << 8 | u32::from(byte));
+        let side = |bytes: &[u8]| {
+            let most_first = |side, &byte: &u8| side << 8 | usize::from(byte);
+            bytes.iter().fold(0, most_first)
+        };
+        let width = side(&state[CARD_END..WIDTH_END]);
+        let height = side(&state[WIDTH_END..HEIGHT_END]);
+        let held = (width, height);
         let opened = paper::open(card).ok()?;
         // A card that is not normalised is no station's.
         (opened.written() == card && opened.may_hold(held)).then_some(Station { opened, held })
@@ -51,7 +60,9 @@ impl Station {
         let mut state = [0; 80];
         state[0] = card.len() as u8;
         state[1..][..card.len()].copy_from_slice(&card);
-        state[CARD_END..HELD_END].copy_from_slice(&self.held.to_be_bytes());
+        let (width, height) = self.held;
+        state[CARD_END..WIDTH_END].copy_from_slice(&(width as u16).to_be_bytes());
+        state[WIDTH_END..HEIGHT_END].copy_from_slice(&(height as u16).to_be_bytes());
         state
     }
 
@@ -106,16 +117,32 @@ impl Station {
         }
     }
 
+    /// Whether the history holds frames.
+    pub fn holds(&self) -> bool {
+        self.held != NOTHING
+    }
+
+    /// Whether an accepted frame meets what is held: neither side differs. Any other fills the history anew.
+    pub fn meets(&self, size: Size) -> bool {
+        self.held == size
+    }
+
+    /// Whether an accepted frame is one of another shape that has as many words as those that are held. The original would mix it
+    /// with them: document 02's P1.
+    pub fn turned(&self, size: Size) -> bool {
+        !self.meets(size) && self.held.0 * self.held.1 == size.0 * size.1
+    }
+
     /// What persistence keeps of an accepted frame, beside the words.
-    pub fn take(&mut self, count: usize) {
+    pub fn take(&mut self, size: Size) {
         if self.remembers() {
-            self.held = count as u32;
+            self.held = size;
         }
     }
 
     pub fn reset(&mut self) -> Answer {
         self.place(PERSISTENCE).ok_or(12u32)?;
-        self.held = 0;
+        self.held = NOTHING;
         Ok(0)
     }
 
@@ -123,7 +150,7 @@ impl Station {
         let place = self.place(kind.into()).ok_or(12u32)?;
         let record = &mut self.opened.records[place];
         if record.kind == PERSISTENCE && record.on && !on {
-            self.held = 0;
+            self.held = NOTHING;
         }
         record.on = on;
         Ok(0)

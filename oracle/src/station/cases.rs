@@ -25,10 +25,10 @@ pub enum Case {
     SwitchByte,
     /// A frame through a chain without persistence, or with persistence off.
     Frame,
-    /// A frame that fills the history, one that meets it, and one that meets it in another shape.
+    /// A frame that fills the history, one that meets it, and one that fills it since it has the same count in another shape.
     Refill,
     Blend,
-    BlendTurned,
+    Turned,
     Reset,
     /// A reset while something is held.
     ResetHeld,
@@ -72,7 +72,7 @@ impl Listed for Case {
         Case::Frame,
         Case::Refill,
         Case::Blend,
-        Case::BlendTurned,
+        Case::Turned,
         Case::Reset,
         Case::ResetHeld,
         Case::ResetAbsent,

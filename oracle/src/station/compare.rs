@@ -68,6 +68,7 @@ mod generated {
         }
         total.add_programs(&tally);
         total.unmet += met.report();
+        total.add_turned(met.count(Case::Turned));
         Ok(())
     }
 

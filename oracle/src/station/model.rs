@@ -1,10 +1,11 @@
 //! Document 01's program, as the paper says it, over the original's pipeline: with nothing of the library.
 //! What differs between the original and the paper (docs/DIFFERENCES.md) is done here: an absent kind is
 //! refused; the card's on bit decides, also for the CRT; a reset, which the original's pipeline cannot
-//! reach, builds the effects anew, with their present switches and preset.
+//! reach, and a turned frame, which the original would mix with the frames before the turn, build the effects anew, with their
+//! present switches and preset.
 
 use super::cases::Case;
-use crate::cards::paper::{self, Record, Value};
+use crate::cards::paper::{self, Record, Size, Value};
 use crate::met::Met;
 use crate::passes::chain::{name, preset, LUT, PERSISTENCE};
 use crate::passes::effects::built;
@@ -96,8 +97,8 @@ fn play(
 struct Station {
     records: Vec<Record>,
     pipeline: PostProcessPipeline,
-    /// The size of the frame that persistence took last, if it holds any: for the cases alone.
-    held: Option<(usize, usize)>,
+    /// The size of the frame that persistence took last, if it holds any.
+    held: Option<Size>,
 }
 
 impl Station {
@@ -138,7 +139,11 @@ impl Station {
             met.note(Case::CutPixels);
             return Err(1);
         };
-        met.note(self.taken(width, height));
+        let case = self.taken(width, height);
+        met.note(case);
+        if case == Case::Turned {
+            self.pipeline = built(&self.records);
+        }
         let word = |rgb: &[u8]| u32::from_be_bytes([0, rgb[0], rgb[1], rgb[2]]);
         let mut words: Vec<u32> = pixels.chunks(3).map(word).collect();
         self.pipeline.apply(&mut words, width, height);
@@ -159,7 +164,7 @@ impl Station {
         let before = self.held.replace((width, height));
         match before {
             Some((w, h)) if w * h != width * height => Case::Refill,
-            Some(before) if before != (width, height) => Case::BlendTurned,
+            Some(before) if before != (width, height) => Case::Turned,
             Some(_) => Case::Blend,
             None => Case::Refill,
         }
