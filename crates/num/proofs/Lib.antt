@@ -1,6 +1,7 @@
 -- Laws that several functions' proofs cite, and the theorem about the root's definition.
 mod Patterns
 mod NearWhole
+mod WholePart
 mod Clamped
 mod WholeRoot
 mod RoundedRoot

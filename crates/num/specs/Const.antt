@@ -38,6 +38,9 @@ c0·16 = ofBits binary32 0x3e23d70a
 abbrev pub c0·2126 : Float
 c0·2126 = ofBits binary32 0x3e59b3d0
 
+abbrev pub c0·25 : Float
+c0·25 = ofBits binary32 0x3e800000
+
 abbrev pub c0·28886 : Float
 c0·28886 = ofBits binary32 0x3e93e575
 
@@ -162,6 +165,9 @@ abbrev pub c1023·5 : Float
 c1023·5 = ofBits binary32 0x447fe000
 
 -- 2 ^ 23, from which on every value is whole
+abbrev pub c4194303·75 : Float
+c4194303·75 = ofBits binary32 0x4a7fffff
+
 abbrev pub c8388608·0 : Float
 c8388608·0 = ofBits binary32 0x4b000000
 
@@ -179,6 +185,7 @@ table =
     ∷ (c0·14713, dec 14713 5)
     ∷ (c0·16, dec 16 2)
     ∷ (c0·2126, dec 2126 4)
+    ∷ (c0·25, dec 25 2)
     ∷ (c0·28886, dec 28886 5)
     ∷ (c0·299, dec 299 3)
     ∷ (c0·30, dec 30 2)
@@ -220,6 +227,7 @@ table =
     ∷ (c255·0, dec 2550 1)
     ∷ (c1023·0, dec 10230 1)
     ∷ (c1023·5, dec 10235 1)
+    ∷ (c4194303·75, dec 419430375 2)
     ∷ (c8388608·0, dec 83886080 1)
     ∷ []
 

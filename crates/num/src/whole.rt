@@ -34,14 +34,14 @@ fn to_1023(x: f32) -> f32
     }
 }
 
-// The whole part of v, for v from +0 to below 1024. n is at most 1024, so that `u16` holds it; from there the conversion to a
-// float is a short one.
+// The whole part of v, for v from +0 to below 1024. From 2^22 to 2^23 a float has one digit below one, so the sum is 2^22 and
+// halves, as many as are nearest to 2 v - 1/2: not more than 2 v, and a whole v, which lies between two, goes to the even one. Below
+// 1/4 the sum would have two digits; the whole part is 0 there, as it is at 1/4.
 fn floor(v: f32) -> u32
     requires { ⌜ T (under 1024 v) ⌝ }
     ensures { λ r. ⌜ r ≡ floorOf v ⌝ }
 {
-    let n = near(v);
-    if (n as u16 as f32) > v { n - 1 } else { n }
+    (f32::to_bits(max(v, 0.25) + 4194303.75) - 0x4a80_0000) / 2
 }
 
 // The whole part of x, for x from 0 to 1023, and 0 for any other x.

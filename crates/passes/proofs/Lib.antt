@@ -5,6 +5,7 @@ mod Offsets
 mod Chroma
 mod Collected
 mod Greys
+mod Thirds
 mod Planes
 mod Mirror
 mod Quarter

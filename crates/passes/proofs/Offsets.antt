@@ -214,14 +214,15 @@ pub front : (line : List Float) (n w : ℕ) → length line ≡ n → w ≤ n �
 front line n w e h = length-take-le w line (omega arith)
 
 -- n places that were filled by f
-pub begun : {n x : ℕ} {f : ℕ → Float} {before line : List Float} → length before ≡ 1024 → n ≤ 1024 → n ≤ x → Rewritten x (λ k v. f k) before line → Begins n f line
-begun {n} {x} {f} {before} e l h t = record {
+pub begun : {places n x : ℕ} {f : ℕ → Float} {before line : List Float} → length before ≡ places → n ≤ places → n ≤ x → Rewritten x (λ k v. f k) before line
+    → Begins places n f line
+begun {places} {n} {x} {f} {before} e l h t = record {
   long = t .kept ∙ e;
   value = λ k m. ap (λ (z : List Float). at z k) (t .done) ∙ getD-rewrite x (λ k v. f k) before k nan (omega arith) (omega arith);
 }
 
 -- its sums of weights, where they are lent
-pub weight-at : (line : List Float) (n radius x : ℕ) → Begins n (weightSum n radius) line → x < n → at (take n line) x ≡ weightSum n radius x
+pub weight-at : (line : List Float) (n radius x : ℕ) → Begins 1024 n (weightSum n radius) line → x < n → at (take n line) x ≡ weightSum n radius x
 weight-at line n radius x t l = getD-take n line x nan l ∙ t .value x l
 
 -- a line that was filled by f, blurred: at one place, as a line, and read from that line

@@ -1,15 +1,18 @@
 -- What private functions of src/marks.rt, src/lut.rt, src/blur.rt, src/ntsc.rt, src/bloom.rt and src/persistence.rt promise one
 -- another. No public contract of a pass cites these. Definitions only.
 use mathlib.Core.Path.{_≡_}
+use mathlib.Core.Bool.{false}
 use Prim.Native.Nat.{ℕ, zero, suc, _+_, _*_, _/_, _%_, _^_, _<_}
 use mathlib.Core.List.{List}
+use lib.Dec.{T}
 use lib.ListN.{length, getD}
 use lib.Ieee.{Float, nan}
-use Rattle.num.specs.Const.{c0·0, c1·0, c255·0}
-use Rattle.num.specs.F32.{_⊕_, _⊗_}
+use Rattle.num.specs.Const.{c0·0, c1·0, c3·0, c255·0}
+use Rattle.num.specs.F32.{_⊕_, _⊗_, _⊘_}
 use Rattle.num.specs.Rewrite.{every}
-use Rattle.num.specs.Steps.{clampOf, cutOf}
+use Rattle.num.specs.Steps.{clampOf, cutOf, roundOf}
 use Rattle.num.specs.Sums.{sum}
+use Rattle.num.specs.Ranges.{within, Signed}
 use Rattle.passes.specs.declared.blur.Four.{Four}
 use Rattle.passes.specs.declared.pixel.Rgb.{Rgb}
 use Rattle.passes.specs.Painted.{Painted, painted}
@@ -19,7 +22,7 @@ use Rattle.passes.specs.Plain.Blur.{distance, weight, step, weighted, qu
 use Rattle.passes.specs.Plain.Lut.{colour}
 use Rattle.passes.specs.Plain.Ntsc as Ntsc
 use Rattle.passes.specs.Plain.Persistence.{mix}
-use Rattle.passes.specs.Plain.Pixel.{channel, unpack, packClamped, packUnit, clip, clips}
+use Rattle.passes.specs.Plain.Pixel.{channel, unpack, packClamped, packUnit, clip, clips, luma601}
 
 -- ---- words that are marked: the number of its clipped channels stands above each, in its top byte
 
@@ -40,7 +43,23 @@ everyUnit colour words = every (λ i p. markUnit (colour i p)) words
 unfoldable pub unmarked : List ℕ → Painted
 unmarked words = painted (every (λ i q. q % 16777216) words) (sum (length words) (λ i. getD words i 0 / 16777216))
 
--- ---- LUT by tables
+-- ---- LUT
+
+-- a word's channels as 0..1: none is negative, -0 neither
+pub record Share (x : Float) : Type 0 where
+  pub inside : T (within 1 x)
+  pub sign : Signed false x
+
+pub record OfWord (c : Rgb) : Type 0 where
+  pub red : Share (c .r)
+  pub green : Share (c .g)
+  pub blue : Share (c .b)
+
+-- Game Boy's level
+abbrev pub third : Rgb → Float
+third c = roundOf (luma601 c ⊗ c3·0) ⊘ c3·0
+
+-- by tables
 
 -- a channel as it is converted; then marked, and at its place in a word
 abbrev pub cutUnit : Float → ℕ
@@ -69,9 +88,9 @@ at line i = getD line i nan
 abbrev pub cell : List Float → ℕ → ℕ → ℕ → Float
 cell plane w x y = at plane (y * w + x)
 
--- a line of 1024 places that begins with n values of f
-pub record Begins (n : ℕ) (f : ℕ → Float) (line : List Float) : Type 0 where
-  pub long : length line ≡ 1024
+-- a line of that many places, which begins with n values of f
+pub record Begins (places n : ℕ) (f : ℕ → Float) (line : List Float) : Type 0 where
+  pub long : length line ≡ places
   pub value : (x : ℕ) → x < n → at line x ≡ f x
 
 -- ---- the blur's offsets, four at a time

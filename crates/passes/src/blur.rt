@@ -367,7 +367,7 @@ pub fn line3() -> [f32; 3072]
 // The sums of the weights of each place of a line of n samples.
 pub fn weight_line(n: usize, radius: usize) -> [f32; 1024]
     requires { ⌜ (radius ≤ 64) × (n ≤ 1024) ⌝ }
-    ensures { λ r. ⌜ Begins n (Blur.weightSum n radius) r ⌝ }
+    ensures { λ r. ⌜ Begins 1024 n (Blur.weightSum n radius) r ⌝ }
 {
     let mut out = line();
     let mut x = 0usize;

@@ -5,12 +5,21 @@ ghost use lib.ListN.{length, getD};
 ghost use Rattle.num.specs.Rewrite.{every, fill};
 ghost use Rattle.passes.specs.Plain.Lut as Lut;
 ghost use Rattle.passes.specs.Painted.{painted};
-ghost use Rattle.passes.specs.Private.{Greys, entry, everyUnit, picked};
+ghost use Rattle.passes.specs.Private.{Greys, OfWord, entry, everyUnit, picked, third};
 use crate::marks;
 use crate::pixel;
 use crate::pixel::Rgb;
 
+// Game Boy's level: the luma, rounded to thirds. That of a word lies where `nearest` is the shorter way to `round`.
+fn third(c: Rgb) -> f32
+    requires { ⌜ OfWord c ⌝ }
+    ensures { λ r. ⌜ r ≡ third c ⌝ }
+{
+    num::whole::nearest(pixel::luma601(c) * 3.0) as u16 as f32 / 3.0
+}
+
 fn transform(preset: u8, c: Rgb) -> Rgb
+    requires { ⌜ OfWord c ⌝ }
     ensures { λ r. ⌜ r ≡ Lut.transform preset c ⌝ }
 {
     match preset {
@@ -34,7 +43,7 @@ fn transform(preset: u8, c: Rgb) -> Rgb
             }
         }
         4 => {
-            let level = num::whole::round(pixel::luma601(c) * 3.0) / 3.0;
+            let level = third(c);
             Rgb {
                 r: level * 0.35,
                 g: level * 0.72,
@@ -132,7 +141,7 @@ fn by_greys(frame: &mut [u32], reds: &[u32], greens: &[u32], blues: &[u32])
 }
 
 // The three presets that mix channels, each in a loop of its own. The preset is a number there, so that the loop has its own treatment
-// alone and becomes vector code.
+// alone and becomes vector code. As one loop that is handed the preset it did not, and took seven times as long.
 fn by_composite(frame: &mut [u32], strength: f32)
     ensures { λ _. ⌜ now (frame .exit) ≡ everyUnit (λ i. Lut.colour 3 strength) (now (frame .entry)) ⌝ }
 {

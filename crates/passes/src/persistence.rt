@@ -10,8 +10,7 @@ ghost use Rattle.passes.specs.Flow.{flow};
 ghost use Rattle.passes.specs.Plain.Persistence as Persistence;
 ghost use Rattle.passes.specs.Plain.Pixel.{channel, rgb, unpack};
 ghost use Rattle.passes.specs.Painted.{painted};
-ghost use Rattle.passes.specs.Private.{at, Begins, markClamped, blendedWord, mixedChannel};
-use crate::blur;
+ghost use Rattle.passes.specs.Private.{at, markClamped, blendedWord, mixedChannel};
 use crate::marks;
 use crate::pixel;
 use crate::pixel::Rgb;
@@ -97,22 +96,11 @@ fn mix_line(
     }
 }
 
-// The same at the front of a line of its own.
-fn channel_line(
-    row: &[u32],
-    at: usize,
-    n: usize,
-    w: f32,
-    ws: &[f32],
-    history: &[u32],
-    which: usize,
-) -> [f32; 1024]
-    requires { ⌜ (length (now row) ≤ 1024) × (at + length (now row) ≤ n) × (length (now ws) * n ≤ length (now history)) ⌝ }
-    ensures { λ r. ⌜ Begins (length (now (row .entry))) (mixedChannel w (now (ws .entry)) (now (history .entry)) (now (row .entry)) n at which) r ⌝ }
+// Room for a line. So few words of the frame and of each place of the history stay near from one channel to the next.
+fn short() -> [f32; 64]
+    ensures { λ r. ⌜ length r ≡ 64 ⌝ }
 {
-    let mut line = blur::line();
-    mix_line(&mut line[..row.len()], row, at, n, w, ws, history, which);
-    line
+    [0.0; 64]
 }
 
 // The words of three lines of channels.
@@ -132,24 +120,29 @@ fn finish_row(row: &mut [u32], r: &[f32], g: &[f32], b: &[f32])
     }
 }
 
-// A row that begins at word `at` of a frame of n, by way of a line for each channel.
+// A row that begins at word `at` of a frame of n, by way of a line for each channel. The lines are made here: a line that a function
+// returned would be copied.
 fn blend_row(row: &mut [u32], at: usize, n: usize, w: f32, ws: &[f32], history: &[u32])
-    requires { ⌜ (length (now row) ≤ 1024) × (at + length (now row) ≤ n) × (length (now ws) * n ≤ length (now history)) ⌝ }
+    requires { ⌜ (length (now row) ≤ 64) × (at + length (now row) ≤ n) × (length (now ws) * n ≤ length (now history)) ⌝ }
     ensures { λ _. ⌜ now (row .exit) ≡ every (λ x. blendedWord w (λ j. getD (now (ws .entry)) j nan) (length (now (ws .entry)))
         (now (history .entry)) n (at + x)) (now (row .entry)) ⌝ }
 {
-    let r = channel_line(row, at, n, w, ws, history, 0);
-    let g = channel_line(row, at, n, w, ws, history, 1);
-    let b = channel_line(row, at, n, w, ws, history, 2);
+    let count = row.len();
+    let mut r = short();
+    mix_line(&mut r[..count], row, at, n, w, ws, history, 0);
+    let mut g = short();
+    mix_line(&mut g[..count], row, at, n, w, ws, history, 1);
+    let mut b = short();
+    mix_line(&mut b[..count], row, at, n, w, ws, history, 2);
     finish_row(row, &r, &g, &b);
 }
 
-// Where the row from `at` on ends: a line has room for 1024 words.
+// Where the row from `at` on ends: a line has room for 64 words.
 fn row_end(at: usize, n: usize) -> usize
     requires { ⌜ at < n ⌝ }
-    ensures { λ r. ⌜ (at < r) × (r ≤ n) × (r ≤ at + 1024) ⌝ }
+    ensures { λ r. ⌜ (at < r) × (r ≤ n) × (r ≤ at + 64) ⌝ }
 {
-    if n - at < 1024 { n } else { at + 1024 }
+    if n - at < 64 { n } else { at + 64 }
 }
 
 // Each place of the history gets the frame.
@@ -240,8 +233,9 @@ fn follow(
     let mut ws = line();
     weights(&mut ws[..depth], amount, sum);
     blend_rows(frame, 1.0 / sum, &ws[..depth], history);
+    let clipped = marks::collect(frame);
     shift(history, carried, depth);
-    marks::collect(frame)
+    clipped
 }
 
 // What the history then holds, and how many channels were clipped.

@@ -1,7 +1,8 @@
 -- `passes::auto_gradient::rows` meets its contract: row by row. Assumes nothing.
-use Prim.Native.Nat.{_-_}
+use Prim.Native.Nat.{_+_, _-_, _≤_}
 use mathlib.Core.Path.{ap, sym, _∙_}
 use native.Mathlib.Omega.{arith}
+use lib.ListN.{length}
 use lib.Ieee.{Float}
 use Rattle.passes.proofs.RowLoops.{Rowed, no-rows, row-in, row-length, row-by, rows-all}
 use Rattle.passes.specs.Plain.AutoGradient.{brightness, shade}
@@ -15,14 +16,9 @@ Inv-loop fb₀ kept w h v a y₀ at₀ fb y k = Rowed w h y k (λ x y p. markCla
 abbrev μ-loop : tie.MeasureT-loop
 μ-loop fb₀ kept w h v a y₀ at₀ fb y k = h - y
 
-add-end : tie.Need-add-end Inv-loop μ-loop
-add-end c = omega (arith, row-in (c .before .loop .inv) (c .loop-test .taken))
-
-mul-row : tie.Need-mul-row Inv-loop μ-loop
-mul-row c = omega (arith, row-in (c .before .loop .inv) (c .loop-test .taken))
-
-part-row-end : tie.Need-part-row-end Inv-loop μ-loop
-part-row-end c = omega (arith, row-in (c .before .loop .inv) (c .loop-test .taken))
+-- the next row lies within the frame
+abbrev fits : (c : tie.In-loop Inv-loop μ-loop) → let a = c .before .before .before .before .args in c .before .loop .at + a .width ≤ length (a .frame .now)
+fits c = row-in (c .before .loop .inv) (c .loop-test .taken)
 
 warm-requires : tie.Need-warm-requires Inv-loop μ-loop
 warm-requires c κs =
@@ -45,5 +41,6 @@ loop-again c =
 pub rows-spec : {M : Type 1} → statement M
 rows-spec =
     tie.close
-    (tie.spec Inv-loop μ-loop (λ c. no-rows _ (c .before .before .pre .0 .area)) add-end mul-row (λ c. omega arith) (λ c. omega arith) part-row-end warm-requires
+    (tie.spec Inv-loop μ-loop (λ c. no-rows _ (c .before .before .pre .0 .area)) (λ c. omega (arith, fits c)) (λ c. omega (arith, fits c)) (λ c. omega arith) (λ c. omega arith)
+    (λ c. omega (arith, fits c)) warm-requires
     row-requires (λ c. omega arith) (λ c. omega arith) loop-again (λ c. c .before .loop .inv .so-far .kept) (λ c. rows-all (c .before .loop .inv) (c .loop-test .left)))

@@ -1,6 +1,7 @@
 -- `passes::curvature::rows` meets its contract: row by row. Assumes nothing.
-use Prim.Native.Nat.{_-_}
+use Prim.Native.Nat.{_+_, _-_, _≤_}
 use native.Mathlib.Omega.{arith}
+use lib.ListN.{length}
 use Rattle.passes.specs.Plain.Curvature.{wordAt}
 use Rattle.passes.proofs.RowLoops.{Rowed, no-rows, row-in, row-length, rows-all, row-loop}
 use Rattle.passes.proofs.curvature.rows.Statement.{statement}
@@ -12,6 +13,10 @@ Inv-loop fb₀ copy w h amount y₀ at₀ fb y k = Rowed w h y k (wordAt w h amo
 abbrev μ-loop : tie.MeasureT-loop
 μ-loop fb₀ copy w h amount y₀ at₀ fb y k = h - y
 
+-- the next row lies within the frame
+abbrev fits : (c : tie.In-loop Inv-loop μ-loop) → let a = c .before .before .before .before .args in c .before .loop .at + a .width ≤ length (a .frame .now)
+fits c = row-in (c .before .loop .inv) (c .loop-test .taken)
+
 row-requires : tie.Need-row-requires Inv-loop μ-loop
 row-requires c κs =
     let in-loop = c .before in
@@ -21,7 +26,7 @@ pub rows-spec : {M : Type 1} → statement M
 rows-spec =
     tie.close
     (tie.spec Inv-loop μ-loop (λ c. no-rows _ (c .before .before .pre .0 .area))
-    (λ c. omega (arith, row-in (c .before .loop .inv) (c .loop-test .taken)))
-    (λ c. omega (arith, row-in (c .before .loop .inv) (c .loop-test .taken))) (λ c. omega arith) (λ c. omega arith)
-    (λ c. omega (arith, row-in (c .before .loop .inv) (c .loop-test .taken))) row-requires (λ c. omega arith) (λ c. omega arith)
+    (λ c. omega (arith, fits c))
+    (λ c. omega (arith, fits c)) (λ c. omega arith) (λ c. omega arith)
+    (λ c. omega (arith, fits c)) row-requires (λ c. omega arith) (λ c. omega arith)
     (λ c. search row-loop) (λ c. omega arith) (λ c. rows-all (c .before .loop .inv) (c .loop-test .left)))

@@ -1,5 +1,5 @@
 -- `passes::ntsc::rows` meets its contract: row by row. Assumes nothing.
-use Prim.Native.Nat.{_+_, _-_}
+use Prim.Native.Nat.{_+_, _-_, _≤_}
 use mathlib.Core.Path.{_≡_, sym, ap, _∙_}
 use native.Mathlib.Omega.{arith}
 use lib.ListN.{length, take, drop}
@@ -16,6 +16,10 @@ Inv-loop frame₀ line₀ u₀ v₀ w width height bleed strength y₀ at₀ fra
 
 abbrev μ-loop : tie.MeasureT-loop
 μ-loop frame₀ line₀ u₀ v₀ w width height bleed strength y₀ at₀ frame line u v y k = height - y
+
+-- the next row lies within the frame
+abbrev fits : (c : tie.In-loop Inv-loop μ-loop) → let a = c .before .before .before .before .before .before .before .args in c .before .loop .at + a .width ≤ length (a .frame .now)
+fits c = row-in (c .before .loop .inv .3) (c .loop-test .taken)
 
 loop-holds : tie.Need-loop-holds Inv-loop μ-loop
 loop-holds c = let p = c .before .before .before .before .before .pre in (p .0 .1, p .0 .2, p .0 .3, no-rows _ (p .1 .area))
@@ -52,7 +56,7 @@ returns c = rows-all (c .before .loop .inv .3) (c .loop-test .left)
 pub rows-spec : {M : Type 1} → statement M
 rows-spec =
     tie.close
-    (tie.spec Inv-loop μ-loop loop-holds (λ c. omega (arith, row-in (c .before .loop .inv .3) (c .loop-test .taken)))
-    (λ c. omega (arith, row-in (c .before .loop .inv .3) (c .loop-test .taken))) (λ c. omega arith) (λ c. omega arith)
-    (λ c. omega (arith, row-in (c .before .loop .inv .3) (c .loop-test .taken))) row-requires (λ c. omega arith) (λ c. omega arith) loop-again
+    (tie.spec Inv-loop μ-loop loop-holds (λ c. omega (arith, fits c))
+    (λ c. omega (arith, fits c)) (λ c. omega arith) (λ c. omega arith)
+    (λ c. omega (arith, fits c)) row-requires (λ c. omega arith) (λ c. omega arith) loop-again
     (λ c. c .before .loop .inv .3 .so-far .kept) (λ c. omega arith) (λ c. omega arith) (λ c. omega arith) returns)

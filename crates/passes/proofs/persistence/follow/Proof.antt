@@ -80,15 +80,15 @@ blend-rows-requires c κs =
 -- what is carried is the frame as it came
 shift-requires : tie.Need-shift-requires
 shift-requires c κs =
-    let d = c .before .before .before .before .before .before .before .before .before in
+    let d = c .before .before .before .before .before .before .before .before .before .before .before .before .before in
     let s = start (d .before .before) in
     subst (λ (z : List ℕ). s .args .depth * length z ≤ length (s .args .history .now)) (sym (copied (d .before .before) .copy .ensures)) (s .pre .1)
 
 returns : tie.Need-returns
 returns c =
-    let k = c .before .before in
-    let h = k .before .before .before .before .before .before in
-    let b = h .before .before .before .before .before in
+    let h = c .before .before .before .before in
+    let k = h .before .before .before .before .before in
+    let b = k .before .before .before .before in
     let d = b .before .before .before .before .before in
     let l = d .before .before in
     let a = start l .args in (
@@ -102,4 +102,4 @@ follow-spec =
     tie.close
     (tie.spec (λ c κs. search needs) (λ c κs. tt) (λ c κs. tt) (λ c. search needs) (λ c. sym (part (c .before))) (λ c κs. tt)
     (λ c. simp length-append (omega (arith, c .before .before .weights .kept .0, part (c .before .before .before .before))))
-    (λ c. sym (many (c .before .before .before))) blend-rows-requires shift-requires (λ c κs. search needs) (λ c. search needs) (λ c. search needs) (λ c. search needs) returns)
+    (λ c. sym (many (c .before .before .before))) blend-rows-requires (λ c κs. search needs) shift-requires (λ c. search needs) (λ c. search needs) (λ c. search needs) returns)
