@@ -86,7 +86,10 @@ pub fn note(card: &[u8], answer: Result<usize, Number>, stopped: usize, met: &mu
 
 /// The kinds of the records that begin up to this bit.
 fn kinds(card: &[u8], upto: usize) -> Vec<u32> {
-    places(card).take_while(|&(at, _)| at <= upto).map(|(_, kind)| kind).collect()
+    places(card)
+        .take_while(|&(at, _)| at <= upto)
+        .map(|(_, kind)| kind)
+        .collect()
 }
 
 fn ends_with_kind(card: &[u8], end: usize) -> bool {
@@ -97,7 +100,10 @@ fn ends_with_kind(card: &[u8], end: usize) -> bool {
 fn places(card: &[u8]) -> impl Iterator<Item = (usize, u32)> + '_ {
     let mut at = 8;
     std::iter::from_fn(move || {
-        let bit = |place: usize| card.get(place / 8).map(|byte| u32::from(byte >> (7 - place % 8) & 1));
+        let bit = |place: usize| {
+            card.get(place / 8)
+                .map(|byte| u32::from(byte >> (7 - place % 8) & 1))
+        };
         let mut kind = 0;
         for place in at..at + 4 {
             kind = kind << 1 | bit(place)?;
@@ -109,7 +115,9 @@ fn places(card: &[u8]) -> impl Iterator<Item = (usize, u32)> + '_ {
             Field::Limited(_) | Field::Within(..) | Field::Gain(_) => 32,
         };
         // After a kind that is none nothing is found.
-        at = fields(kind).map_or(usize::MAX - 8, |fields| at + 5 + fields.iter().map(width).sum::<usize>());
+        at = fields(kind).map_or(usize::MAX - 8, |fields| {
+            at + 5 + fields.iter().map(width).sum::<usize>()
+        });
         Some(found)
     })
 }
