@@ -32,7 +32,7 @@ const HELD: [Size; 12] = [
 ];
 
 pub fn run(mode: Mode, total: &mut Total) {
-    println!("Cards, with a reading of document 01");
+    println!("Cards, with a reading of documents 01 and 02");
     let count = match mode {
         Mode::Quick => 400_000,
         Mode::Full => 20_000_000,
