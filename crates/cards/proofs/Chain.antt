@@ -12,7 +12,7 @@ use Rattle.cards.specs.Step.{took, _>>=_, _>>_}
 use Rattle.cards.specs.Bits.{bitAt, valueAt}
 use Rattle.num.specs.Const.{c0·0, c0·5, c0·95, c1·0, c4·0}
 use Rattle.cards.specs.Passes.{ntscAt, bloomAt, autoGradientAt, persistenceAt, lutAt, curvatureAt, colorCorrectionAt, crtAt, vignetteAt, scanlinesAt, passAt, kindOf}
-use Rattle.cards.specs.Records.{kinds, among, recordAt}
+use Rattle.cards.specs.Records.{kinds, among, lastOf, recordAt}
 use Rattle.cards.specs.Card.{stationOf, recordsAt, endsAt, stationAt}
 use Rattle.cards.specs.Written.{bits, passBits, recordBits, recordsBits, chainBits, chainCard}
 use Rattle.cards.specs.declared.station.Pass.{Pass}
@@ -35,10 +35,12 @@ NormalPass (Crt s) = Settled c0·0 c1·0 s
 NormalPass (Vignette s) = Settled c0·0 c1·0 s
 NormalPass (Scanlines s) = Settled c0·0 c1·0 s
 
--- normalised records after those that are done, no kind twice
+-- normalised records after those that are done, no kind twice, and none below the one before it
 abbrev pub NormalChain : List Record → List Record → Type 0
 NormalChain done [] = Unit {0}
-NormalChain done (r ∷ rs) = NormalPass (r .pass) × (among (kindOf (r .pass)) (kinds done) ≡ false) × NormalChain (done ++ r ∷ []) rs
+NormalChain done (r ∷ rs) =
+    NormalPass (r .pass) × (among (kindOf (r .pass)) (kinds done) ≡ false) × (ltb (kindOf (r .pass)) (lastOf 0 (kinds done)) ≡ false)
+    × NormalChain (done ++ r ∷ []) rs
 
 reads-pass : (p : Pass) → NormalPass p → Reads (passAt (kindOf p)) (passBits p) p
 unfolding passAt passBits ntscAt bloomAt autoGradientAt persistenceAt lutAt curvatureAt colorCorrectionAt crtAt vignetteAt scanlinesAt
@@ -89,24 +91,26 @@ switch-back : (on : Bool) → eqb (cond on 1 0) 1 ≡ on
 switch-back true = refl
 switch-back false = refl
 
-reads-record : (seen : List ℕ) (r : Record) → NormalPass (r .pass) → among (kindOf (r .pass)) seen ≡ false → Reads (recordAt seen) (recordBits r) r
+reads-record : (seen : List ℕ) (r : Record) → NormalPass (r .pass) → among (kindOf (r .pass)) seen ≡ false
+    → ltb (kindOf (r .pass)) (lastOf 0 seen) ≡ false → Reads (recordAt seen) (recordBits r) r
 unfolding recordAt recordBits
-reads-record seen r n new =
+reads-record seen r n new rises =
     reads-here
     (λ p. reads-then _ (reads-field 4 (kindOf (r .pass)) (small (r .pass)))
     (reads-after _ (reads-guard 4 p _ (known (r .pass)))
     (reads-after _ (reads-guard 5 p _ new)
+    (reads-after _ (reads-guard 15 p _ rises)
     (reads-then _ (reads-field 1 (cond (r .on) 1 0) (switch-small (r .on)))
     (reads-last _ (reads-pass (r .pass) n)
-    (reads-as (record { on = eqb (cond (r .on) 1 0) 1; pass = r .pass }) r (ap (λ (on : Bool). record { on = on; pass = r .pass }) (switch-back (r .on)))))))))
+    (reads-as (record { on = eqb (cond (r .on) 1 0) 1; pass = r .pass }) r (ap (λ (on : Bool). record { on = on; pass = r .pass }) (switch-back (r .on))))))))))
 
 reads-records : (rs done : List Record) → NormalChain done rs → Reads (recordsAt (length rs) done) (recordsBits rs) (done ++ rs)
 unfolding recordsAt recordsBits
 reads-records [] done n = reads-as done (done ++ []) (sym (append-nil done))
 reads-records (r ∷ rs) done n =
-    reads-then _ (reads-record (kinds done) r (n .0) (n .1))
+    reads-then _ (reads-record (kinds done) r (n .0) (n .1) (n .2))
     (subst (λ (l : List Record). Reads (recordsAt (length rs) (done ++ r ∷ [])) (recordsBits rs) l) (append-assoc done (r ∷ []) rs)
-    (reads-records rs (done ++ r ∷ []) (n .2)))
+    (reads-records rs (done ++ r ∷ []) (n .3)))
 
 -- only bits are written
 pass-bits : (p : Pass) → IsBits (passBits p)

@@ -5,7 +5,7 @@ use mathlib.Core.Path.{_≡_, refl, ap, sym, subst, _∙_}
 use mathlib.Core.Bool.{Bool, true, false, cond}
 use mathlib.Core.List.{List, [], _∷_, _++_, append-nil, append-assoc}
 use lib.ListN.{length}
-use lib.Dec.{T, eqb}
+use lib.Dec.{T, ltb, eqb}
 use borrow.Author.Tests.{ltb-false, eq-eqb, eqb-false, not-false}
 use lib.Ieee.{Float, nan, inf, fin, binary32, fits, ofBits, lt, eq, up, down, neg}
 use lib.Ieee.Bits.{ofBits-fits}
@@ -15,7 +15,7 @@ use Rattle.cards.specs.Settings.{finiteAt, limitedAt, withinAt, gainAt, 
 use Rattle.num.specs.Steps.{clampOf, plusZeroOf, limitOf}
 use Rattle.num.specs.Const.{c0·0, c0·5, c0·95, c1·0, c4·0}
 use Rattle.cards.specs.Passes.{ntscAt, bloomAt, autoGradientAt, persistenceAt, lutAt, curvatureAt, colorCorrectionAt, crtAt, vignetteAt, scanlinesAt, passAt, kindOf}
-use Rattle.cards.specs.Records.{kinds, among, recordAt}
+use Rattle.cards.specs.Records.{kinds, among, lastOf, recordAt}
 use Rattle.cards.specs.Card.{stationOf, recordsAt, endAt, stationAt}
 use Rattle.cards.specs.Normal.{negZero}
 use Rattle.cards.specs.declared.station.Pass.{Pass}
@@ -149,9 +149,9 @@ gives-pass (suc (suc (suc (suc (suc (suc (suc (suc (suc zero))))))))) = gives-th
 gives-pass (suc (suc (suc (suc (suc (suc (suc (suc (suc (suc zero)))))))))) = gives-then _ (gives-1) (λ x0 h0. gives-ret (Of 10) _ (h0, refl))
 gives-pass (suc (suc (suc (suc (suc (suc (suc (suc (suc (suc (suc k))))))))))) = gives-refuse (Of _) 4
 
--- a normalised record of a kind not seen before
+-- a normalised record of a kind not seen before, and not below the last
 abbrev New : List ℕ → Record → Type 0
-New seen r = NormalPass (r .pass) × (among (kindOf (r .pass)) seen ≡ false)
+New seen r = NormalPass (r .pass) × (among (kindOf (r .pass)) seen ≡ false) × (ltb (kindOf (r .pass)) (lastOf 0 seen) ≡ false)
 
 gives-record : (seen : List ℕ) → Gives (recordAt seen) (New seen)
 unfolding recordAt
@@ -160,9 +160,11 @@ gives-record seen =
     (λ q. gives-then _ (gives-field 4)
     (λ k hk. gives-then _ (gives-guard 4 q _)
     (λ u g₄. gives-then _ (gives-guard 5 q _)
-    (λ u g₅. gives-then _ (gives-field 1)
+    (λ u g₅. gives-then _ (gives-guard 15 q _)
+    (λ u g₁₅. gives-then _ (gives-field 1)
     (λ on ho. gives-then _ (gives-pass k)
-    (λ p hp. gives-ret (New seen) _ (hp .0, ap (λ (j : ℕ). among j seen) (hp .1) ∙ g₅)))))))
+    (λ p hp. gives-ret (New seen) _
+    (hp .0, ap (λ (j : ℕ). among j seen) (hp .1) ∙ g₅, ap (λ (j : ℕ). ltb j (lastOf 0 seen)) (hp .1) ∙ g₁₅))))))))
 
 -- n normalised records after those that are done
 record More (n : ℕ) (done rs : List Record) : Type 0 where
@@ -183,7 +185,7 @@ gives-records (suc n) done =
         record {
           more = r ∷ m .more;
           joined = m .joined ∙ append-assoc done (r ∷ []) (m .more);
-          normal = (hr .0, hr .1, m .normal);
+          normal = (hr .0, hr .1, hr .2, m .normal);
           long = ap suc (m .long);
         }
 

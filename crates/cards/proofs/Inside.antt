@@ -86,7 +86,7 @@ inside-pass kind = picked {ms = byKind} (search (none, more, insides) depth 30 f
 
 inside-record : {q : ℕ} (seen : List ℕ) → Inside q (recordAt seen)
 unfolding recordAt
-inside-record seen = search (inside-pass, insides) depth 12
+inside-record seen = search (inside-pass, insides) depth 14
 
 inside-records : {q : ℕ} (n : ℕ) (done : List Record) → Inside q (recordsAt n done)
 unfolding recordsAt

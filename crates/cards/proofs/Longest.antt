@@ -1,7 +1,7 @@
 -- The longest card is 72 bytes: each kind stands once, so a chain's records take at most what the ten kinds take together, 565 bits. Assumes nothing.
 use Prim.Native.Nat.{ℕ, _+_, _/_, _≤_}
 use native.Mathlib.Omega.{arith}
-use mathlib.Core.Path.{_≡_, refl, _∙_}
+use mathlib.Core.Path.{_≡_, refl, sym, subst, _∙_}
 use mathlib.Core.Bool.{Bool, true, false, cond, not, _&&_, _||_}
 use mathlib.Core.List.{List, [], _∷_, _++_}
 use lib.ListN.{length, take, length-append}
@@ -16,9 +16,10 @@ use Rattle.cards.specs.Written.{bits, recordBits, recordsBits, chainBits
 use Rattle.cards.specs.declared.station.Pass.{Pass}
 use Rattle.cards.specs.declared.station.Pass.the-variants.{Ntsc, Bloom, AutoGradient, Persistence, Lut, Curvature, ColorCorrection, Crt, Vignette, Scanlines}
 use Rattle.cards.specs.declared.station.Record.{Record}
+use Rattle.cards.specs.Laws.Good.{headed}
 use Rattle.cards.proofs.Packed.{length-bits, length-pack}
 use Rattle.cards.proofs.Records.{width, record-long}
-use Rattle.cards.proofs.Tests.{held-not}
+use Rattle.cards.proofs.Tests.{held-true}
 use Rattle.cards.proofs.Writing.{good-parts}
 
 -- the kinds
@@ -84,10 +85,14 @@ unfolding recordsBits normalChain
 records-long [] seen h = omega arith
 records-long (r ∷ rs) seen h =
     let k = kindOf (r .pass) in
-    let front = and-l (normalPass (r .pass) && not (among k seen)) (normalChain (seen ++ k ∷ []) rs) h in
-    let rest = and-r (normalPass (r .pass) && not (among k seen)) (normalChain (seen ++ k ∷ []) rs) h in
-    let new = held-not (among k seen) (and-r (normalPass (r .pass)) (not (among k seen)) front) in
-    omega (arith, length-append (recordBits r) (recordsBits rs), record-long r, records-long rs (seen ++ k ∷ []) rest, spent every k seen new (known (r .pass)))
+    let q = headed seen r rs (held-true (normalChain seen (r ∷ rs)) h) in
+    omega (
+      arith,
+      length-append (recordBits r) (recordsBits rs),
+      record-long r,
+      records-long rs (seen ++ k ∷ []) (subst T (sym (q .others)) tt),
+      spent every k seen (q .new) (known (r .pass)),
+    )
 
 -- no chain's card is longer than 72 bytes
 pub longest : (rs : List Record) → T (normalChain [] rs) → length (chainCard rs) ≤ 72

@@ -52,8 +52,9 @@ chain-is done (r ∷ rs) t =
     (record {
       normal = normal-is (r .pass) (t .0);
       new = t .1;
+      rises = t .2;
       others =
-          subst (λ (ks : List ℕ). normalChain ks rs ≡ true) (map-append (λ (r : Record). kindOf (r .pass)) done (r ∷ [])) (chain-is (done ++ r ∷ []) rs (t .2));
+          subst (λ (ks : List ℕ). normalChain ks rs ≡ true) (map-append (λ (r : Record). kindOf (r .pass)) done (r ∷ [])) (chain-is (done ++ r ∷ []) rs (t .3));
     })
 
 -- of a station that is opened

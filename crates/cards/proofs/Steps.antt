@@ -1,17 +1,18 @@
 -- A read that was taken or refused, from its contract and the case of its answer; and how wide each reader is. Assumes nothing.
-use Prim.Native.Nat.{ℕ, _+_, _-_, _<_}
+use Prim.Native.Nat.{ℕ, _+_, _-_, _≤_, _<_}
 use native.Mathlib.Omega.{arith}
-use mathlib.Core.Path.{_≡_, refl, ap, sym, _∙_}
+use mathlib.Core.Path.{_≡_, refl, ap, sym, subst, _∙_}
 use mathlib.Core.Bool.{Bool, true, false, cond, not, _||_}
 pub use borrow.Author.Tests.{eq-eqb, ne-eqb, lt-ltb, le-ltb}
 use mathlib.Core.List.{List}
-use lib.Dec.{T, leb, leb→le}
+use lib.Dec.{T, leb, ltb, leb→le}
 pub use lib.Dec.{lit≤}
 use lib.Ieee.{Float}
 use Rattle.num.specs.Steps.{limitOf}
 pub use Rattle.num.specs.Laws.Bools.{not-held, not-failed, or-left, or-right, or-neither}
 use Rattle.cards.specs.Step.{Step, took, refused, Reader, andThen, _>>=_, _>>_, stop, ret, here, refuseIf, byteStep, realStep, passStep, recordStep, refusalOf}
 use Rattle.cards.specs.Bits.{fieldAt}
+use Rattle.cards.specs.Records.{lastOf}
 use Rattle.cards.specs.Settings.{finiteAt, limitedAt, withinAt, gainAt, countAt, presetAt}
 use Rattle.cards.specs.declared.fields.Refusal.{Refusal}
 use Rattle.cards.specs.declared.fields.ByteRead.{ByteRead}
@@ -103,6 +104,13 @@ pub guard-stops : {D : Type 0} (k p : ℕ) (b : Bool) (card : List ℕ) (n : ℕ
 unfolding refuseIf
 guard-stops k p b card n f e = rw e refl
 
+-- a kind beside the last that was read, which a call told
+pub below-last : (k m d : ℕ) (ks : List ℕ) → m ≡ lastOf d ks → k < m → ltb k (lastOf d ks) ≡ true
+below-last k m d ks e l = lt-ltb k (lastOf d ks) (subst (λ (n : ℕ). k < n) e l)
+
+pub from-last : (k m d : ℕ) (ks : List ℕ) → m ≡ lastOf d ks → m ≤ k → ltb k (lastOf d ks) ≡ false
+from-last k m d ks e l = le-ltb k (lastOf d ks) (subst (λ (n : ℕ). n ≤ k) e l)
+
 pub via : (a b c : Bool) → b ≡ a → b ≡ c → a ≡ c
 via a b c e h = sym e ∙ h
 
@@ -181,4 +189,4 @@ pub weaken : (p j m : ℕ) → p < j → T (leb j m) → p < m
 weaken p j m h t = omega (arith, leb→le j m t)
 
 -- `search steps` closes each return of a reader, and what the next field requires of its place
-pub ruleset steps = (refl, here-then, real-then, real-stops, byte-then, byte-stops, pass-then, pass-stops, real-kept, real-back, byte-kept, byte-back, cond-yes, cond-no, limit-is, guard-then, guard-stops, not-held, not-failed, or-left, or-right, or-neither, via, eq-eqb, ne-eqb, lt-ltb, le-ltb, limited-near, within-near, gain-near, count-near, preset-near, field-near, weaken, lit≤, tt)
+pub ruleset steps = (refl, here-then, real-then, real-stops, byte-then, byte-stops, pass-then, pass-stops, real-kept, real-back, byte-kept, byte-back, cond-yes, cond-no, limit-is, guard-then, guard-stops, not-held, not-failed, or-left, or-right, or-neither, via, eq-eqb, ne-eqb, lt-ltb, le-ltb, limited-near, within-near, gain-near, count-near, preset-near, field-near, weaken, lit≤, tt, below-last, from-last)

@@ -13,7 +13,7 @@ use lib.Ieee.Scale.{finite}
 use lib.Ieee.Fits.{and-l, and-r}
 use Rattle.num.specs.Const.{c0·0, c0·5, c0·95, c1·0, c4·0}
 use Rattle.cards.specs.Passes.{kindOf}
-use Rattle.cards.specs.Records.{kinds, among}
+use Rattle.cards.specs.Records.{kinds}
 use Rattle.cards.specs.Normal.{negZero, settled, counted, normalPass, normalChain}
 use Rattle.cards.specs.Card.{unused, stationOf, accepted, openOf}
 use Rattle.cards.specs.Typed.{Typed, TypedChain}
@@ -23,6 +23,7 @@ use Rattle.cards.specs.declared.station.Pass.{Pass}
 use Rattle.cards.specs.declared.station.Pass.the-variants.{Ntsc, Bloom, AutoGradient, Persistence, Lut, Curvature, ColorCorrection, Crt, Vignette, Scanlines}
 use Rattle.cards.specs.declared.station.Record.{Record}
 use Rattle.cards.specs.declared.station.Station.{Station}
+use Rattle.cards.specs.Laws.Good.{headed}
 use Rattle.cards.proofs.Back.{Settled, Counted}
 use Rattle.cards.proofs.Chain.{NormalPass, NormalChain}
 use Rattle.cards.proofs.Writing.{good-parts}
@@ -72,12 +73,12 @@ chain-of : (rs done : List Record) → TypedChain rs → T (normalChain (kinds d
 unfolding normalChain
 chain-of [] done t h = tt
 chain-of (r ∷ rs) done t h =
-    let k = kindOf (r .pass) in
-    let front = and-l (normalPass (r .pass) && not (among k (kinds done))) (normalChain (kinds done ++ k ∷ []) rs) h in
-    let rest = and-r (normalPass (r .pass) && not (among k (kinds done))) (normalChain (kinds done ++ k ∷ []) rs) h in (
-      normal-of (r .pass) (t .0) (and-l (normalPass (r .pass)) (not (among k (kinds done))) front),
-      held-not (among k (kinds done)) (and-r (normalPass (r .pass)) (not (among k (kinds done))) front),
-      chain-of rs (done ++ r ∷ []) (t .1) (subst (λ (ks : List ℕ). T (normalChain ks rs)) (sym (map-append (λ (r : Record). kindOf (r .pass)) done (r ∷ []))) rest),
+    let q = headed (kinds done) r rs (held-true (normalChain (kinds done) (r ∷ rs)) h) in (
+      normal-of (r .pass) (t .0) (subst T (sym (q .normal)) tt),
+      q .new,
+      q .rises,
+      chain-of rs (done ++ r ∷ []) (t .1)
+          (subst T (sym (q .others) ∙ ap (λ (ks : List ℕ). normalChain ks rs) (sym (map-append (λ (r : Record). kindOf (r .pass)) done (r ∷ [])))) tt),
     )
 
 abbrev stationWith : List Record → ℕ → Held → Station

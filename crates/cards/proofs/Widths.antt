@@ -91,5 +91,6 @@ record-most seen =
     (λ q. most-then 4 129 (most 4 4 (omega arith) (field-wide 4))
     (λ k. most-then 0 129 (most 0 0 (omega arith) (refuseIf-wide 4 q _))
     (λ u. most-then 0 129 (most 0 0 (omega arith) (refuseIf-wide 5 q _))
+    (λ u. most-then 0 129 (most 0 0 (omega arith) (refuseIf-wide 15 q _))
     (λ u. most-then 1 128 (most 1 1 (omega arith) (field-wide 1))
-    (λ on. most-then 128 0 (pass-most k) (λ p. most 0 0 (omega arith) ret-wide))))))
+    (λ on. most-then 128 0 (pass-most k) (λ p. most 0 0 (omega arith) ret-wide)))))))

@@ -9,7 +9,7 @@ use lib.Ieee.Scale.{finite}
 use Rattle.num.specs.Const.{c0·0, c0·5, c0·95, c1·0, c4·0}
 use Rattle.num.specs.Held.{nothing, sameHeld, fineHeld}
 use Rattle.cards.specs.Passes.{kindOf}
-use Rattle.cards.specs.Records.{among}
+use Rattle.cards.specs.Records.{among, lastOf}
 use Rattle.cards.specs.declared.station.Pass.{Pass}
 use Rattle.cards.specs.declared.station.Pass.the-variants.{Ntsc, Bloom, AutoGradient, Persistence, Lut}
 use Rattle.cards.specs.declared.station.Pass.the-variants.{Curvature, ColorCorrection, Crt, Vignette, Scanlines}
@@ -43,10 +43,12 @@ normalPass (Crt strength) = settled c0·0 c1·0 strength
 normalPass (Vignette strength) = settled c0·0 c1·0 strength
 normalPass (Scanlines strength) = settled c0·0 c1·0 strength
 
--- every record normalised, and no kind twice; `seen` are the kinds before
+-- every record normalised, no kind twice, and none below the one before it; `seen` are the kinds before
 unfoldable pub normalChain : List ℕ → List Record → Bool
 normalChain seen [] = true
-normalChain seen (r ∷ rs) = normalPass (r .pass) && not (among (kindOf (r .pass)) seen) && normalChain (seen ++ kindOf (r .pass) ∷ []) rs
+normalChain seen (r ∷ rs) =
+    let kind = kindOf (r .pass) in
+    normalPass (r .pass) && not (among kind seen) && not (ltb kind (lastOf 0 seen)) && normalChain (seen ++ kind ∷ []) rs
 
 -- persistence is in the chain and on
 unfoldable pub persists : List Record → Bool

@@ -15,13 +15,19 @@ abbrev pub among : ℕ → List ℕ → Bool
 among k [] = false
 among k (j ∷ js) = eqb j k || among k js
 
--- `seen` are the kinds already read
+-- the last of them, d where there is none
+abbrev pub lastOf : ℕ → List ℕ → ℕ
+lastOf d [] = d
+lastOf d (k ∷ ks) = lastOf k ks
+
+-- `seen` are the kinds already read; none comes twice, and none below the one before it
 unfoldable pub recordAt : List ℕ → Reader Record
 recordAt seen = do
   p ← here
   kind ← fieldAt 4
   refuseIf 4 p (eqb kind 0 || ltb 10 kind)
   refuseIf 5 p (among kind seen)
+  refuseIf 15 p (ltb kind (lastOf 0 seen))
   on ← fieldAt 1
   pass ← passAt kind
   ret (record { on = eqb on 1; pass = pass })

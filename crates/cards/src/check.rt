@@ -9,6 +9,7 @@ use super::station::Record;
 use super::station::Station;
 use super::station::holds;
 use super::station::kind_of;
+use super::station::last_kind;
 use num::size::Size;
 use num::size::fine;
 use num::size::same;
@@ -92,7 +93,7 @@ pub(crate) fn is_normal(pass: Pass) -> bool
     }
 }
 
-// Whether the first n records are normalised, and no kind stands twice among them.
+// Whether the first n records are normalised, no kind stands twice among them, and none below the one before it.
 pub(crate) fn is_chain(records: [Record; 10], n: usize) -> bool
     requires { ⌜ n ≤ 10 ⌝ }
     ensures { λ r. ⌜ r ≡ normalChain [] (take n records) ⌝ }
@@ -104,7 +105,11 @@ pub(crate) fn is_chain(records: [Record; 10], n: usize) -> bool
         if !is_normal(pass) {
             return false;
         }
-        if holds(records, i, kind_of(pass)) {
+        let kind = kind_of(pass);
+        if holds(records, i, kind) {
+            return false;
+        }
+        if kind < last_kind(records, i) {
             return false;
         }
         i += 1;

@@ -26,6 +26,7 @@ use super::station::Pass;
 use super::station::Record;
 use super::station::Station;
 use super::station::holds;
+use super::station::last_kind;
 use num::size::Size;
 
 pub enum PassRead {
@@ -265,6 +266,9 @@ pub(crate) fn read_record(card: &[u8], at: usize, records: [Record; 10], n: usiz
     }
     if holds(records, n, kind) {
         return RecordRead::Refused(Refusal { number: 5, at });
+    }
+    if kind < last_kind(records, n) {
+        return RecordRead::Refused(Refusal { number: 15, at });
     }
     let r2 = byte(card, next, 1);
     let ByteRead::Value(on, at) = r2 else {

@@ -3,7 +3,7 @@ ghost use mathlib.Core.Path.{_≡_};
 ghost use Prim.Native.Nat.{_<_, _≤_, min};
 ghost use Rattle.cards.specs.Alike.{chainOf};
 ghost use Rattle.cards.specs.Passes.{kindOf};
-ghost use Rattle.cards.specs.Records.{kinds, among};
+ghost use Rattle.cards.specs.Records.{kinds, among, lastOf};
 ghost use lib.ListN.{take};
 use num::size::Size;
 
@@ -107,6 +107,19 @@ pub fn kind_of(pass: Pass) -> u8
         Pass::Vignette { strength: _ } => 9,
         Pass::Scanlines { strength: _ } => 10,
     }
+}
+
+// The kind of the last of the first n records, 0 where there is none.
+pub(crate) fn last_kind(records: [Record; 10], n: usize) -> u8
+    requires { ⌜ n ≤ 10 ⌝ }
+    ensures { λ r. ⌜ r ≡ lastOf 0 (kinds (take n records)) ⌝ }
+{
+    if n == 0 {
+        return 0;
+    }
+    let r = records[n - 1];
+    let pass = r.pass;
+    kind_of(pass)
 }
 
 // Whether a pass of that kind is among the first n records.

@@ -11,7 +11,7 @@ use Rattle.chain.specs.Calls.{onFirst, turned, next, steppedPass, steppe
 use Rattle.chain.specs.Chain.{depthOf, depth}
 use Rattle.cards.specs.Normal.{settled, normalPass, normalChain, persists}
 use Rattle.cards.specs.Passes.{kindOf}
-use Rattle.cards.specs.Records.{among}
+use Rattle.cards.specs.Records.{among, lastOf}
 use Rattle.cards.specs.declared.station.Pass.{Pass}
 use Rattle.cards.specs.declared.station.Record.{Record}
 use Rattle.num.specs.Laws.Bools.{both, or-second, or-map}
@@ -97,9 +97,10 @@ module _ (kind : ℕ) (f : Record → Record) (g : Gentle f) where
           (record {
             normal = g .normal r (q .normal);
             new = ap (λ (k : ℕ). among k seen) (same-kind r) ∙ q .new;
+            rises = ap (λ (k : ℕ). ltb k (lastOf 0 seen)) (same-kind r) ∙ q .rises;
             others = ap (λ (k : ℕ). normalChain (seen ++ k ∷ []) rs) (same-kind r) ∙ q .others;
           })
-      go false q ih = is-headed seen r (onFirst kind f rs) (record { normal = q .normal; new = q .new; others = ih })
+      go false q ih = is-headed seen r (onFirst kind f rs) (record { normal = q .normal; new = q .new; rises = q .rises; others = ih })
 
   -- persistence stays on, unless the change is to switch it off
   pub first-persists : (kind ≡ 4 → (r : Record) → r .on ≡ true → f r .on ≡ true) → (rs : List Record) → persists rs ≡ true → persists (onFirst kind f rs) ≡ true

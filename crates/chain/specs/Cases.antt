@@ -31,13 +31,14 @@ use Rattle.cards.specs.declared.station.Station.{Station}
 abbrev kept : Bool → Station
 kept on = stationOf (record { on = on; pass = Persistence c0·0 8 } ∷ record { on = true; pass = Scanlines c0·0 } ∷ [])
 
--- Frames: a doubled kind, a size remembered while persistence is off, a remembered side of 1025, and one side of 0 beside another
+-- Frames: a doubled kind, kinds out of order, a size remembered while persistence is off, a remembered side of 1025, and one side of 0 beside another
 -- (13), and sides of 1024 remembered; a side of 0 and of 1025 (8), and 1024 taken; a framebuffer of one word too few (9); a history
 -- of one word too few, on and off (10); one f32 word too few, and one u32 word (11); nothing too few. The first that holds is given.
 -- Other calls: on a bad station (13), on a kind that is not there, and that no pass has (12), and on one that is there.
 abbrev pub stopped : List (ℕ × ℕ)
 stopped =
     (stops (stationOf (record { on = true; pass = Scanlines c0·0 } ∷ record { on = false; pass = Scanlines c0·0 } ∷ [])) 0 0 0 0 0 0, 13)
+    ∷ (stops (stationOf (record { on = true; pass = Scanlines c0·0 } ∷ record { on = true; pass = Persistence c0·0 8 } ∷ [])) 1 1 1 8 6 1, 13)
     ∷ (stops (hold (sized 1 1) (kept false)) 0 0 0 0 0 0, 13)
     ∷ (stops (hold (sized 1025 1) (kept true)) 1 1 1 8 6 1, 13)
     ∷ (stops (hold (sized 1 1025) (kept true)) 1 1 1 8 6 1, 13)
@@ -66,31 +67,31 @@ unfolding stops lacks badSide goodStation fineHeld sameHeld normalChain normalPa
 stopped-hold = refl
 
 -- What a frame of two words and one row reports: the channels that the passes that are on clipped (request P5).
--- Colour, brightness 1, clips the three channels of 010101 and none of black, which comes to lie exactly at the end; LUT, high contrast,
--- then clips all six of two white words, and of the frame as it came, if it is alone. Persistence at 0.3 clips all six where its history
--- is white, and none when it refills it. A refusal reports its number alone.
+-- LUT, high contrast, clips the three channels of black and those of white; colour, brightness 1, then clips those of white and none of
+-- black, which comes to lie exactly at the end; each alone the same. Persistence at 0.3 clips all six where its history is white, and
+-- none when it refills it. A refusal reports its number alone.
 abbrev reportOf : List Record → (held : Held) → (words past : List ℕ) → Report
 reportOf rs held words past = frameReply 2 1 (hold held (stationOf rs)) words past 12 2 .answer
 
-abbrev dark : List ℕ
-dark = 0 ∷ 0x010101 ∷ []
+abbrev ends : List ℕ
+ends = 0 ∷ 0xffffff ∷ []
 
 abbrev white : List ℕ
 white = 0xffffff ∷ 0xffffff ∷ []
 
-abbrev toned : (colour lut : Bool) → List Record
-toned colour lut = record { on = colour; pass = ColorCorrection c1·0 c1·0 c1·0 c1·0 } ∷ record { on = lut; pass = Lut 6 c1·0 } ∷ []
+abbrev toned : (lut colour : Bool) → List Record
+toned lut colour = record { on = lut; pass = Lut 6 c1·0 } ∷ record { on = colour; pass = ColorCorrection c1·0 c1·0 c1·0 c1·0 } ∷ []
 
 abbrev tube : List Record
 tube = record { on = true; pass = Persistence c0·30 1 } ∷ record { on = true; pass = Scanlines c1·0 } ∷ []
 
 abbrev pub reports : List (Report × Report)
 reports =
-    (reportOf [] nothing dark [], acceptance (0 ∷ []))
-    ∷ (reportOf (toned true true) nothing dark [], acceptance (9 ∷ []))
-    ∷ (reportOf (toned true false) nothing dark [], acceptance (3 ∷ []))
-    ∷ (reportOf (toned false true) nothing dark [], acceptance (6 ∷ []))
-    ∷ (reportOf (toned false false) nothing dark [], acceptance (0 ∷ []))
+    (reportOf [] nothing ends [], acceptance (0 ∷ []))
+    ∷ (reportOf (toned true true) nothing ends [], acceptance (9 ∷ []))
+    ∷ (reportOf (toned true false) nothing ends [], acceptance (6 ∷ []))
+    ∷ (reportOf (toned false true) nothing ends [], acceptance (3 ∷ []))
+    ∷ (reportOf (toned false false) nothing ends [], acceptance (0 ∷ []))
     ∷ (reportOf tube (sized 2 1) white white, acceptance (6 ∷ []))
     ∷ (reportOf tube (sized 1 2) white white, acceptance (0 ∷ []))
     ∷ (reportOf tube (sized 2 1) white (0xffffff ∷ []), refusal 10)

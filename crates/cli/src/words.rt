@@ -14,6 +14,7 @@ fn word(fd: i32, number: u8) {
         5 => io::write_all(fd, b"doubled pass"),
         6 => io::write_all(fd, b"bad setting"),
         7 => io::write_all(fd, b"long card"),
+        15 => io::write_all(fd, b"pass out of order"),
         _ => io::write_all(fd, b"no refusal of a card"),
     }
     ;

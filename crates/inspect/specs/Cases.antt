@@ -51,7 +51,7 @@ unfolding openOf stationAt headerAt fieldAt valueAt refuseIf recordsAt endAt end
     ofBits toBits lt eq limitOf plusZeroOf clampOf differenceOf chainDifference recordDifference settingsDifference
 of-cards-hold = refl
 
--- scanlines at a strength, and bloom after them, off, with a radius
+-- scanlines at a strength, and bloom before them, off, with a radius
 abbrev lines : Float → Record
 lines strength = record { on = true; pass = Scanlines strength }
 
@@ -62,12 +62,13 @@ glowing radius = record { on = false; pass = Bloom 128 c0·5 radius }
 abbrev chains : List Record → List Record → Difference
 chains rs qs = differenceOf (stationOf rs) (stationOf qs)
 
--- The third setting of the second pass; one pass more; the first of two differences; 0 and -0, which differ in a bit; a NaN and itself.
+-- The third setting of the first pass; one pass more; the first of two differences; 0 and -0, which differ in a bit; a NaN and itself.
 abbrev pub of-chains : List (Difference × Difference)
 of-chains =
-    (chains (lines c1·0 ∷ glowing 3 ∷ []) (lines c1·0 ∷ glowing 4 ∷ []), Setting 1 2)
-    ∷ (chains (lines c1·0 ∷ glowing 3 ∷ []) (lines c1·0 ∷ []), Length 1)
-    ∷ (chains (lines c1·0 ∷ glowing 3 ∷ []) (lines c0·5 ∷ []), Setting 0 0)
+    (chains (glowing 3 ∷ lines c1·0 ∷ []) (glowing 4 ∷ lines c1·0 ∷ []), Setting 0 2)
+    ∷ (chains (glowing 3 ∷ lines c1·0 ∷ []) (glowing 3 ∷ []), Length 1)
+    ∷ (chains (glowing 3 ∷ lines c1·0 ∷ []) (glowing 3 ∷ lines c0·5 ∷ []), Setting 1 0)
+    ∷ (chains (glowing 3 ∷ lines c1·0 ∷ []) (glowing 4 ∷ []), Setting 0 2)
     ∷ (chains (lines c0·0 ∷ []) (lines (neg c0·0) ∷ []), Setting 0 0)
     ∷ (chains (lines nan ∷ []) (lines nan ∷ []), Alike)
     ∷ []

@@ -4,12 +4,12 @@ use mathlib.Core.Path.{_≡_, refl, sym, subst, _∙_}
 use mathlib.Core.Bool.{Bool, true, false, not, _&&_, _||_}
 use mathlib.Core.List.{List, [], _∷_, _++_}
 use borrow.Author.Tests.{leb-true, le-leb, eq-eqb, ne-eqb, not-true}
-use lib.Dec.{leb, eqb}
+use lib.Dec.{leb, ltb, eqb}
 use Rattle.num.specs.Held.{nothing, sameHeld, fineHeld}
 use Rattle.cards.specs.Alike.{chainOf}
 use Rattle.cards.specs.Normal.{normalPass, normalChain, persists, goodStation}
 use Rattle.cards.specs.Passes.{kindOf}
-use Rattle.cards.specs.Records.{kinds, among}
+use Rattle.cards.specs.Records.{kinds, among, lastOf}
 use Rattle.cards.specs.declared.station.Pass.{Pass}
 use Rattle.cards.specs.declared.station.Record.{Record}
 use Rattle.cards.specs.declared.station.Station.{Station}
@@ -51,18 +51,21 @@ nothing-idle b = refl
 pub record Headed (seen : List ℕ) (p : Pass) (rs : List Record) : Type 0 where
   pub normal : normalPass p ≡ true
   pub new : among (kindOf p) seen ≡ false
+  pub rises : ltb (kindOf p) (lastOf 0 seen) ≡ false
   pub others : normalChain (seen ++ kindOf p ∷ []) rs ≡ true
 
 pub headed : (seen : List ℕ) (r : Record) (rs : List Record) → normalChain seen (r ∷ rs) ≡ true → Headed seen (r .pass) rs
 unfolding normalChain
 headed seen r rs e =
-    let a = both (normalPass (r .pass) && not (among (kindOf (r .pass)) seen)) _ e in
-    let b = both (normalPass (r .pass)) _ (a .0) in
-    record { normal = b .0; new = not-true _ (b .1); others = a .1 }
+    let kind = kindOf (r .pass) in
+    let a = both (normalPass (r .pass) && not (among kind seen) && not (ltb kind (lastOf 0 seen))) _ e in
+    let b = both (normalPass (r .pass) && not (among kind seen)) _ (a .0) in
+    let c = both (normalPass (r .pass)) _ (b .0) in
+    record { normal = c .0; new = not-true _ (c .1); rises = not-true _ (b .1); others = a .1 }
 
 pub is-headed : (seen : List ℕ) (r : Record) (rs : List Record) → Headed seen (r .pass) rs → normalChain seen (r ∷ rs) ≡ true
 unfolding normalChain
-is-headed seen r rs q = rw (q .normal, q .new, q .others)
+is-headed seen r rs q = rw (q .normal, q .new, q .rises, q .others)
 
 among-last : (k : ℕ) (seen : List ℕ) → among k (seen ++ k ∷ []) ≡ true
 among-last k [] = rw (eq-eqb k k refl)

@@ -10,5 +10,6 @@ unfolding recordAt
 read-record-spec =
     tie.close
     (tie.spec (λ c κs. search needs) (λ c. search needs) (λ c. search needs) (λ c κs. search needs) (λ c. search steps) (λ c. search steps) (λ c. search steps)
-    (λ c κs. search needs) (λ c. search steps) (λ c κs. search steps) (λ c. search needs) (λ c. search needs) (λ c κs. search needs) (λ c. search steps)
-    (λ c κs. search steps) (λ c. search needs) (λ c. search needs) (λ c κs. search needs) (λ c. search steps depth 7) (λ c. search steps depth 7))
+    (λ c κs. search needs) (λ c. search steps) (λ c κs. search needs) (λ c. search steps depth 7) (λ c κs. search steps) (λ c. search needs) (λ c. search needs)
+    (λ c κs. search needs) (λ c. search steps depth 8) (λ c κs. search steps) (λ c. search needs) (λ c. search needs) (λ c κs. search needs)
+    (λ c. search steps depth 8) (λ c. search steps depth 8))
