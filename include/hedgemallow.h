@@ -11,8 +11,8 @@
  *     bytes 75, 76   their height, likewise; where the history holds none, both are 0
  *     bytes 77 to 79 zero
  *
- * Every state is checked on the way in. Bytes that are no state, damaged ones too, are refused by
- * 13 and never followed. A state that a call returned is never refused by 13.
+ * Every state is checked on the way in. Bytes that are no state, damaged ones too and those whose
+ * card does not name its passes by ascending kind, are refused by 13 and never followed. A state that a call returned is never refused by 13.
  *
  * Answers: below 256 the call is accepted, and the number is what it reports, or 0. From 256 on it
  * is refused by the number answer - 256, and every byte and word is as it was before the call.
@@ -74,7 +74,7 @@ extern "C" {
 /* The answer of a refusal is this and the refusal's number. */
 #define HEDGEMALLOW_REFUSED 256
 
-/* The refusals, in the words of document 01. */
+/* The refusals, in the words of documents 01 and 02. */
 enum hedgemallow_refusal {
     HEDGEMALLOW_TORN_CARD = 257,         /* 1: a field's bits run past the end */
     HEDGEMALLOW_FOREIGN_CARD = 258,      /* 2: version not 1 */
@@ -90,11 +90,12 @@ enum hedgemallow_refusal {
     HEDGEMALLOW_NOT_IN_CHAIN = 268,      /* 12: the pass of the call is not in the chain */
     HEDGEMALLOW_BAD_STATION = 269,       /* 13: the bytes are no state */
     HEDGEMALLOW_SHORT_CARD_BUFFER = 270, /* 14: fewer bytes than the card */
+    HEDGEMALLOW_PASS_OUT_OF_ORDER = 271, /* 15: kind below the one before it */
     HEDGEMALLOW_BAD_AREA = 275           /* 19: more than 64 areas, a list of another length than four for
                                             each, an area that leaves the picture, or too few totals */
 };
 
-/* The kinds of passes, as a card, hedgemallow_set_enabled and hedgemallow_enabled name them. */
+/* The kinds of passes, as a card, hedgemallow_set_enabled and hedgemallow_enabled name them. On a card they ascend. */
 enum hedgemallow_kind {
     HEDGEMALLOW_NTSC = 1,
     HEDGEMALLOW_BLOOM = 2,
@@ -119,14 +120,14 @@ enum hedgemallow_preset {
     HEDGEMALLOW_HIGH_CONTRAST = 6
 };
 
-/* Opens a card: writes the state where the card is accepted. Refusals 1 to 7. */
+/* Opens a card: writes the state where the card is accepted. Refusals 1 to 7 and 15. */
 uint32_t hedgemallow_open(const uint8_t *card, size_t card_len, uint8_t state[HEDGEMALLOW_STATE]);
 
 /* Writes the normalised card to the start of the buffer, and reports its length, 1 to 72.
    Refusals 13, 14. */
 uint32_t hedgemallow_write(const uint8_t state[HEDGEMALLOW_STATE], uint8_t *buffer, size_t buffer_len);
 
-/* A frame: the passes that are on, in the card's order, over the first count words of the
+/* A frame: the passes that are on, by ascending kind, over the first count words of the
    framebuffer. clipped[0] is how many channels their final conversions clipped, since they lay
    strictly below 0 or strictly above the top end, added up over the passes: no part of the answer,
    since it may be above 255. Refusals 13, 8, 9, 10, 11, in that order. */

@@ -1,4 +1,4 @@
-//! The comparison of the number steps with Rust's own, of cards with a reading of document 01, of the
+//! The comparison of the number steps with Rust's own, of cards with a reading of documents 01 and 02, of the
 //! passes with the original's, of program `station` with recorded answers and with a model of document
 //! 01 over the original's pipeline, of program `card` with a text from that reading, of program `filter`
 //! with the original's pipeline, of runs of calls with such a model, and of the totals of rectangles with a model of document

@@ -309,7 +309,7 @@ type Answer = Result<usize, u32>;
 pub struct CardTally {
     taken: u64,
     /// By the refusal's number.
-    refused: [u64; 15],
+    refused: [u64; 16],
     different: u64,
     /// The first few differences, each with the place of its card.
     shown: Vec<(usize, String)>,
@@ -319,7 +319,7 @@ impl CardTally {
     pub fn new() -> Self {
         CardTally {
             taken: 0,
-            refused: [0; 15],
+            refused: [0; 16],
             different: 0,
             shown: Vec::new(),
         }

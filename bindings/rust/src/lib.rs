@@ -68,7 +68,7 @@ pub(crate) mod exports {
     }
 }
 
-/// Why a call was refused, in the words of document 01.
+/// Why a call was refused, in the words of documents 01 and 02.
 #[derive(Clone, Copy, Debug, PartialEq, Eq)]
 pub enum Refusal {
     TornCard,
@@ -85,6 +85,7 @@ pub enum Refusal {
     NotInChain,
     BadStation,
     ShortCardBuffer,
+    PassOutOfOrder,
     BadArea,
     /// A number that this library does not give: one of a later table.
     Other(u32),
@@ -92,8 +93,8 @@ pub enum Refusal {
 
 use Refusal::*;
 
-/// With the paper's numbers and words.
-const REFUSALS: [(u32, Refusal, &str); 15] = [
+/// With the papers' numbers and words.
+const REFUSALS: [(u32, Refusal, &str); 16] = [
     (1, TornCard, "torn card"),
     (2, ForeignCard, "foreign card"),
     (3, OverfullCard, "overfull card"),
@@ -108,6 +109,7 @@ const REFUSALS: [(u32, Refusal, &str); 15] = [
     (12, NotInChain, "not in chain"),
     (13, BadStation, "bad station"),
     (14, ShortCardBuffer, "short card buffer"),
+    (15, PassOutOfOrder, "pass out of order"),
     (19, BadArea, "bad area"),
 ];
 
@@ -116,7 +118,7 @@ impl Refusal {
         REFUSALS.iter().find(|r| r.0 == number).map_or(Other(number), |r| r.1)
     }
 
-    /// The number of document 01's table.
+    /// The number of the papers' table.
     pub fn number(self) -> u32 {
         match self {
             Other(number) => number,
@@ -144,7 +146,7 @@ fn report(answer: u32) -> Result<u32, Refusal> {
     }
 }
 
-/// The kinds of passes, with the numbers of a card.
+/// The kinds of passes, with the numbers of a card, on which they ascend.
 #[derive(Clone, Copy, Debug, PartialEq, Eq, Hash)]
 #[repr(u8)]
 pub enum Kind {
@@ -402,7 +404,7 @@ mod tests {
             assert_eq!((refusal.number(), refusal.to_string()), (number, words.to_string()));
             assert_eq!(report(256 + number), Err(refusal));
         }
-        assert_eq!(report(256 + 15), Err(Other(15)));
+        assert_eq!(report(256 + 16), Err(Other(16)));
         assert_eq!(report(256), Err(Other(0)));
         assert_eq!(report(u32::MAX), Err(Other(u32::MAX - 256)));
         assert_eq!(report(255), Ok(255));
@@ -461,6 +463,19 @@ mod tests {
         assert_eq!(Station::open(&[]), Err(TornCard));
         assert_eq!(opened().write(&mut []), Err(ShortCardBuffer));
         assert_eq!(opened().apply(&mut [], 1, 1, &mut [], &mut [], &mut []), Err(ShortFrame));
+    }
+
+    /// The vignette and scanlines, and the same two in the other order: no card, and no state.
+    #[test]
+    fn passes_stand_by_ascending_kind() {
+        let ordered = [0x12, 0x99, 0xF8, 0, 0, 0x05, 0x4F, 0xE0, 0, 0, 0];
+        let exchanged = [0x12, 0xA9, 0xFC, 0, 0, 0x04, 0xCF, 0xC0, 0, 0, 0];
+        let mut bytes = *Station::open(&ordered).unwrap().as_bytes();
+        assert_eq!(Station::open(&exchanged), Err(PassOutOfOrder));
+        bytes[1..12].copy_from_slice(&exchanged);
+        assert_eq!(Station::from_bytes(bytes), Err(BadStation));
+        // The vignette a second time is doubled before it is out of order.
+        assert_eq!(Station::open(&[0x13, 0x99, 0xF8, 0, 0, 0x05, 0x4F, 0xE0, 0, 0, 0x26, 0x7E, 0, 0, 0]), Err(DoubledPass));
     }
 
     /// Colour 1, 1, 1, 1: black comes to lie exactly at the top end, and all three channels of any other grey above it.

@@ -38,7 +38,7 @@ normal-typed (Scanlines a) n = n .held
 
 chain-typed : (rs done : List Record) → NormalChain done rs → TypedChain rs
 chain-typed [] done n = tt
-chain-typed (r ∷ rs) done n = (normal-typed (r .pass) (n .0), chain-typed rs (done ++ r ∷ []) (n .2))
+chain-typed (r ∷ rs) done n = (normal-typed (r .pass) (n .0), chain-typed rs (done ++ r ∷ []) (n .3))
 
 pub opened-whole : (card : List ℕ) (s : Station) → openOf card ≡ accepted s → Whole s
 opened-whole card s e =

@@ -1,7 +1,9 @@
-//! Opening and writing, compared with the paper on many cards.
+//! Opening and writing, compared with the papers on many cards.
 
+use super::cases::Case;
 use super::paper::{Size, NOTHING};
-use super::{damage, paper};
+use super::{cases, damage, paper};
+use crate::met::Met;
 use crate::probe;
 use crate::random::Random;
 use crate::steps::Mode;
@@ -30,23 +32,24 @@ const HELD: [Size; 12] = [
 ];
 
 pub fn run(mode: Mode, total: &mut Total) {
-    println!("Cards, with a reading of document 01");
+    println!("Cards, with a reading of documents 01 and 02");
     let count = match mode {
         Mode::Quick => 400_000,
         Mode::Full => 20_000_000,
     };
     let random = &mut Random::named("cards");
-    let mut tally = CardTally::new();
+    let (mut tally, mut met) = (CardTally::new(), Met::new());
     for _ in 0..count {
         let card = damage::card(random);
-        one(&card, random, &mut tally);
+        one(&card, random, &mut tally, &mut met);
     }
     // Every length of one card of all ten passes, cut at each byte.
     let whole = full();
     for length in 0..=whole.len() {
-        one(&whole[..length], random, &mut tally);
+        one(&whole[..length], random, &mut tally, &mut met);
     }
     total.add_cards(&tally);
+    total.unmet += met.report();
 }
 
 /// A card of all ten passes, of 72 bytes.
@@ -72,7 +75,7 @@ fn full() -> Vec<u8> {
 
 /// Opens and writes one card on both sides. Some buffers are too short, and some stations are
 /// handed back with a history that they cannot have.
-fn one(card: &[u8], random: &mut Random, tally: &mut CardTally) {
+fn one(card: &[u8], random: &mut Random, tally: &mut CardTally, met: &mut Met<Case>) {
     let held = if random.one_in(2) {
         random.choose(&HELD)
     } else {
@@ -84,8 +87,12 @@ fn one(card: &[u8], random: &mut Random, tally: &mut CardTally) {
         ROOM
     };
     let mut asked = vec![MARK; room];
-    let number = match paper::open(card) {
-        Err(number) => Err(number),
+    let mut stopped = 8 * card.len();
+    let number = match paper::read(card) {
+        Err(refusal) => {
+            stopped = refusal.at;
+            Err(refusal.number)
+        }
         Ok(opened) if !opened.may_hold(held) => Err(13),
         Ok(opened) => {
             let written = opened.written();
@@ -98,6 +105,7 @@ fn one(card: &[u8], random: &mut Random, tally: &mut CardTally) {
             }
         }
     };
+    cases::note(card, number, stopped, met);
     let mut here = vec![MARK; room];
     let answer = probe::card(card, held, &mut here);
     tally.check(card, held, (answer, &here), (number, &asked));

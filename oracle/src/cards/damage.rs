@@ -32,14 +32,20 @@ const FLOATS: [u32; 22] = [
 /// Bytes where a count is limited or refused.
 const BYTES: [u32; 9] = [0, 1, 2, 7, 8, 9, 64, 65, 255];
 
-/// A card of records of random kinds, in most cases each kind once, then damaged or not.
+/// A card of records of random kinds, in most cases each kind once and ascending, then damaged or not.
 pub fn card(random: &mut Random) -> Vec<u8> {
-    if random.one_in(16) {
-        return (0..random.below(80)).map(|_| random.word() as u8).collect();
+    match random.below(64) {
+        0..4 => return (0..random.below(80)).map(|_| random.word() as u8).collect(),
+        4 => return cut_after_a_kind(random),
+        _ => {}
     }
-    let mut kinds = chain(random);
+    let mut kinds = match random.below(16) {
+        0 => any_order(random),
+        1 => swapped(random),
+        _ => chain(random),
+    };
     if !kinds.is_empty() && random.one_in(16) {
-        // Any kind number: unknown, or perhaps a second of its kind.
+        // Any kind number: unknown, perhaps a second of its kind, perhaps out of order.
         let place = random.below(kinds.len());
         kinds[place] = random.below(16) as u32;
     }
@@ -55,8 +61,25 @@ pub fn good(random: &mut Random) -> Vec<u8> {
     bytes(&bits)
 }
 
-/// Kinds in any order, each at most once.
+/// Kinds in ascending order, each at most once: what a card may name.
 pub fn chain(random: &mut Random) -> Vec<u32> {
+    let mut kinds = any_order(random);
+    kinds.sort();
+    kinds
+}
+
+/// The same with two neighbours exchanged, where there are two: one kind alone is out of order.
+pub fn swapped(random: &mut Random) -> Vec<u32> {
+    let mut kinds = chain(random);
+    if kinds.len() > 1 {
+        let place = random.below(kinds.len() - 1);
+        kinds.swap(place, place + 1);
+    }
+    kinds
+}
+
+/// Kinds in any order, each at most once.
+pub fn any_order(random: &mut Random) -> Vec<u32> {
     let mut kinds: Vec<u32> = (1..=10).collect();
     for place in (1..kinds.len()).rev() {
         kinds.swap(place, random.below(place + 1));
@@ -78,6 +101,28 @@ fn written(kinds: &[u32], random: &mut Random, odd: fn(&mut Random) -> bool) -> 
             setting(*field, &mut bits, random, odd);
         }
     }
+    bits
+}
+
+/// A card that ends with a kind, at the end of a byte, so that the on bit after it is torn off. The kind is good, or refused.
+fn cut_after_a_kind(random: &mut Random) -> Vec<u8> {
+    loop {
+        let mut kinds = chain(random);
+        let Some(last) = kinds.pop() else { continue };
+        let mut bits = written(&kinds, random, |_| false);
+        // The card says that there is a record more.
+        bits.splice(4..8, nibble(kinds.len() as u32 + 1));
+        let any = random.below(16) as u32;
+        bits.extend(nibble(random.choose(&[last, any, any, any])));
+        if bits.len() % 8 == 0 {
+            return bytes(&bits);
+        }
+    }
+}
+
+fn nibble(value: u32) -> Vec<bool> {
+    let mut bits = Vec::new();
+    put(&mut bits, value, 4);
     bits
 }
 

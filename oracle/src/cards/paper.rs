@@ -1,4 +1,4 @@
-//! Document 01's card, read and written as the paper says it, with nothing of the library.
+//! Document 01's card, with the order of document 02's P2, read and written as the papers say it, with nothing of the library.
 
 /// A refusal's number.
 pub type Number = u32;
@@ -159,6 +159,9 @@ pub fn read(card: &[u8]) -> Result<Opened, Refusal> {
         let fields = fields(kind).ok_or(refusal(4, at, place))?;
         if records.iter().any(|record| record.kind == kind) {
             return Err(refusal(5, at, place));
+        }
+        if records.last().is_some_and(|before| kind < before.kind) {
+            return Err(refusal(15, at, place));
         }
         let on = bits.take(1, Place::Switch(pass, kind))? == 1;
         let place = |setting: usize| Place::Setting(pass, kind, setting);

@@ -25,7 +25,7 @@ const FRAME: f64 = 1000.0 / 60.0;
 pub fn run() -> ExitCode {
     println!();
     println!("Passes and chains, through `bridge` and through the original's pipeline, on a random frame: nanoseconds per");
-    println!("pixel, the median of rounds by turns, and frames a second. Chain: all ten passes, in the order of their kinds.");
+    println!("pixel, the median of rounds by turns, and frames a second. Chain: all ten passes, by ascending kind.");
     for size in SIZES {
         copy(size);
     }

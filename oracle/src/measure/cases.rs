@@ -52,7 +52,7 @@ pub fn chains() -> [Case; 2] {
 
 type Values = &'static [f32];
 
-/// The chain in the order of document 01's kinds.
+/// The chain by ascending kind, as every card has it.
 fn ten(setting: &str, limit: f64, choose: fn(&[Values]) -> Values) -> Case {
     let values = |pass: &Pass| match pass.name {
         // Its settings are presets, none the mild one: the one that takes longest.

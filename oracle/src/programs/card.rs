@@ -92,7 +92,7 @@ fn titled(argument: &str, card: &[u8]) -> String {
     format!("{argument}\n{words}")
 }
 
-/// By the table of document 01.
+/// By the table of document 01, with the number of document 02's P2.
 pub fn refused(Refusal { number, at, place }: Refusal) -> String {
     let word = match number {
         1 => "torn card",
@@ -102,6 +102,7 @@ pub fn refused(Refusal { number, at, place }: Refusal) -> String {
         5 => "doubled pass",
         6 => "bad setting",
         7 => "long card",
+        15 => "pass out of order",
         _ => panic!("no card is refused by {number}"),
     };
     let place = match place {
@@ -211,7 +212,11 @@ fn difference(a: &[Record], b: &[Record], met: &mut Met<OfPair>) -> Option<Strin
         let (name, settings) = names(r.kind);
         if r.kind != s.kind {
             met.note(OfPair::Kind);
-            return Some(format!("{pass} is {name} and {}", names(s.kind).0));
+            // On every card they ascend, so it is another pass that stands here, and not another order.
+            let other = names(s.kind).0;
+            return Some(format!(
+                "{pass} is {name} and {other}: not the same passes, which stand by ascending kind on every card"
+            ));
         }
         if r.on != s.on {
             met.note(OfPair::Switch);

@@ -2,7 +2,7 @@
 //! one thing or two. And the ways in which an argument gives a card.
 
 use super::process::{Bytes, FOLDER, MISSING};
-use crate::cards::damage::{self, bytes, chain, damaged};
+use crate::cards::damage::{self, any_order, bytes, chain, damaged, swapped};
 use crate::cards::paper::{self, fields, put, Field, Opened, Record};
 use crate::cards::spelling::{head, respelt};
 use crate::random::Random;
@@ -26,6 +26,8 @@ pub fn card(random: &mut Random) -> Vec<u8> {
             card.resize(random.within(80, 5_000), random.choose(&[0, 0xff]));
             card
         }
+        43 => bytes(&of(&swapped(random), random)),
+        44 => damaged(of(&any_order(random), random), random),
         _ => damage::card(random),
     }
 }
@@ -158,8 +160,14 @@ fn change(opened: &mut Opened, random: &mut Random) {
             records[place].settings[setting] = other.settings[setting];
         }
         4 => records[place].on = !records[place].on,
-        5 if absent.is_empty() => records.swap(0, place),
-        5 => records[place] = record(random.choose(&absent), random),
+        5 => {
+            records.remove(place);
+            if !absent.is_empty() {
+                records.push(record(random.choose(&absent), random));
+            }
+            // Another pass stands at another place.
+            records.sort_by_key(|record| record.kind);
+        }
         6 => records.truncate(place),
         _ => {}
     }

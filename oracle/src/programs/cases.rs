@@ -84,6 +84,7 @@ impl Listed for OfCard {
         OfCard::Refused(4),
         OfCard::Refused(5),
         OfCard::Refused(6),
+        OfCard::Refused(15),
         OfCard::Padding,
         OfCard::LeftOver,
     ];

@@ -146,7 +146,7 @@ fn turn(a: &Own, b: &mut Own, random: &mut Random, tally: &mut RunTally) -> Held
     Ok(())
 }
 
-/// Makes the switches and the preset of `b` those of `a`, in any order of kinds.
+/// Makes the switches and the preset of `b` those of `a`, one kind after another.
 fn equalise(a: &Own, b: &mut Own, random: &mut Random, tally: &mut RunTally) -> Held {
     for record in a.station.records() {
         if b.station.is_on(record.kind) != record.on {

@@ -1,6 +1,6 @@
 //! Cards that are taken, with the settings that the passes are compared on.
 
-use crate::cards::damage::{bytes, chain};
+use crate::cards::damage::{any_order, bytes, chain};
 use crate::cards::paper::{self, put, Field, Record, Value};
 use crate::cards::spelling::head;
 use crate::passes::chain::PERSISTENCE;
@@ -12,18 +12,20 @@ use crate::random::Random;
 pub fn card(random: &mut Random) -> Vec<u8> {
     let mut kinds = chain(random);
     if !kinds.contains(&PERSISTENCE) && random.one_in(2) {
-        kinds.insert(random.below(kinds.len() + 1), PERSISTENCE);
+        kinds.push(PERSISTENCE);
+        kinds.sort();
     }
     of(&kinds, random)
 }
 
 /// A card of any chain with persistence, mostly on.
 pub fn remembering(random: &mut Random) -> Vec<u8> {
-    let mut kinds = chain(random);
+    let mut kinds = any_order(random);
     kinds.truncate(5);
     if !kinds.contains(&PERSISTENCE) {
-        kinds.insert(random.below(kinds.len() + 1), PERSISTENCE);
+        kinds.push(PERSISTENCE);
     }
+    kinds.sort();
     of(&kinds, random)
 }
 

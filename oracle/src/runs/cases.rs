@@ -14,6 +14,17 @@ pub enum Short {
     Card,
 }
 
+/// Which call was made.
+#[derive(Clone, Copy, PartialEq, Debug)]
+pub enum Which {
+    Frame,
+    Reset,
+    Switch,
+    Step,
+    Write,
+    Depth,
+}
+
 #[derive(Clone, Copy, PartialEq, Debug)]
 pub enum Case {
     /// A frame through a chain without persistence, with persistence off, one that fills the history, one that
@@ -73,6 +84,8 @@ pub enum Case {
     HeldAbove,
     HeldHalf,
     HeldOther,
+    /// A state in whose card two records are exchanged, at this call: a bad one.
+    OutOfOrder(Which),
 }
 
 impl Listed for Case {
@@ -97,6 +110,7 @@ impl Listed for Case {
         Case::Open(5),
         Case::Open(6),
         Case::Open(7),
+        Case::Open(15),
         Case::Frame(8),
         Case::Frame(9),
         Case::Frame(10),
@@ -152,6 +166,12 @@ impl Listed for Case {
         Case::HeldAbove,
         Case::HeldHalf,
         Case::HeldOther,
+        Case::OutOfOrder(Which::Frame),
+        Case::OutOfOrder(Which::Reset),
+        Case::OutOfOrder(Which::Switch),
+        Case::OutOfOrder(Which::Step),
+        Case::OutOfOrder(Which::Write),
+        Case::OutOfOrder(Which::Depth),
     ];
 }
 

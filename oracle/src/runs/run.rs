@@ -1,8 +1,8 @@
 //! Runs: one card and many calls, on the library and on the machine.
 
-use super::calls::{self, Sizes};
+use super::calls::{self, Call, Sizes};
 use super::cards;
-use super::cases::Case;
+use super::cases::{Case, Which};
 use super::noise::Noise;
 use super::sides::{Held, Sides};
 use super::station::Station;
@@ -160,7 +160,13 @@ fn play(
         let station = sides.machine.station().expect("a good station stays good");
         let call = calls::next(station, &mut sizes, sides.history.len(), random);
         if random.one_in(8) {
-            let state = damaged(&sides.state, random, met);
+            let state = match out_of_order(station, random) {
+                Some(state) => {
+                    met.note(Case::OutOfOrder(which(&call)));
+                    state
+                }
+                None => damaged(&sides.state, random, met),
+            };
             let mut other = sides.damaged(state);
             called.push(format!("with a damaged state {call}"));
             other.call(&call, random, tally, met)?;
@@ -220,6 +226,30 @@ pub fn open_both(card: &[u8], random: &mut Random, met: &mut Met<Case>) -> Held<
     Err(format!(
         "opening {card:02x?}: here {answer:?} and {state:02x?}, by the model {asked:02x?}"
     ))
+}
+
+/// In one of eight cases the state with two records of its card exchanged, and all else as it is: the kinds do not ascend then.
+fn out_of_order(station: &Station, random: &mut Random) -> Option<State> {
+    let mut other = station.clone();
+    let records = &mut other.opened.records;
+    if records.len() < 2 || !random.one_in(8) {
+        return None;
+    }
+    let place = random.below(records.len() - 1);
+    let behind = random.within(place + 1, records.len() - 1);
+    records.swap(place, behind);
+    Some(other.state())
+}
+
+fn which(call: &Call) -> Which {
+    match call {
+        Call::Frame(_) => Which::Frame,
+        Call::Reset => Which::Reset,
+        Call::Switch(..) => Which::Switch,
+        Call::Step => Which::Step,
+        Call::Write(_) => Which::Write,
+        Call::Depth => Which::Depth,
+    }
 }
 
 /// The state with one bit changed; or with another byte; or with another size remembered.

@@ -60,6 +60,7 @@ impl Listed for Case {
         Case::CardRefused(5),
         Case::CardRefused(6),
         Case::CardRefused(7),
+        Case::CardRefused(15),
         Case::CardTaken,
         Case::End,
         Case::UnknownLetter,
