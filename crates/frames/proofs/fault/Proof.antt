@@ -19,4 +19,4 @@ fault-spec =
     (λ c. fault-left _ _ _ (told (c .before .before)) (not-false (c .before .before .before .before .before .args .more) (c .before .if1 .left)) (c .match .keys1))
     (λ c. fault-header _ _ _ (told (c .before .before)) (not-false (c .before .before .before .before .before .args .more) (c .before .if1 .left)) (c .match .keys2))
     (λ c. fault-pixels _ _ _ (told (c .before .before)) (not-false (c .before .before .before .before .before .args .more) (c .before .if1 .left)) (c .match .keys3))
-    (λ c. fault-other _ _ _ (told (c .before .before)) (not-false (c .before .before .before .before .before .args .more) (c .before .if1 .left)) (c .match .rest .0 .1) (c .match .rest .1 .0) (c .match .rest .1 .1)))
+    (λ c. fault-other _ _ _ (told (c .before .before)) (not-false (c .before .before .before .before .before .args .more) (c .before .if1 .left)) (c .match .rest .0 .0 .1) (c .match .rest .0 .1) (c .match .rest .1)))
