@@ -86,8 +86,13 @@ records-long [] seen h = omega arith
 records-long (r ∷ rs) seen h =
     let k = kindOf (r .pass) in
     let q = headed seen r rs (held-true (normalChain seen (r ∷ rs)) h) in
-    omega (arith, length-append (recordBits r) (recordsBits rs), record-long r,
-    records-long rs (seen ++ k ∷ []) (subst T (sym (q .others)) tt), spent every k seen (q .new) (known (r .pass)))
+    omega (
+      arith,
+      length-append (recordBits r) (recordsBits rs),
+      record-long r,
+      records-long rs (seen ++ k ∷ []) (subst T (sym (q .others)) tt),
+      spent every k seen (q .new) (known (r .pass)),
+    )
 
 -- no chain's card is longer than 72 bytes
 pub longest : (rs : List Record) → T (normalChain [] rs) → length (chainCard rs) ≤ 72

@@ -78,7 +78,7 @@ chain-of (r ∷ rs) done t h =
       q .new,
       q .rises,
       chain-of rs (done ++ r ∷ []) (t .1)
-      (subst T (sym (q .others) ∙ ap (λ (ks : List ℕ). normalChain ks rs) (sym (map-append (λ (r : Record). kindOf (r .pass)) done (r ∷ [])))) tt),
+          (subst T (sym (q .others) ∙ ap (λ (ks : List ℕ). normalChain ks rs) (sym (map-append (λ (r : Record). kindOf (r .pass)) done (r ∷ [])))) tt),
     )
 
 abbrev stationWith : List Record → ℕ → Held → Station

@@ -42,8 +42,10 @@ opened =
     ∷ (openOf (0x12 ∷ 0x28 ∷ 0 ∷ 0 ∷ 0 ∷ 0 ∷ 0 ∷ 8 ∷ 0xc0 ∷ 0 ∷ 0 ∷ 0 ∷ 0 ∷ 0x40 ∷ []), refusedBy 15)
     ∷ (openOf (0x13 ∷ 0x38 ∷ 0 ∷ 0 ∷ 0 ∷ 0 ∷ 0 ∷ 0 ∷ 0 ∷ 0 ∷ 0 ∷ 0 ∷ 0 ∷ 2 ∷ 0xc0 ∷ 0 ∷ 0 ∷ 0 ∷ 1 ∷ 0xc0 ∷ []), refusedBy 5)
     ∷ (openOf (0x15 ∷ 0x68 ∷ 0 ∷ 0 ∷ 0 ∷ 4 ∷ 0x40 ∷ 0 ∷ 0 ∷ 0 ∷ 0x26 ∷ 0 ∷ 0 ∷ 0 ∷ 1 ∷ 0x50 ∷ 0 ∷ 0 ∷ 0 ∷ 1 ∷ []), refusedBy 15)
-    ∷ (openOf (0x12 ∷ 0x68 ∷ 0 ∷ 0 ∷ 0 ∷ 5 ∷ 0x40 ∷ 0 ∷ 0 ∷ 0 ∷ 0 ∷ []),
-      accepted (stationOf (record { on = true; pass = Curvature c0·0 } ∷ record { on = true; pass = Scanlines c0·0 } ∷ [])))
+    ∷ (
+      openOf (0x12 ∷ 0x68 ∷ 0 ∷ 0 ∷ 0 ∷ 5 ∷ 0x40 ∷ 0 ∷ 0 ∷ 0 ∷ 0 ∷ []),
+      accepted (stationOf (record { on = true; pass = Curvature c0·0 } ∷ record { on = true; pass = Scanlines c0·0 } ∷ [])),
+    )
     ∷ []
 
 pub opened-hold : Hold opened
