@@ -135,7 +135,7 @@ fn refilled(station: &Station, history: &[u32]) -> Both {
     let (width, height) = station.held;
     let (count, depth) = (width * height, station.depth().unwrap_or_default());
     // More than the buffer has room for meets no frame: the next one fills all places.
-    if !station.holds() || depth * count > history.len() {
+    if count == 0 || depth * count > history.len() {
         return pipeline;
     }
     let others = || station.records().iter().filter(|r| r.kind != PERSISTENCE);
