@@ -17,7 +17,8 @@ use Rattle.cards.proofs.Chain.{NormalPass, NormalChain}
 use Rattle.chain.proofs.Changed.{shapes}
 use Rattle.cards.specs.Laws.Good.{good}
 use Rattle.chain.proofs.PassCases.{blank, by-preset}
-use Rattle.chain.proofs.Sound.{Fixed, Fit, After, call-after, call-fit, opened-fit}
+use Rattle.chain.proofs.Fit.{Fixed, Fit, After, opened-fit}
+use Rattle.chain.proofs.Sound.{call-after, call-fit}
 use Rattle.cards.proofs.Theorems.{accepted-opens}
 use Rattle.bridge.specs.Claims.{Whole, Lasting}
 

@@ -25,8 +25,9 @@ use Rattle.chain.proofs.Changed.{shapes}
 use Rattle.chain.proofs.Kept.{near-zero, near-nothing}
 use Rattle.chain.proofs.Meets.{K, Meet, shared, meet-after, meet-ended, depth-after, gives-same, meet-held, lends-after}
 use Rattle.chain.proofs.PassCases.{blank, by-preset}
-use Rattle.chain.proofs.Sound.{Fixed, fixed, Fit, idle-held}
-use Rattle.chain.proofs.Sound.{run-fit, run-fixed, run-length, opened-fit}
+use Rattle.chain.proofs.Fit.{Fixed, fixed, Fit, idle-held, opened-fit}
+use Rattle.chain.proofs.Sound.{run-fit, run-fixed}
+use Rattle.chain.proofs.OwnBuffer.{run-length}
 use Rattle.cards.proofs.Theorems.{written-alike}
 
 -- ## The list from the point on

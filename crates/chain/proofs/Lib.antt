@@ -10,7 +10,10 @@ pub mod Goes
 pub mod Kept
 pub mod Apart
 pub mod Changed
+pub mod Fit
 pub mod Sound
+pub mod OwnBuffer
+pub mod Never
 pub mod Meets
 pub mod Agreement
 pub mod Made

@@ -12,7 +12,7 @@ use Rattle.cards.specs.Written.{cardOf}
 use Rattle.chain.specs.Machine.{Call, State, Seen, Done, lend, still, call, after, run, saw}
 use Rattle.cards.specs.declared.station.Station.{Station}
 use Rattle.chain.proofs.Agreement.{machines-agree}
-use Rattle.chain.proofs.Sound.{No-13, never-13}
+use Rattle.chain.proofs.Never.{No-13, never-13}
 
 -- what was given and left is the machine's
 record Is (s : State) (cs : List Call) (gave : List Seen) (t : State) : Type 0 where

@@ -30,8 +30,9 @@ use Rattle.chain.proofs.Apart.{Apart, quiet, keeping, depth-among, fram
 use Rattle.num.specs.Laws.Bools.{both, false-true}
 use Rattle.chain.proofs.Goes.{goes}
 use Rattle.chain.proofs.Kept.{Near, near-less, near-zero, near-nothing, Fits}
-use Rattle.chain.proofs.Sound.{Fit, same-depth, idle-held, enough, good-apart}
-use Rattle.chain.proofs.Sound.{call-after, call-fit, call-length}
+use Rattle.chain.proofs.Fit.{Fit, same-depth, idle-held}
+use Rattle.chain.proofs.Sound.{enough, good-apart, call-after, call-fit}
+use Rattle.chain.proofs.OwnBuffer.{call-length}
 
 take-swap : (m n : ℕ) (l : List ℕ) → take m (take n l) ≡ take n (take m l)
 take-swap zero n l = sym (take-nil n)

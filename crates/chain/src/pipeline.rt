@@ -59,7 +59,8 @@ pub enum Asked {
     Refused(u8),
 }
 
-// Document 01's K: how many older frames the history has places for.
+// Document 01's K: how many older frames the history has places for. Of a bad station, too: the depths that its first n records name,
+// ten at most, added up; who wants 13 asks for it first, as `bridge` does.
 pub fn places(station: Station) -> usize
     ensures { λ r. ⌜ (r ≡ depthIn (chainOf station)) × (r ≤ 2550) ⌝ }
 {

@@ -174,8 +174,11 @@ module _ (more : Bool) (k n : ℕ) (told : k ≡ n) where
   pub fault-left : more ≡ true → k ≡ 0 → 9 ≡ faultOf more n
   fault-left e z = rw (e, ← told, z) refl
 
-  pub fault-cut : more ≡ true → k ≡ 8 → 10 ≡ faultOf more n
-  fault-cut e z = rw (e, ← told, z) refl
+  pub fault-header : more ≡ true → k ≡ 3 → 10 ≡ faultOf more n
+  fault-header e z = rw (e, ← told, z) refl
 
-  pub fault-other : more ≡ true → (k ≡ 0 → ⊥) → (k ≡ 8 → ⊥) → k ≡ faultOf more n
-  fault-other e a b = rw (e, ← told, ne-eqb k 0 a, ne-eqb k 8 b) refl
+  pub fault-pixels : more ≡ true → k ≡ 8 → 10 ≡ faultOf more n
+  fault-pixels e z = rw (e, ← told, z) refl
+
+  pub fault-other : more ≡ true → (k ≡ 0 → ⊥) → (k ≡ 3 → ⊥) → (k ≡ 8 → ⊥) → k ≡ faultOf more n
+  fault-other e a b c = rw (e, ← told, ne-eqb k 0 a, ne-eqb k 3 b, ne-eqb k 8 c) refl

@@ -1,14 +1,14 @@
 -- A file that holds one frame as binary PPM, under a station: what becomes of the file, the station, and all that is lent. Assumes nothing.
 use Prim.Native.Nat.{ℕ, _*_}
 use mathlib.Core.Path.{_≡_}
-use mathlib.Core.Bool.{Bool, cond}
+use mathlib.Core.Bool.{Bool, cond, _||_}
 use mathlib.Core.List.{List, _++_}
 use lib.Ieee.{Float}
 use lib.ListN.{length, getD, take, drop}
 use Rattle.num.specs.Refusals.{unless}
 use Rattle.raster.specs.Pixels.{unpacked, packedBytes}
 use lib.Dec.{eqb}
-use Rattle.raster.specs.Ppm.{pixelsCut, leftOver, parseOf}
+use Rattle.raster.specs.Ppm.{headerCut, pixelsCut, leftOver, parseOf}
 use Rattle.raster.specs.declared.ppm.Parsed.{Parsed}
 use Rattle.raster.specs.declared.ppm.Parsed.the-variants as Parsed
 use Rattle.cards.specs.Answers.{Report, refusal, acceptance}
@@ -28,13 +28,13 @@ abbrev pub numberOf : Parsed → ℕ
 numberOf (Parsed.Frame w h start) = 0
 numberOf (Parsed.Refused k) = k
 
--- the file has more bytes than were read, and they end inside the pixels
+-- the file has more bytes than were read, and they end inside the header or the pixels
 abbrev pub unread : ℕ
 unread = 10
 
 -- why a file is no frame, 0 for none: k is told of its first bytes, and `more` says whether there are others
 abbrev pub faultOf : Bool → ℕ → ℕ
-faultOf more k = cond more (cond (eqb k 0) leftOver (cond (eqb k pixelsCut) unread k)) k
+faultOf more k = cond more (cond (eqb k 0) leftOver (cond (eqb k headerCut || eqb k pixelsCut) unread k)) k
 
 -- what becomes of a file, of the station, of framebuffer and history, and of how many pixels the scratch may have changed
 pub record Result : Type 0 where

@@ -93,8 +93,8 @@ pub(crate) fn number(r: Parsed) -> u8
     }
 }
 
-// Why a file is no frame of at most `most` pixels, 0 where it is one. `more` says that the file goes on past these bytes. Where they end inside the pixels it
-// is then not cut off: it has more bytes than were read (10).
+// Why a file is no frame of at most `most` pixels, 0 where it is one. `more` says that the file goes on past these bytes. Where they end
+// inside the header or the pixels it is then not cut off: it has more bytes than were read (10).
 pub fn fault(file: &[u8], more: bool, most: usize) -> u8
     ensures { λ r. ⌜ r ≡ faultOf more (numberOf (parseOf most (now (file .entry)))) ⌝ }
 {
@@ -105,6 +105,7 @@ pub fn fault(file: &[u8], more: bool, most: usize) -> u8
     }
     match k {
         0 => 9,
+        3 => 10,
         8 => 10,
         _ => k,
     }

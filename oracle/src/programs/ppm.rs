@@ -53,12 +53,12 @@ pub struct Frame {
     pub start: usize,
 }
 
-/// A file of any length, of which no more than `ROOM` bytes are read. No file here has a header that goes on past them:
-/// the program takes such a one for cut off.
+/// A file of any length, of which no more than `ROOM` bytes are read: one whose header or pixels go on past them is too long, and
+/// not cut off.
 pub fn taken(file: &[u8]) -> Result<Frame, Fault> {
     let more = file.len() > ROOM;
     match read(&file[..file.len().min(ROOM)]) {
-        Err(Fault::PixelsCut) if more => Err(Fault::TooLong),
+        Err(Fault::HeaderCut | Fault::PixelsCut) if more => Err(Fault::TooLong),
         Ok(_) if more => Err(Fault::LeftOver),
         read => read,
     }

@@ -4,7 +4,7 @@ use borrow.Author.Tests.{not-true, not-false}
 use Rattle.raster.specs.Ppm.{parseOf}
 use Rattle.raster.specs.declared.ppm.Parsed.{Parsed}
 use Rattle.frames.specs.Frames.{numberOf}
-use Rattle.frames.proofs.Parts.{fault-all, fault-left, fault-cut, fault-other}
+use Rattle.frames.proofs.Parts.{fault-all, fault-left, fault-header, fault-pixels, fault-other}
 use Rattle.frames.proofs.fault.Statement.{statement}
 use Rattle.frames.proofs.fault.Tie as tie
 
@@ -17,5 +17,6 @@ fault-spec =
     tie.close
     (tie.spec (λ c κs. tt) (λ c κs. tt) (λ c. fault-all _ _ _ (told (c .before)) (not-true (c .before .before .before .before .args .more) (c .if1 .taken)))
     (λ c. fault-left _ _ _ (told (c .before .before)) (not-false (c .before .before .before .before .before .args .more) (c .before .if1 .left)) (c .match .keys1))
-    (λ c. fault-cut _ _ _ (told (c .before .before)) (not-false (c .before .before .before .before .before .args .more) (c .before .if1 .left)) (c .match .keys2))
-    (λ c. fault-other _ _ _ (told (c .before .before)) (not-false (c .before .before .before .before .before .args .more) (c .before .if1 .left)) (c .match .rest .0 .1) (c .match .rest .1)))
+    (λ c. fault-header _ _ _ (told (c .before .before)) (not-false (c .before .before .before .before .before .args .more) (c .before .if1 .left)) (c .match .keys2))
+    (λ c. fault-pixels _ _ _ (told (c .before .before)) (not-false (c .before .before .before .before .before .args .more) (c .before .if1 .left)) (c .match .keys3))
+    (λ c. fault-other _ _ _ (told (c .before .before)) (not-false (c .before .before .before .before .before .args .more) (c .before .if1 .left)) (c .match .rest .0 .0 .1) (c .match .rest .0 .1) (c .match .rest .1)))
