@@ -214,7 +214,7 @@ fn line() -> [f32; 8]
     [0.0; 8]
 }
 
-// A frame of the held length: it becomes the picture, and the history gets it as it came, by way of a copy. Returns how many channels
+// A frame of the held size: it becomes the picture, and the history gets it as it came, by way of a copy. Returns how many channels
 // were clipped.
 fn follow(
     frame: &mut [u32],
