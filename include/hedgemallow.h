@@ -12,7 +12,8 @@
  *     bytes 77 to 79 zero
  *
  * Every state is checked on the way in. Bytes that are no state, damaged ones too and those whose
- * card does not name its passes by ascending kind, are refused by 13 and never followed. A state that a call returned is never refused by 13.
+ * card does not name its passes by ascending kind, are refused by 13 and never followed. A state
+ * that a call returned is never refused by 13.
  *
  * Answers: below 256 the call is accepted, and the number is what it reports, or 0. From 256 on it
  * is refused by the number answer - 256, and every byte and word is as it was before the call.

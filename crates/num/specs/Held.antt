@@ -19,7 +19,7 @@ sized w h = record { width = w; height = h }
 abbrev pub area : Held → ℕ
 area held = held .height * held .width
 
--- frames of one shape: a turned frame has as many words, and another
+-- frames of one shape: neither side differs. A turned frame has as many words, and another shape
 unfoldable pub sameHeld : Held → Held → Bool
 sameHeld held other = eqb (held .width) (other .width) && eqb (held .height) (other .height)
 
