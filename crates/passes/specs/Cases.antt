@@ -4,7 +4,7 @@
 use mathlib.Core.List.{List, [], _∷_}
 use mathlib.Core.Path.{refl}
 use Prim.Native.Nat.{ℕ, zero, suc, _+_, _*_}
-use lib.Ieee.{ofBits, ofInt, add, sub, mul, div, neg, lt, le}
+use lib.Ieee.{ofBits, ofInt, add, sub, mul, div, neg, lt, le, eq, ne}
 use Rattle.num.specs.Cases.{Hold}
 use Rattle.num.specs.Const.{c0·0, c0·30, c0·5, c1·0}
 use Rattle.num.specs.Held.{nothing, sized, sameHeld}
@@ -61,7 +61,7 @@ marked =
     ∷ (second .frame .words, 0x555555 ∷ [])
     ∷ (third .frame .words, 0 ∷ [])
     ∷ (third .past, 0 ∷ 8 ∷ [])
-    ∷ (ColorCorrection.colorCorrection c1·0 c1·0 c1·0 (0 ∷ []) .words, 0xffffff ∷ [])
+    ∷ (ColorCorrection.colorCorrection [] c1·0 c1·0 c1·0 c1·0 (0 ∷ []) .words, 0xffffff ∷ [])
     ∷ []
 
 pub marked-hold : Hold marked
@@ -74,7 +74,8 @@ unfolding ofBits ofInt add sub mul div neg lt le clampOf minOf maxOf absOf cutOf
     Text.AutoGradient.addLuma Text.AutoGradient.warm Text.AutoGradient.fall Text.AutoGradient.brightness Text.AutoGradient.shade sameHeld
     Text.Persistence.persistence Text.Persistence.decay Text.Persistence.total Text.Persistence.add Text.Persistence.mix
     converted Text.Persistence.blend Persistence.copies Persistence.refilled
-    Persistence.shifted Text.ColorCorrection.colorCorrection Text.ColorCorrection.colour
+    Persistence.shifted Text.ColorCorrection.colorCorrection Text.ColorCorrection.curved Text.ColorCorrection.start
+    Text.ColorCorrection.colour eq ne
 marked-hold = refl
 
 -- a word for each three channels: together, and with the last word, all 256 of them
@@ -99,8 +100,8 @@ equals-hold = refl
 abbrev pub clipped : List (Painted × Painted)
 clipped =
     -- colour, brightness 1: black comes to lie at 1 exactly, 010101 above it; brightness -1: white at 0 exactly, a green of FE below it
-    (ColorCorrection.colorCorrection c1·0 c1·0 c1·0 (0 ∷ 0x010101 ∷ []), painted (0xffffff ∷ 0xffffff ∷ []) 3)
-    ∷ (ColorCorrection.colorCorrection (neg c1·0) c1·0 c1·0 (0xffffff ∷ 0xfffeff ∷ []), painted (0 ∷ 0 ∷ []) 1)
+    (ColorCorrection.colorCorrection [] c1·0 c1·0 c1·0 c1·0 (0 ∷ 0x010101 ∷ []), painted (0xffffff ∷ 0xffffff ∷ []) 3)
+    ∷ (ColorCorrection.colorCorrection [] (neg c1·0) c1·0 c1·0 c1·0 (0xffffff ∷ 0xfffeff ∷ []), painted (0 ∷ 0 ∷ []) 1)
     -- LUT, high contrast: red 10
     ∷ (Lut.lut 6 c1·0 (0xff102030 ∷ 0x406080 ∷ []), painted (0x00081c ∷ 0x305880 ∷ []) 1)
     -- gradient on one black pixel: blue
@@ -122,7 +123,7 @@ pub clipped-hold : Hold clipped
 unfolding ofBits ofInt add sub mul div neg lt le clampOf absOf cutOf rewrite fold sum converted sameHeld
     Text.Pixel.unpack Text.Pixel.unit Text.Pixel.pack Text.Pixel.packClamped Text.Pixel.packUnit Text.Pixel.clip Text.Pixel.clips
     Text.Pixel.channel Text.Pixel.luma601 Text.Pixel.luma709 Text.Position.position Text.ColorCorrection.colorCorrection
-    Text.ColorCorrection.colour Text.Lut.lut Text.Lut.colour Text.Lut.transform Text.AutoGradient.autoGradient
+    Text.ColorCorrection.curved Text.ColorCorrection.start Text.ColorCorrection.colour eq ne Text.Lut.lut Text.Lut.colour Text.Lut.transform Text.AutoGradient.autoGradient
     Text.AutoGradient.shaded Text.AutoGradient.adaptive Text.AutoGradient.addLuma Text.AutoGradient.warm Text.AutoGradient.fall
     Text.AutoGradient.brightness Text.AutoGradient.shade Text.Blur.weight Text.Blur.total Text.Bloom.bloom Text.Bloom.bright
     Text.Bloom.composite Text.Ntsc.ntsc Text.Ntsc.pixel Text.Ntsc.chroma Text.Persistence.persistence Text.Persistence.decay

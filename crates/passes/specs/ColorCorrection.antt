@@ -1,7 +1,8 @@
 -- Colour correction. Channels run from 0 to 1. The original raises each to the power gamma first. Here that power of each of the 256
 -- channels is lent with the frame, as a curve; at gamma 1.0 the power gives back its operand, and no curve is read.
 -- A is the arithmetic (Arith.antt): binary32 in the product. Definitions only.
-use Prim.Native.Nat.{ℕ}
+use Prim.Native.Nat.{ℕ, _≤_}
+use mathlib.Core.Path.{_≡_}
 use mathlib.Core.Bool.{Bool, true, _&&_, cond}
 use mathlib.Core.List.{List, [], _∷_}
 use lib.Dec.{leb}
@@ -27,6 +28,10 @@ allInUnit (x ∷ xs) = inUnit x && allInUnit xs
 -- a curve that can be read: 256 words or more, the first 256 in 0..1; those past them do not matter
 unfoldable pub goodCurve : List Float → Bool
 goodCurve curve = leb 256 (length curve) && allInUnit (take 256 curve)
+
+-- words enough, where they are read
+abbrev pub Enough : Float → List Float → Type 0
+Enough gamma curve = curved gamma ≡ true → 256 ≤ length curve
 
 module _ (A : Arith) where
   open Arith A using (F, lit, whole, _⊕_, _⊖_, _⊗_, _⊘_, Rgb)

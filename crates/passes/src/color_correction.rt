@@ -1,7 +1,6 @@
 // Colour correction. The original raises each channel to the power gamma first. Here that power of each of the 256 channels is lent as a
 // curve; at gamma 1.0 the power gives back its operand, and no curve is read.
 ghost use mathlib.Core.Path.{_≡_};
-ghost use mathlib.Core.Bool.{true};
 ghost use Prim.Native.Nat.{_≤_};
 ghost use lib.ListN.{length};
 ghost use Rattle.passes.specs.ColorCorrection as Text;
@@ -112,7 +111,7 @@ fn paint(
     saturation: f32,
     gamma: f32,
 )
-    requires { ⌜ Text.curved gamma ≡ true → 256 ≤ length (now curve) ⌝ }
+    requires { ⌜ Text.Enough gamma (now curve) ⌝ }
     ensures { λ _. ⌜ now (frame .exit) ≡ everyUnit (λ i. ColorCorrection.colour (ColorCorrection.start (now (curve .entry)) gamma) brightness contrast saturation)
         (now (frame .entry)) ⌝ }
 {
@@ -132,7 +131,7 @@ pub fn apply(
     saturation: f32,
     gamma: f32,
 ) -> u32
-    requires { ⌜ length (now frame) ≤ 1048576 ⌝ ∗ ⌜ Text.curved gamma ≡ true → 256 ≤ length (now curve) ⌝ }
+    requires { ⌜ length (now frame) ≤ 1048576 ⌝ ∗ ⌜ Text.Enough gamma (now curve) ⌝ }
     ensures { λ r. ⌜ painted (now (frame .exit)) r
         ≡ ColorCorrection.colorCorrection (now (curve .entry)) brightness contrast saturation gamma (now (frame .entry)) ⌝ }
 {

@@ -1,6 +1,6 @@
 -- Laws of the curve: what one that can be read has, and that no more than its first 256 words matter. Assumes nothing.
 use Prim.Native.Nat.{ℕ, zero, suc, _+_, _*_, _/_, _%_, _≤_, _<_}
-use native.Mathlib.Nat.{le-of-suc-le-suc}
+use native.Mathlib.Nat.{le-of-suc-le-suc, not-suc-le-zero}
 use native.Mathlib.Omega.{arith}
 use mathlib.Core.Path.{_≡_, refl, ap, ap₂, sym, subst, _∙_}
 use mathlib.Core.Bool.{Bool, true, false, _&&_, _||_, cond}
@@ -29,14 +29,14 @@ unit-within (inf false) h = false-true h
 unit-within (inf true) h = false-true h
 unit-within (fin false m e) h =
     within-plus 1 m e
-    (let l = tests-le (m * up e * 1) (1 * down e) true (subst T (sym (both _ _ h .1)) tt) in omega arith)
+    (let l : m * up e * 1 ≤ 1 * down e = tests-le (m * up e * 1) (1 * down e) true (subst T (sym (both (le c0·0 (fin false m e)) (le (fin false m e) c1·0) h .1)) tt) in omega arith)
 unit-within (fin true m e) h =
     zero-value 1 (fin true m e) true 1 (lit< tt)
-    (refl, (let l = eqb-true _ _ (both _ _ (both _ _ h .0) .0) in omega arith))
+    (refl, (let l : 0 * down e ≡ m * up e * 1 = eqb-true (0 * down e) (m * up e * 1) (both _ _ (both _ _ h .0) .0) in omega arith))
 
 all-within : (xs : List Float) → allInUnit xs ≡ true → (k : ℕ) → k < length xs → T (within 1 (getD xs k nan))
 unfolding allInUnit
-all-within [] h k ()
+all-within [] h k l = absurd (not-suc-le-zero l)
 all-within (x ∷ xs) h zero l = unit-within x (both (inUnit x) (allInUnit xs) h .0)
 all-within (x ∷ xs) h (suc k) l = all-within xs (both (inUnit x) (allInUnit xs) h .1) k (le-of-suc-le-suc l)
 
@@ -82,7 +82,10 @@ module _ (A : Arith) (curve other : List Float) (gamma : Float) (same : curved g
     where
       begun : (p : ℕ) → byNumber A (start A curve gamma) p ≡ byNumber A (start A other gamma) p
       begun p =
-          rw (starts-same (p / 65536 % 256) (omega arith), starts-same (p / 256 % 256) (omega arith), starts-same (p % 256) (omega arith))
+          let red = starts-same (p / 65536 % 256) (omega arith) in
+          let green = starts-same (p / 256 % 256) (omega arith) in
+          let blue = starts-same (p % 256) (omega arith) in
+          cc
 
       coloured : (p : ℕ) → colour A (start A curve gamma) brightness contrast saturation p ≡ colour A (start A other gamma) brightness contrast saturation p
       coloured p = rw (begun p)

@@ -14,9 +14,9 @@ use Rattle.num.specs.Laws.Bounds.{widen}
 use Rattle.num.specs.Ranges.{within}
 use Rattle.passes.specs.Arith.{Arith, Agrees, plain}
 use Rattle.passes.specs.ColorCorrection as ColorCorrection
-use Rattle.passes.specs.Laws.Inside.Shared.{Tint, tint, unit-same, luma709-in}
+use Rattle.passes.specs.Laws.Inside.Shared.{Tint, Tint⁺, tint, tint⁺, unit-same, luma709-in}
 use Rattle.passes.specs.Laws.Painted.{converted-same}
-use Rattle.passes.specs.Pixel.{luma709}
+use Rattle.passes.specs.Pixel.{byNumber, luma709}
 use Rattle.passes.specs.Laws.Range.{sized, Has, Plus, signed, lit, lit⁺, lit-big, whole⁺, over⁺, plus, minus, times}
 use Rattle.passes.specs.declared.pixel.Rgb.{Rgb}
 
@@ -46,8 +46,8 @@ module _ {A : Arith} (G : Agrees A) where
   unfolding ColorCorrection.colorCorrection ColorCorrection.colour ofBits
   color-correction-inside curve brightness contrast saturation gamma frame fine b c s =
       converted-same _ _ _ _ frame _ _ (λ i p l.
-      let at = λ (q : ℕ). level (started curve gamma fine (q % 256) (omega arith)) in
-      unit-same (saturated (tint (at (p / 65536)) (at (p / 256)) (at p))))
+      let u = begun p in
+      unit-same (saturated (tint (level (u .red)) (level (u .green)) (level (u .blue)))))
     where
       level : {a : A .F} {x : Float} → Plus G 255 a x
           → Has G 1029 (ColorCorrection.level A (A .lit brightness) (A .lit contrast) a)
@@ -55,6 +55,12 @@ module _ {A : Arith} (G : Agrees A) where
       level h =
           plus (times (minus (plus (signed h) (lit 1 brightness b) tt) (lit 1 c0·5 tt) tt)
           (signed (lit⁺ 4 contrast c)) tt) (lit 1 c0·5 tt) tt
+
+      -- a channel's number is below 256
+      begun : (p : ℕ) → Tint⁺ G 255 (byNumber A (ColorCorrection.start A curve gamma) p) (byNumber plain (ColorCorrection.start plain curve gamma) p)
+      begun p =
+          tint⁺ (started curve gamma fine (p / 65536 % 256) (omega arith)) (started curve gamma fine (p / 256 % 256) (omega arith))
+          (started curve gamma fine (p % 256) (omega arith))
 
       saturated : {c : A .Rgb} {d : Rgb} → Tint G 1029 c d
           → Tint G 19551 (ColorCorrection.saturate A (A .lit saturation) c) (ColorCorrection.saturate plain saturation d)
