@@ -29,16 +29,12 @@ fn checksum(frame: &[u32]) -> u32 {
     bytes.fold(2166136261, |sum, byte| (sum ^ u32::from(byte)).wrapping_mul(16777619))
 }
 
-/// By the kinds' numbers, from 1 on.
-const NAMES: [&str; 10] =
-    ["NTSC", "bloom", "gradient", "persistence", "LUT", "curvature", "colour", "CRT", "vignette", "scanlines"];
-
 /// The passes of the chain, on or off, and the LUT's preset: asking changes nothing.
 fn show(station: &Station) {
     print!("switches:");
-    for (kind, name) in KINDS.into_iter().zip(NAMES) {
+    for kind in KINDS {
         if let Ok(on) = station.enabled(kind) {
-            print!(" {name} {}", if on { "on" } else { "off" });
+            print!(" {kind} {}", if on { "on" } else { "off" });
         }
     }
     if let Ok(preset) = station.preset() {

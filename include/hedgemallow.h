@@ -1,5 +1,6 @@
 /*
- * Hedgemallow: a picture chain set by a card. The functions of libbridge.a, for C and C++.
+ * Hedgemallow: a picture chain set by a card. The functions of libbridge.a, which ./install names
+ * libhedgemallow.a, for C and C++.
  *
  * A station is the chain of passes of one card with their switches and settings, and the width and
  * height of the older frames in its history. It lives in 80 bytes that the caller owns, the state.
@@ -96,29 +97,30 @@ enum hedgemallow_refusal {
                                             each, an area that leaves the picture, or too few totals */
 };
 
-/* The kinds of passes, as a card, hedgemallow_set_enabled and hedgemallow_enabled name them. On a card they ascend. */
+/* The kinds of passes, as a card, hedgemallow_set_enabled and hedgemallow_enabled name them. On a card they ascend.
+   Beside each is the word that program `card` prints, for a front end: the library has no texts. */
 enum hedgemallow_kind {
-    HEDGEMALLOW_NTSC = 1,
-    HEDGEMALLOW_BLOOM = 2,
-    HEDGEMALLOW_AUTO_GRADIENT = 3,
-    HEDGEMALLOW_PERSISTENCE = 4,
-    HEDGEMALLOW_LUT = 5,
-    HEDGEMALLOW_CURVATURE = 6,
-    HEDGEMALLOW_COLOR_CORRECTION = 7,
-    HEDGEMALLOW_CRT = 8,
-    HEDGEMALLOW_VIGNETTE = 9,
-    HEDGEMALLOW_SCANLINES = 10
+    HEDGEMALLOW_NTSC = 1,             /* NTSC */
+    HEDGEMALLOW_BLOOM = 2,            /* bloom */
+    HEDGEMALLOW_AUTO_GRADIENT = 3,    /* gradient */
+    HEDGEMALLOW_PERSISTENCE = 4,      /* persistence */
+    HEDGEMALLOW_LUT = 5,              /* LUT */
+    HEDGEMALLOW_CURVATURE = 6,        /* curvature */
+    HEDGEMALLOW_COLOR_CORRECTION = 7, /* colour */
+    HEDGEMALLOW_CRT = 8,              /* CRT */
+    HEDGEMALLOW_VIGNETTE = 9,         /* vignette */
+    HEDGEMALLOW_SCANLINES = 10        /* scanlines */
 };
 
-/* The presets of a LUT, as a card, hedgemallow_cycle_lut and hedgemallow_preset number them. */
+/* The presets of a LUT, as a card, hedgemallow_cycle_lut and hedgemallow_preset number them, with their words. */
 enum hedgemallow_preset {
-    HEDGEMALLOW_IDENTITY = 0,
-    HEDGEMALLOW_WARM_CRT = 1,
-    HEDGEMALLOW_COOL_CRT = 2,
-    HEDGEMALLOW_COMPOSITE = 3,
-    HEDGEMALLOW_GAME_BOY = 4,
-    HEDGEMALLOW_AMBER = 5,
-    HEDGEMALLOW_HIGH_CONTRAST = 6
+    HEDGEMALLOW_IDENTITY = 0,     /* identity */
+    HEDGEMALLOW_WARM_CRT = 1,     /* warm CRT */
+    HEDGEMALLOW_COOL_CRT = 2,     /* cool CRT */
+    HEDGEMALLOW_COMPOSITE = 3,    /* composite */
+    HEDGEMALLOW_GAME_BOY = 4,     /* Game Boy */
+    HEDGEMALLOW_AMBER = 5,        /* amber */
+    HEDGEMALLOW_HIGH_CONTRAST = 6 /* high contrast */
 };
 
 /* Opens a card: writes the state where the card is accepted. Refusals 1 to 7 and 15. */
@@ -141,7 +143,7 @@ uint32_t hedgemallow_apply(uint8_t state[HEDGEMALLOW_STATE], uint32_t *framebuff
 uint32_t hedgemallow_reset(uint8_t state[HEDGEMALLOW_STATE]);
 
 /* Switches the pass of that kind, 1 to 10: on 0 is off, any other number on. Persistence that is
-   switched off holds nothing. Refusals 13, 12. */
+   switched off holds nothing. Refusals 13, 12: any other kind is in no chain. */
 uint32_t hedgemallow_set_enabled(uint8_t state[HEDGEMALLOW_STATE], uint8_t kind, uint8_t on);
 
 /* Steps the LUT to its next preset, and reports it, 0 to 6. Refusals 13, 12. */

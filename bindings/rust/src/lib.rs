@@ -146,7 +146,24 @@ fn report(answer: u32) -> Result<u32, Refusal> {
     }
 }
 
-/// The kinds of passes, with the numbers of a card, on which they ascend.
+/// The kinds of passes, with the numbers of a card, on which they ascend. They are printed by their words, as program `card` prints
+/// them.
+///
+/// ```
+/// # use hedgemallow::{Kind, Refusal, Station, KINDS};
+/// // Scanlines at full strength, on.
+/// let station = Station::open(&[0x11, 0xA9, 0xFC, 0x00, 0x00, 0x00])?;
+/// for kind in KINDS {
+///     if let Ok(on) = station.enabled(kind) {
+///         println!("{kind}: {}", if on { "on" } else { "off" });
+///     }
+/// }
+///
+/// // The kind of a word that was typed in.
+/// let kind = KINDS.into_iter().find(|kind| kind.to_string() == "scanlines");
+/// assert_eq!(kind, Some(Kind::Scanlines));
+/// # Ok::<(), Refusal>(())
+/// ```
 #[derive(Clone, Copy, Debug, PartialEq, Eq, Hash)]
 #[repr(u8)]
 pub enum Kind {
@@ -162,7 +179,24 @@ pub enum Kind {
     Scanlines = 10,
 }
 
-/// The presets of a LUT, with the numbers of a card.
+impl fmt::Display for Kind {
+    fn fmt(&self, f: &mut fmt::Formatter) -> fmt::Result {
+        f.pad(match self {
+            Kind::Ntsc => "NTSC",
+            Kind::Bloom => "bloom",
+            Kind::AutoGradient => "gradient",
+            Kind::Persistence => "persistence",
+            Kind::Lut => "LUT",
+            Kind::Curvature => "curvature",
+            Kind::ColorCorrection => "colour",
+            Kind::Crt => "CRT",
+            Kind::Vignette => "vignette",
+            Kind::Scanlines => "scanlines",
+        })
+    }
+}
+
+/// The presets of a LUT, with the numbers of a card; printed by their words too.
 #[derive(Clone, Copy, Debug, PartialEq, Eq, Hash)]
 #[repr(u8)]
 pub enum Preset {
@@ -173,6 +207,20 @@ pub enum Preset {
     GameBoy = 4,
     Amber = 5,
     HighContrast = 6,
+}
+
+impl fmt::Display for Preset {
+    fn fmt(&self, f: &mut fmt::Formatter) -> fmt::Result {
+        f.pad(match self {
+            Preset::Identity => "identity",
+            Preset::WarmCrt => "warm CRT",
+            Preset::CoolCrt => "cool CRT",
+            Preset::Composite => "composite",
+            Preset::GameBoy => "Game Boy",
+            Preset::Amber => "amber",
+            Preset::HighContrast => "high contrast",
+        })
+    }
 }
 
 /// In the order of their numbers.
@@ -234,13 +282,14 @@ impl Station {
         Ok(Station { state })
     }
 
-    /// The station of bytes that were stored.
+    /// The station of bytes that were stored. Lend it the history words that it had then; or reset it, and any words will do.
     pub fn from_bytes(state: [u8; 80]) -> Result<Station, Refusal> {
         let station = Station { state };
         station.depth()?;
         Ok(station)
     }
 
+    /// The bytes of the state, to be stored: docs/REFERENCE.md says what each is.
     pub fn as_bytes(&self) -> &[u8; 80] {
         &self.state
     }
@@ -380,6 +429,7 @@ pub struct Scratch {
     pub ints: usize,
 }
 
+/// The words of scratch for a frame of that size, whatever the card.
 pub fn scratch_words(width: usize, height: usize) -> Result<Scratch, Refusal> {
     let ints = count(width, height)?;
     Ok(Scratch { floats: 6 * ints, ints })

@@ -1,4 +1,4 @@
-// Frames: read, looked at, and shown.
+// Frames: read, looked at, and shown. The curve.
 ghost use Rattle.io.specs.Counts.{Counts};
 use crate::says;
 use cards::station::Station;
@@ -68,8 +68,9 @@ pub fn show(
     history: &mut [u32; 491520],
     floats: &mut [f32; 368640],
     ints: &mut [u32; 61440],
+    curve: &[f32],
 ) -> Turn {
-    let filtered = frames::filter(station, file, words, history, floats, ints);
+    let filtered = frames::filter(station, file, words, history, floats, ints, curve);
     let outcome = filtered.outcome;
     let after = filtered.station;
     let more = write(i, outcome, tell, file);
@@ -89,6 +90,7 @@ pub fn play(
     history: &mut [u32; 491520],
     floats: &mut [f32; 368640],
     ints: &mut [u32; 61440],
+    curve: &[f32],
 ) -> Turn {
     let loaded = input::named(i, file);
     if !loaded.ok {
@@ -107,5 +109,22 @@ pub fn play(
         history,
         floats,
         ints,
+        curve,
     )
+}
+
+// Whether the file that argument i names holds a curve, which then is loaded; else it is said why not.
+pub fn curve(i: usize, out: &mut [f32; 256]) -> bool {
+    let mut file = io::buffer();
+    let loaded = input::named(i, &mut file);
+    if !loaded.ok {
+        return false;
+    }
+    let n = loaded.length;
+    let k = frames::curve::load(&file[..n], out);
+    if k != 0 {
+        says::no_curve(i, k);
+        return false;
+    }
+    true
 }

@@ -1,0 +1,67 @@
+// A file that holds a curve: 256 numbers as binary32, the low byte first.
+ghost use mathlib.Core.Path.{_≡_};
+ghost use Prim.Native.Nat.{_+_, _*_, _<_, _≤_};
+ghost use lib.ListN.{length, replicate};
+ghost use Rattle.num.specs.Const.{c0·0};
+ghost use Rattle.num.specs.Rewrite.{fill};
+ghost use Rattle.frames.specs.Curve.{patternAt, realOf, wordAt, loaded, loadedOf};
+use passes::color_correction::is_good_curve;
+use raster::pixels::at;
+
+// The bit pattern of the four bytes from i on.
+fn pattern(bytes: &[u8], i: usize) -> u32
+    requires { ⌜ i + 3 < length (now bytes) ⌝ }
+    ensures { λ r. ⌜ r ≡ patternAt (now (bytes .entry)) i ⌝ }
+{
+    let first = at(bytes, i);
+    let second = at(bytes, i + 1);
+    let third = at(bytes, i + 2);
+    let fourth = at(bytes, i + 3);
+    (first + second * 256 + third * 65536 + fourth * 16777216) as u32
+}
+
+// Its number. An infinity becomes a NaN: neither is in 0..1.
+fn real(bits: u32) -> f32
+    ensures { λ r. ⌜ r ≡ realOf bits ⌝ }
+{
+    if bits % 0x8000_0000 / 0x80_0000 == 255 {
+        return 0.0 / 0.0;
+    }
+    f32::from_bits(bits)
+}
+
+// Words from four bytes each.
+fn decode(words: &mut [f32], file: &[u8])
+    requires { ⌜ 4 * length (now words) ≤ length (now file) ⌝ }
+    ensures { λ _. ⌜ now (words .exit) ≡ fill (wordAt (now (file .entry))) (now (words .entry)) ⌝ }
+{
+    let mut k = 0;
+    while k < words.len() {
+        words[k] = real(pattern(file, 4 * k));
+        k += 1;
+    }
+}
+
+// Room for a curve.
+fn room() -> [f32; 256]
+    ensures { λ r. ⌜ r ≡ replicate 256 c0·0 ⌝ }
+{
+    [0.0; 256]
+}
+
+// Loads the curve that a file holds, and tells 0. A file of another length than 1,024 bytes tells 1, one with a word that is not in 0..1
+// tells 2; the curve then stays.
+pub fn load(file: &[u8], curve: &mut [f32; 256]) -> u8
+    ensures { λ r. ⌜ loaded r (now (curve .exit)) ≡ loadedOf (now (file .entry)) (now (curve .entry)) ⌝ }
+{
+    if file.len() != 1024 {
+        return 1;
+    }
+    let mut words = room();
+    decode(&mut words, file);
+    if !is_good_curve(&words) {
+        return 2;
+    }
+    *curve = words;
+    0
+}
