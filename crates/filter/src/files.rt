@@ -4,6 +4,7 @@ use crate::says;
 use cards::station::Station;
 use cli::input;
 use frames::Outcome;
+use frames::curve::Loaded;
 use libc::STDOUT_FILENO;
 
 // How many bytes the frame that argument i names has, at the start of the buffer; 0 where it cannot be taken, and then it is said why.
@@ -113,18 +114,14 @@ pub fn play(
     )
 }
 
-// Whether the file that argument i names holds a curve, which then is loaded; else it is said why not.
-pub fn curve(i: usize, out: &mut [f32; 256]) -> bool {
+// The curve in the file that argument i names. Where it holds none, it is said why, and the fault is not 0.
+pub fn curve(i: usize) -> Loaded {
     let mut file = io::buffer();
-    let loaded = input::named(i, &mut file);
-    if !loaded.ok {
-        return false;
+    let named = input::named(i, &mut file);
+    let n = named.length;
+    let loaded = frames::curve::load(&file[..n]);
+    if named.ok && loaded.fault != 0 {
+        says::no_curve(i, loaded.fault);
     }
-    let n = loaded.length;
-    let k = frames::curve::load(&file[..n], out);
-    if k != 0 {
-        says::no_curve(i, k);
-        return false;
-    }
-    true
+    loaded
 }

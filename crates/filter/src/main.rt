@@ -108,12 +108,14 @@ fn run(station: Station, first: usize, count: usize, tell: bool, curve: &[f32])
 fn lend(station: Station, first: usize, count: usize, tell: bool, named: usize)
     requires { ⌜ first ≤ 5 ⌝ }
 {
-    let mut curve = memory::curve();
     if named == 0 {
-        run(station, first, count, tell, &curve[..0]);
+        let none: [f32; 0] = [];
+        run(station, first, count, tell, &none);
         return;
     }
-    if files::curve(named, &mut curve) {
+    let loaded = files::curve(named);
+    if loaded.fault == 0 {
+        let curve = loaded.words;
         run(station, first, count, tell, &curve);
     }
 }

@@ -1,4 +1,4 @@
-// The buffers that are lent to a frame of 256 by 240 pixels besides its words: a history of eight such frames, scratch, and a curve. With the file and the words some
+// The buffers that are lent to a frame of 256 by 240 pixels besides its words: a history of eight such frames, and scratch. With the file and the words some
 // four megabytes of stack.
 ghost use mathlib.Core.Path.{_≡_};
 ghost use lib.ListN.{length};
@@ -19,10 +19,4 @@ pub fn ints() -> [u32; 61440]
     ensures { λ r. ⌜ 61440 ≡ length r ⌝ }
 {
     [0; 61440]
-}
-
-pub fn curve() -> [f32; 256]
-    ensures { λ r. ⌜ 256 ≡ length r ⌝ }
-{
-    [0.0; 256]
 }

@@ -10,6 +10,7 @@ use Rattle.num.specs.Const.{c0·0}
 use Rattle.num.specs.Rewrite.{fill}
 use Rattle.passes.specs.ColorCorrection.{goodCurve}
 use Rattle.raster.specs.Pixels.{byteAt}
+use Rattle.frames.specs.declared.curve.Loaded.{Loaded}
 
 -- the bit pattern of the four bytes from i on
 abbrev pub patternAt : List ℕ → ℕ → ℕ
@@ -22,20 +23,16 @@ realOf bits = cond (finite (ofBits binary32 bits)) (ofBits binary32 bits) nan
 abbrev pub wordAt : List ℕ → ℕ → Float
 wordAt file k = realOf (patternAt file (4 * k))
 
+abbrev pub empty : List Float
+empty = replicate 256 c0·0
+
 unfoldable pub curveIn : List ℕ → List Float
-curveIn file = fill (wordAt file) (replicate 256 c0·0)
+curveIn file = fill (wordAt file) empty
 
 -- 0; or 1, another length than 1,024 bytes; or 2, a word that is not in 0..1
 unfoldable pub curveFault : List ℕ → ℕ
 curveFault file = cond (not (eqb (length file) 1024)) 1 (cond (not (goodCurve (curveIn file))) 2 0)
 
--- what is told of a file, and the curve: as it was, where the file holds none
-pub record Loaded : Type 0 where
-  pub fault : ℕ
-  pub curve : List Float
-
-abbrev pub loaded : ℕ → List Float → Loaded
-loaded fault curve = record { fault = fault; curve = curve }
-
-unfoldable pub loadedOf : List ℕ → List Float → Loaded
-loadedOf file old = loaded (curveFault file) (cond (eqb (curveFault file) 0) (curveIn file) old)
+-- with the words as far as they were read: none of a file of another length
+unfoldable pub loadedOf : List ℕ → Loaded
+loadedOf file = record { fault = curveFault file; words = cond (eqb (length file) 1024) (curveIn file) empty }

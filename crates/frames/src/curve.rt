@@ -1,12 +1,17 @@
 // A file that holds a curve: 256 numbers as binary32, the low byte first.
 ghost use mathlib.Core.Path.{_≡_};
 ghost use Prim.Native.Nat.{_+_, _*_, _<_, _≤_};
-ghost use lib.ListN.{length, replicate};
-ghost use Rattle.num.specs.Const.{c0·0};
+ghost use lib.ListN.{length};
 ghost use Rattle.num.specs.Rewrite.{fill};
-ghost use Rattle.frames.specs.Curve.{patternAt, realOf, wordAt, loaded, loadedOf};
+ghost use Rattle.frames.specs.Curve.{patternAt, realOf, wordAt, empty, loadedOf};
 use passes::color_correction::is_good_curve;
 use raster::pixels::at;
+
+// What a file holds: a curve, where the fault is 0.
+pub struct Loaded {
+    pub fault: u8,
+    pub words: [f32; 256],
+}
 
 // The bit pattern of the four bytes from i on.
 fn pattern(bytes: &[u8], i: usize) -> u32
@@ -44,24 +49,22 @@ fn decode(words: &mut [f32], file: &[u8])
 
 // Room for a curve.
 fn room() -> [f32; 256]
-    ensures { λ r. ⌜ r ≡ replicate 256 c0·0 ⌝ }
+    ensures { λ r. ⌜ r ≡ empty ⌝ }
 {
     [0.0; 256]
 }
 
-// Loads the curve that a file holds, and tells 0. A file of another length than 1,024 bytes tells 1, one with a word that is not in 0..1
-// tells 2; the curve then stays.
-pub fn load(file: &[u8], curve: &mut [f32; 256]) -> u8
-    ensures { λ r. ⌜ loaded r (now (curve .exit)) ≡ loadedOf (now (file .entry)) (now (curve .entry)) ⌝ }
+// Loads the curve that a file holds. A file of another length than 1,024 bytes has fault 1, one with a word that is not in 0..1 fault 2.
+pub fn load(file: &[u8]) -> Loaded
+    ensures { λ r. ⌜ r ≡ loadedOf (now (file .entry)) ⌝ }
 {
-    if file.len() != 1024 {
-        return 1;
-    }
     let mut words = room();
+    if file.len() != 1024 {
+        return Loaded { fault: 1, words };
+    }
     decode(&mut words, file);
     if !is_good_curve(&words) {
-        return 2;
+        return Loaded { fault: 2, words };
     }
-    *curve = words;
-    0
+    Loaded { fault: 0, words }
 }
