@@ -103,19 +103,22 @@ pub enum Odd {
     /// One step above 1, and one step below 0.
     Above,
     Below,
+    /// Quiet ones, and one that signals.
     Nan,
     NegativeNan,
+    SignallingNan,
     Infinity,
     NegativeInfinity,
     /// This one is taken.
     MinusZero,
 }
 
-pub const ODD: [Odd; 7] = [
+pub const ODD: [Odd; 8] = [
     Odd::Above,
     Odd::Below,
     Odd::Nan,
     Odd::NegativeNan,
+    Odd::SignallingNan,
     Odd::Infinity,
     Odd::NegativeInfinity,
     Odd::MinusZero,
@@ -128,6 +131,7 @@ impl Odd {
             Odd::Below => 0x8000_0001,
             Odd::Nan => 0x7fc0_0000,
             Odd::NegativeNan => 0xffc0_0000,
+            Odd::SignallingNan => 0x7f80_0001,
             Odd::Infinity => 0x7f80_0000,
             Odd::NegativeInfinity => 0xff80_0000,
             Odd::MinusZero => 0x8000_0000,

@@ -142,7 +142,7 @@ mod files {
             tally.check(at, here.both(), asked.both(), || what(seed, &run));
             Ok(())
         };
-        let (tally, met) = share("filter", times(mode, 1_000), new, FileTally::join, compare)?;
+        let (tally, met) = share("filter", times(mode, 1_250), new, FileTally::join, compare)?;
         total.add_files(&tally);
         total.unmet += met.report();
         total.add_turned(met.count(OfRun::Turned));

@@ -150,7 +150,7 @@ fn curve(gamma: f32, random: &mut Random) -> File {
             bytes.resize(length, 0);
         }
         // A word that is not in 0..1, mostly.
-        5..8 => {
+        5..9 => {
             let len = READ;
             let bad = Curve::bad(random);
             bytes = bytes_of(&Curve { len, ..bad });

@@ -213,6 +213,7 @@ impl Listed for Case {
         Case::CurveWord(Odd::Below),
         Case::CurveWord(Odd::Nan),
         Case::CurveWord(Odd::NegativeNan),
+        Case::CurveWord(Odd::SignallingNan),
         Case::CurveWord(Odd::Infinity),
         Case::CurveWord(Odd::NegativeInfinity),
         Case::CurveWordAt(0),
