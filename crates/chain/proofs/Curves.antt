@@ -1,5 +1,5 @@
 -- Two curves with the same first 256 words, where there are as many: a frame makes the same of them. Assumes nothing.
-use Prim.Native.Nat.{ℕ, zero, suc, _*_, _≤_}
+use Prim.Native.Nat.{ℕ, zero, suc, _+_, _*_}
 use mathlib.Core.Path.{_≡_, refl, ap, ap₂, sym, _∙_}
 use mathlib.Core.Bool.{Bool, true, false, not, _&&_, _||_, cond}
 use mathlib.Core.List.{List, [], _∷_, _++_}
@@ -10,7 +10,7 @@ use Rattle.num.specs.Laws.Bools.{or-left, or-second}
 use Rattle.num.specs.Refusals.{badSide, unless}
 use Rattle.passes.specs.Arith.{plain}
 use Rattle.passes.specs.ColorCorrection.{goodCurve}
-use Rattle.passes.specs.Flow.{Flow}
+use Rattle.passes.specs.Flow.{Flow, flow}
 use Rattle.passes.specs.Fold.{fold}
 use Rattle.passes.specs.Laws.Curves.{curve-long, same-good, color-correction-same}
 use Rattle.passes.specs.Painted.{Painted, painted}
@@ -29,18 +29,16 @@ use Rattle.chain.proofs.Goes.{goes}
 
 module _ (w h : ℕ) (curve other : List Float) where
   over-curve : (p : Pass) (x : Flow) → (reads p ≡ true → take 256 curve ≡ take 256 other) → over w h curve p x ≡ over w h other p x
-  unfolding overBy
+  unfolding overBy wash
   over-curve (Ntsc strength bleed) x same = refl
   over-curve (Bloom threshold strength radius) x same = refl
   over-curve (AutoGradient strength vertical horizontal) x same = refl
   over-curve (Persistence amount depth) x same = refl
   over-curve (Lut preset strength) x same = refl
   over-curve (Curvature amount) x same = refl
-  over-curve (ColorCorrection brightness contrast saturation gamma) x same = painting
-    where
-      painting : over w h curve (ColorCorrection brightness contrast saturation gamma) x ≡ over w h other (ColorCorrection brightness contrast saturation gamma) x
-      unfolding wash
-      painting = rw (color-correction-same plain curve other gamma same brightness contrast saturation (x .frame .words))
+  over-curve (ColorCorrection brightness contrast saturation gamma) x same =
+      ap (λ (y : Painted). flow (painted (y .words) (x .frame .clipped + y .clipped)) (x .held) (x .past))
+      (color-correction-same plain curve other gamma same brightness contrast saturation (x .frame .words))
   over-curve (Crt strength) x same = refl
   over-curve (Vignette strength) x same = refl
   over-curve (Scanlines strength) x same = refl
@@ -63,14 +61,13 @@ stops-curve s w h words history floats ints {curve} {other} same = rw (same-good
 
 pub reply-curve : (w h : ℕ) (s : Station) (words past : List ℕ) (floats ints : ℕ) {curve other : List Float} → SameFirst 256 curve other
     → frameReply w h s words past floats ints curve ≡ frameReply w h s words past floats ints other
-unfolding frameReplyBy
+unfolding frameReplyBy unless shownBy
 reply-curve w h s words past floats ints {curve} {other} same =
     go (stops s w h (length words) (length past) floats ints curve) refl
     ∙ ap (λ (k : ℕ). unless k (refusingFrame s words past) (shown w h s words past other)) (stops-curve s w h (length words) (length past) floats ints same)
   where
     go : (k : ℕ) → stops s w h (length words) (length past) floats ints curve ≡ k
         → unless k (refusingFrame s words past) (shown w h s words past curve) ≡ unless k (refusingFrame s words past) (shown w h s words past other)
-    unfolding unless shownBy
     go zero e =
         let g = goes s w h (length words) (length past) floats ints curve e in
         ap (λ (x : Flow). framed (acceptance (x .frame .clipped ∷ [])) (hold (x .held) s) (x .frame .words ++ drop (h * w) words) (x .past))

@@ -9,13 +9,14 @@ use mathlib.Core.Bool.{Bool, true, false, not, _&&_, cond, and-true, and-false}
 use mathlib.Core.List.{List, [], _∷_, _++_}
 use borrow.Author.Tests.{not-true}
 use lib.Dec.{eqb}
+use lib.Ieee.{Float}
 use lib.ListN.{length, take, drop, take-append-drop}
 use lib.Seq.{take-nil, take-append-le, take-at, length-take-le}
 use Rattle.num.specs.Held.{Held, nothing, sized, area}
 use Rattle.num.specs.Refusals.{unless}
 use Rattle.passes.specs.Flow.{Flow}
 use Rattle.passes.specs.Painted.{Painted, painted}
-use Rattle.chain.specs.Agree.{SameCall, frames, resets, switches-to, steps, lent, Lends}
+use Rattle.chain.specs.Agree.{SameFirst, SameCall, frames, resets, switches-to, steps, lent, Lends}
 use Rattle.cards.specs.Answers.{Report, acceptance, ok, reply, refusing}
 use Rattle.chain.specs.Agree.{on, takes, ends}
 use Rattle.cards.specs.Alike.{chainOf}

@@ -3,12 +3,13 @@
 use Prim.Native.Nat.{ℕ, suc, _+_, _*_, _≤_, zero-le}
 use native.Mathlib.Omega.{arith}
 use mathlib.Core.Path.{_≡_, refl, sym, ap, subst, _∙_}
-use mathlib.Core.Bool.{false}
+use mathlib.Core.Bool.{false, not}
 use mathlib.Core.List.{List, [], _∷_}
 use denote.Enum.Declared.{tagOf}
-use lib.Dec.{eqb}
+use lib.Dec.{T, eqb}
 use lib.Ieee.{Float}
 use lib.ListN.{length}
+use mir.Val.{hasKey}
 use types.Run.{OneOf, miss}
 use Rattle.num.specs.Held.{sized}
 use Rattle.passes.specs.Flow.{Flow}
@@ -27,7 +28,7 @@ use Rattle.passes.specs.Plain.Crt.{crt}
 use Rattle.passes.specs.Plain.Vignette.{vignette}
 use Rattle.passes.specs.Plain.Scanlines.{scanlines}
 use Rattle.chain.specs.Calls.{next, steppedPass, presetOf}
-use Rattle.chain.specs.Chain.{wash, over, overBy, depthOf}
+use Rattle.chain.specs.Chain.{wash, over, overBy, depthOf, reads}
 use Rattle.cards.specs.Passes.{kindOf}
 use Rattle.cards.specs.declared.station.Pass.{Pass}
 use Rattle.cards.specs.declared.station.Pass.the-variants.{Ntsc, Bloom, AutoGradient, Persistence, Lut, Curvature}
@@ -148,6 +149,20 @@ stepped-kind = by-preset (λ p. kindOf (steppedPass p) ≡ kindOf p) (λ preset 
 pub steps : (p : Pass) {preset new : ℕ} {strength : Float} → p ≡ Lut preset strength → new ≡ next preset → Lut new strength ≡ steppedPass p
 steps p {strength = strength} e n = ap (λ (k : ℕ). Lut k strength) n ∙ ap steppedPass (sym e)
 
+-- ## Colour, or a pass that reads no curve
+
+pub no-curve : (p : Pass) → (kindOf p ≡ 7 → ⊥) → reads p ≡ false
+no-curve (Ntsc strength bleed) n = refl
+no-curve (Bloom threshold strength radius) n = refl
+no-curve (AutoGradient strength vertical horizontal) n = refl
+no-curve (Persistence amount depth) n = refl
+no-curve (Lut preset strength) n = refl
+no-curve (Curvature amount) n = refl
+no-curve (ColorCorrection brightness contrast saturation gamma) n = absurd (n refl)
+no-curve (Crt strength) n = refl
+no-curve (Vignette strength) n = refl
+no-curve (Scanlines strength) n = refl
+
 -- ## What the other arm of a `match` tells
 
 -- the kinds stand in the order of the enum's cases
@@ -163,19 +178,20 @@ tag-kind (Crt strength) = refl
 tag-kind (Vignette strength) = refl
 tag-kind (Scanlines strength) = refl
 
--- a pass of the cases that are left is no persistence, and no LUT
-pub not-persistence : (p : Pass) → OneOf (0 ∷ 1 ∷ 2 ∷ 4 ∷ 5 ∷ 6 ∷ 7 ∷ 8 ∷ 9 ∷ []) (tagOf the-type p) → kindOf p ≡ 4 → ⊥
-not-persistence p t e =
-    let tag : tagOf the-type p ≡ 3 = omega (arith, tag-kind p) in
-    miss others 3 tt (subst (OneOf others) tag t)
-  where
-    others : List ℕ
-    others = 0 ∷ 1 ∷ 2 ∷ 4 ∷ 5 ∷ 6 ∷ 7 ∷ 8 ∷ 9 ∷ []
+-- a pass of the cases that are left has not that kind
+abbrev Not : (others : List ℕ) → (kind : ℕ) → Type 0
+Not others kind = (p : Pass) → OneOf others (tagOf the-type p) → kindOf p ≡ kind → ⊥
 
-pub not-lut : (p : Pass) → OneOf (0 ∷ 1 ∷ 2 ∷ 3 ∷ 5 ∷ 6 ∷ 7 ∷ 8 ∷ 9 ∷ []) (tagOf the-type p) → kindOf p ≡ 5 → ⊥
-not-lut p t e =
-    let tag : tagOf the-type p ≡ 4 = omega (arith, tag-kind p) in
-    miss others 4 tt (subst (OneOf others) tag t)
-  where
-    others : List ℕ
-    others = 0 ∷ 1 ∷ 2 ∷ 3 ∷ 5 ∷ 6 ∷ 7 ∷ 8 ∷ 9 ∷ []
+not-among : (others : List ℕ) (tag : ℕ) → T (not (hasKey others tag)) → Not others (suc tag)
+not-among others tag out p t e =
+    let here : tagOf the-type p ≡ tag = omega (arith, tag-kind p) in
+    miss others tag out (subst (OneOf others) here t)
+
+pub not-persistence : Not (0 ∷ 1 ∷ 2 ∷ 4 ∷ 5 ∷ 6 ∷ 7 ∷ 8 ∷ 9 ∷ []) 4
+not-persistence = not-among (0 ∷ 1 ∷ 2 ∷ 4 ∷ 5 ∷ 6 ∷ 7 ∷ 8 ∷ 9 ∷ []) 3 tt
+
+pub not-lut : Not (0 ∷ 1 ∷ 2 ∷ 3 ∷ 5 ∷ 6 ∷ 7 ∷ 8 ∷ 9 ∷ []) 5
+not-lut = not-among (0 ∷ 1 ∷ 2 ∷ 3 ∷ 5 ∷ 6 ∷ 7 ∷ 8 ∷ 9 ∷ []) 4 tt
+
+pub not-colour : Not (0 ∷ 1 ∷ 2 ∷ 3 ∷ 4 ∷ 5 ∷ 7 ∷ 8 ∷ 9 ∷ []) 7
+not-colour = not-among (0 ∷ 1 ∷ 2 ∷ 3 ∷ 4 ∷ 5 ∷ 7 ∷ 8 ∷ 9 ∷ []) 6 tt

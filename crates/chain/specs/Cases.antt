@@ -1,18 +1,19 @@
--- The cases of the refusals of the calls, of what a frame reports, and of turned frames. Each list pairs what a definition gives with
+-- The cases of the refusals of the calls, of what a frame reports, of frames with a curve, and of turned frames. Each list pairs what a definition gives with
 -- what it should give, and one proof by computation holds the whole list. Assumes nothing.
 use Prim.Native.Nat.{ℕ}
 use mathlib.Core.Bool.{Bool, true, false}
 use mathlib.Core.List.{List, [], _∷_, map}
 use mathlib.Core.Path.{refl}
-use lib.Ieee.{ofBits, ofInt, add, sub, mul, div, lt, eq, ne, neg}
+use lib.Ieee.{Float, nan, binary32, ofBits, ofInt, add, sub, mul, div, lt, le, eq, ne, neg}
 use Rattle.num.specs.Cases.{Hold}
-use Rattle.num.specs.Const.{c0·0, c0·30, c0·5, c1·0}
+use Rattle.num.specs.Const.{c0·0, c0·30, c0·5, c1·0, c2·0}
 use Rattle.num.specs.Held.{Held, nothing, sized, sameHeld, fineHeld}
 use Rattle.num.specs.Refusals.{badSide, unless}
 use Rattle.num.specs.Rewrite.{rewrite}
 use Rattle.num.specs.Steps.{clampOf, cutOf}
 use Rattle.num.specs.Sums.{sum}
 use Rattle.passes.specs as Text
+use Rattle.passes.specs.Cases.{times}
 use Rattle.passes.specs.Fold.{fold}
 use Rattle.passes.specs.Painted.{converted}
 use Rattle.passes.specs.Plain.Persistence as Persistence
@@ -106,6 +107,49 @@ unfolding frameReplyBy unless shownBy stops badSide goodStation fineHeld sameHel
     Text.Persistence.add Text.Persistence.mix Text.Persistence.blend Persistence.copies Persistence.refilled
     Persistence.shifted
 reports-hold = refl
+
+-- Frames with a curve (request P3): of one word, with all that is lent but the curve. Gamma 1.0 needs none, whatever is lent. At gamma 2, on or off, 255
+-- words are too few, and one step above 1 is bad (16), but not past the 256 words that are read. Scratch is asked for first (11).
+abbrev tinted : Bool → Float → Station
+tinted on gamma = stationOf (record { on = on; pass = ColorCorrection c0·0 c1·0 c1·0 gamma } ∷ [])
+
+abbrev above : Float
+above = ofBits binary32 0x3f80_0001
+
+abbrev curveStops : Bool → Float → List Float → ℕ
+curveStops on gamma curve = stops (tinted on gamma) 1 1 1 0 6 1 curve
+
+abbrev pub curved : List (ℕ × ℕ)
+curved =
+    (curveStops true c1·0 [], 0)
+    ∷ (curveStops true c1·0 (nan ∷ []), 0)
+    ∷ (curveStops true c2·0 (times 255 c0·0 []), 16)
+    ∷ (curveStops false c2·0 (times 255 c0·0 []), 16)
+    ∷ (curveStops true c2·0 (times 256 c0·0 []), 0)
+    ∷ (curveStops true c2·0 (times 255 c0·0 (above ∷ [])), 16)
+    ∷ (curveStops false c2·0 (times 255 c0·0 (above ∷ [])), 16)
+    ∷ (curveStops true c2·0 (times 256 c0·0 (above ∷ [])), 0)
+    ∷ (stops (tinted true c2·0) 1 1 1 0 6 0 [], 11)
+    ∷ []
+
+pub curved-hold : Hold curved
+unfolding times stops badSide goodStation fineHeld sameHeld normalChain normalPass settled persists depth readsCurve Text.ColorCorrection.curved
+    Text.ColorCorrection.goodCurve Text.ColorCorrection.allInUnit Text.ColorCorrection.inUnit ofBits lt le eq ne neg
+curved-hold = refl
+
+-- a white pixel under a curve of zeros, colour on and off; the framebuffer's second word is past the frame
+abbrev pub tints : List (List ℕ × List ℕ)
+tints =
+    (frameReply 1 1 (tinted true c2·0) white [] 6 1 (times 256 c0·0 []) .words, 0 ∷ 0xffffff ∷ [])
+    ∷ (frameReply 1 1 (tinted false c2·0) white [] 6 1 (times 256 c0·0 []) .words, white)
+    ∷ []
+
+pub tints-hold : Hold tints
+unfolding times frameReplyBy unless shownBy stops badSide goodStation fineHeld sameHeld normalChain normalPass settled persists depth readsCurve
+    Text.ColorCorrection.goodCurve Text.ColorCorrection.allInUnit Text.ColorCorrection.inUnit fold turnBy overBy wash ofBits ofInt add sub mul div
+    neg lt le eq ne clampOf cutOf rewrite sum converted Text.Pixel.pack Text.Pixel.packUnit Text.Pixel.clip Text.Pixel.clips Text.Pixel.luma709
+    Text.ColorCorrection.colorCorrection Text.ColorCorrection.curved Text.ColorCorrection.start Text.ColorCorrection.colour
+tints-hold = refl
 
 -- Turned frames (request P1). Persistence 0.5 of depth 1, frames of two words, upright (1 by 2) and turned (2 by 1). A black frame shows
 -- the white one before it as 555555; turned, it is shown unaltered. A turn and back: each begins anew. Two stations, one of which was

@@ -1,7 +1,9 @@
 // What the calls refuse: a number of document 01's table, 0 for none.
 ghost use mathlib.Core.Path.{_≡_};
+ghost use mathlib.Core.Bool.{not, _&&_};
 ghost use Prim.Native.Nat.{_≤_, _*_};
 ghost use lib.ListN.{take};
+ghost use Rattle.passes.specs.ColorCorrection.{goodCurve};
 ghost use Rattle.chain.specs.Chain.{depthOf, depth as depthIn, reads as readsBy, readsCurve};
 ghost use Rattle.chain.specs.Calls.{stops as stopsBy, lacks as lacksAt};
 use cards::check::is_good;
@@ -71,6 +73,14 @@ pub(crate) fn reads_curve(records: [Record; 10], n: usize) -> bool
     false
 }
 
+// Whether the first n records read a curve and this one cannot be read.
+pub(crate) fn lacks_curve(records: [Record; 10], n: usize, curve: &[f32]) -> bool
+    requires { ⌜ n ≤ 10 ⌝ }
+    ensures { λ r. ⌜ r ≡ (readsCurve (take n records) && not (goodCurve (now (curve .entry)))) ⌝ }
+{
+    reads_curve(records, n) && !is_good_curve(curve)
+}
+
 // Of a frame, by the curve and the lengths of all else that is lent: what `apply` would refuse it by. Nothing is changed, so a caller
 // may ask before it writes the frame's words.
 pub fn stops(
@@ -109,10 +119,8 @@ pub fn stops(
     if ints < count {
         return 11;
     }
-    if reads_curve(records, n) {
-        if !is_good_curve(curve) {
-            return 16;
-        }
+    if lacks_curve(records, n, curve) {
+        return 16;
     }
     0
 }
