@@ -7,6 +7,7 @@ ghost use Rattle.chain.specs.Answers.{reportedFrame};
 ghost use Rattle.frames.specs.Frames.{Room, Filters, showsOf, filteredOf, outcomeOf, numberOf, faultOf};
 
 pub mod area; // a rectangle in words
+pub mod curve; // the curve that a file holds
 pub mod judge; // the totals of rectangles of the frame that a file holds
 
 use cards::station::Station;
