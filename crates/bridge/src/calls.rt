@@ -95,8 +95,8 @@ pub extern "C" fn hedgemallow_apply(
     clipped: &mut [u32; 1],
 ) -> u32
     ensures { λ r. ⌜ Frames width height (now (state .entry)) (now (framebuffer .entry)) (now (history .entry)) (now (floats .entry)) (now (ints .entry))
-        (now (curve .entry)) (now (clipped .entry)) r (now (state .exit)) (now (framebuffer .exit)) (now (history .exit)) (now (floats .exit)) (now (ints .exit))
-        (now (clipped .exit)) ⌝ }
+        (now (curve .entry)) (now (clipped .entry)) r (now (state .exit)) (now (framebuffer .exit)) (now (history .exit)) (now (floats .exit))
+        (now (ints .exit)) (now (clipped .exit)) ⌝ }
 {
     let opened = decode(*state);
     let answer = opened.answer;

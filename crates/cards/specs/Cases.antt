@@ -109,5 +109,6 @@ written =
 
 pub written-hold : Hold written
 unfolding openOf stationAt headerAt fieldAt valueAt refuseIf recordsAt endAt endsAt recordAt passAt persistenceAt colorCorrectionAt scanlinesAt countAt
-    limitedAt withinAt raisedAt finiteAt ofBits toBits lt eq neg limitOf plusZeroOf clampOf cardOf chainCard pack valueOf chainBits recordsBits recordBits passBits bits
+    limitedAt withinAt raisedAt finiteAt ofBits toBits lt eq neg limitOf plusZeroOf clampOf cardOf chainCard pack valueOf chainBits recordsBits recordBits
+    passBits bits
 written-hold = refl

@@ -110,7 +110,8 @@ pub reports-hold : Hold reports
 unfolding frameReplyBy unless shownBy stops badSide goodStation fineHeld sameHeld normalChain normalPass settled persists depth readsCurve fold turnBy
     overBy wash ofBits ofInt add sub mul div neg lt clampOf cutOf rewrite sum converted Text.Pixel.unpack Text.Pixel.unit Text.Pixel.pack
     Text.Pixel.packClamped Text.Pixel.packUnit Text.Pixel.clip Text.Pixel.clips Text.Pixel.dim Text.Pixel.luma709
-    Text.ColorCorrection.colorCorrection Text.ColorCorrection.curved Text.ColorCorrection.start Text.ColorCorrection.colour eq ne Text.Lut.lut Text.Lut.colour Text.Lut.transform
+    Text.ColorCorrection.colorCorrection Text.ColorCorrection.curved Text.ColorCorrection.start Text.ColorCorrection.colour eq ne
+    Text.Lut.lut Text.Lut.colour Text.Lut.transform
     Text.Scanlines.scanlines Text.Scanlines.inRow Text.Persistence.persistence Text.Persistence.decay Text.Persistence.total
     Text.Persistence.add Text.Persistence.mix Text.Persistence.blend Persistence.copies Persistence.refilled
     Persistence.shifted

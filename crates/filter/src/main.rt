@@ -18,7 +18,11 @@ use libc::STDERR_FILENO;
 fn usage() {
     io::write_all(
         STDERR_FILENO,
-        b"usage: filter [--clipped] [--curve FILE] CARD FRAME..   (a card as a file or in hexadecimal; frames as binary PPM, up to 61440 pixels; a curve as 256 binary32)\n",
+        b"usage: filter [--clipped] [--curve FILE] CARD FRAME..   (a card as a file or in hexadecimal; ",
+    );
+    io::write_all(
+        STDERR_FILENO,
+        b"frames as binary PPM, up to 61440 pixels; a curve as 256 binary32)\n",
     );
 }
 

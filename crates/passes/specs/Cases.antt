@@ -126,7 +126,8 @@ pub clipped-hold : Hold clipped
 unfolding ofBits ofInt add sub mul div neg lt le clampOf absOf cutOf rewrite fold sum converted sameHeld
     Text.Pixel.unpack Text.Pixel.unit Text.Pixel.pack Text.Pixel.packClamped Text.Pixel.packUnit Text.Pixel.clip Text.Pixel.clips
     Text.Pixel.channel Text.Pixel.luma601 Text.Pixel.luma709 Text.Position.position Text.ColorCorrection.colorCorrection
-    Text.ColorCorrection.curved Text.ColorCorrection.start Text.ColorCorrection.colour eq ne Text.Lut.lut Text.Lut.colour Text.Lut.transform Text.AutoGradient.autoGradient
+    Text.ColorCorrection.curved Text.ColorCorrection.start Text.ColorCorrection.colour eq ne
+    Text.Lut.lut Text.Lut.colour Text.Lut.transform Text.AutoGradient.autoGradient
     Text.AutoGradient.shaded Text.AutoGradient.adaptive Text.AutoGradient.addLuma Text.AutoGradient.warm Text.AutoGradient.fall
     Text.AutoGradient.brightness Text.AutoGradient.shade Text.Blur.weight Text.Blur.total Text.Bloom.bloom Text.Bloom.bright
     Text.Bloom.composite Text.Ntsc.ntsc Text.Ntsc.pixel Text.Ntsc.chroma Text.Persistence.persistence Text.Persistence.decay

@@ -112,8 +112,8 @@ fn paint(
     gamma: f32,
 )
     requires { ⌜ Text.Enough gamma (now curve) ⌝ }
-    ensures { λ _. ⌜ now (frame .exit) ≡ everyUnit (λ i. ColorCorrection.colour (ColorCorrection.start (now (curve .entry)) gamma) brightness contrast saturation)
-        (now (frame .entry)) ⌝ }
+    ensures { λ _. ⌜ now (frame .exit)
+        ≡ everyUnit (λ i. ColorCorrection.colour (ColorCorrection.start (now (curve .entry)) gamma) brightness contrast saturation) (now (frame .entry)) ⌝ }
 {
     if is_curved(gamma) {
         by_curve(frame, curve, brightness, contrast, saturation);

@@ -29,7 +29,8 @@ unit-within (inf false) h = false-true h
 unit-within (inf true) h = false-true h
 unit-within (fin false m e) h =
     within-plus 1 m e
-    (let l : m * up e * 1 ≤ 1 * down e = tests-le (m * up e * 1) (1 * down e) true (subst T (sym (both (le c0·0 (fin false m e)) (le (fin false m e) c1·0) h .1)) tt) in omega arith)
+    (let l : m * up e * 1 ≤ 1 * down e =
+    tests-le (m * up e * 1) (1 * down e) true (subst T (sym (both (le c0·0 (fin false m e)) (le (fin false m e) c1·0) h .1)) tt) in omega arith)
 unit-within (fin true m e) h =
     zero-value 1 (fin true m e) true 1 (lit< tt)
     (refl, (let l : 0 * down e ≡ m * up e * 1 = eqb-true (0 * down e) (m * up e * 1) (both _ _ (both _ _ h .0) .0) in omega arith))
