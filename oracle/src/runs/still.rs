@@ -10,6 +10,8 @@ use crate::random::Random;
 use crate::steps::Mode;
 use crate::tally::RunTally;
 
+use super::station::float_room;
+
 /// What a picture shows beside its frame.
 #[derive(Clone, Copy, PartialEq, Debug)]
 pub enum Shown {
