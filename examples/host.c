@@ -15,6 +15,8 @@ static const char *const names[] = {"", "NTSC", "bloom", "gradient", "persistenc
                                     "scanlines"};
 static uint32_t frame[COUNT], history[DEPTH * COUNT], ints[COUNT];
 static float floats[6 * COUNT];
+/* The card has no colour, so no word of a curve is read: its length is 0. */
+static const float curve[1];
 
 static void paint(uint32_t number) {
     for (uint32_t y = 0; y < HEIGHT; y++)
@@ -56,7 +58,7 @@ int main(void) {
         if (number == 3) preset = hedgemallow_cycle_lut(state);
         if (number == 4) hedgemallow_set_enabled(state, HEDGEMALLOW_SCANLINES, 0);
         answer = hedgemallow_apply(state, frame, COUNT, WIDTH, HEIGHT, history, hedgemallow_depth(state) * (size_t)COUNT,
-                                   floats, 6 * COUNT, ints, COUNT, clipped);
+                                   floats, 6 * COUNT, ints, COUNT, curve, 0, clipped);
         if (answer >= HEDGEMALLOW_REFUSED) {
             printf("the frame is refused: %u\n", (unsigned)(answer - HEDGEMALLOW_REFUSED));
             return 1;

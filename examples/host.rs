@@ -58,7 +58,8 @@ fn run() -> Result<(), Refusal> {
             4 => station.set_enabled(Kind::Scanlines, false)?,
             _ => {}
         }
-        clipped += station.apply(&mut frame, WIDTH, HEIGHT, &mut history, &mut floats, &mut ints)?;
+        // The card has no colour, so it reads no curve.
+        clipped += station.apply(&mut frame, WIDTH, HEIGHT, &mut history, &mut floats, &mut ints, &[])?;
     }
     let length = station.write(&mut [0; 72])?;
     let mut totals = [0; 3];

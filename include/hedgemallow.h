@@ -23,12 +23,21 @@
  *     framebuffer  count words, one pixel each, 0xRRGGBB, row after row; the top byte may be set: a pass
  *                  that rewrites a pixel clears it, and what no pass rewrites keeps it (the even rows
  *                  under scanlines, for one)
- *     history      hedgemallow_depth(state) * count words: the same ones at each frame
+ *     history      hedgemallow_depth(state) * count words: the same ones at each frame, at first with
+ *                  anything in them
  *     floats       6 * count words of scratch, whatever they hold
  *     ints         count words of scratch, whatever they hold
+ *     curve        HEDGEMALLOW_CURVE words, each in 0..1, where the card has colour with a gamma other
+ *                  than 1, on or off; with every other card no word of it is read, and its length may
+ *                  be 0
  * Longer ones are taken: the words past these are neither read nor changed, except that the length
  * decides a refusal. The history's words belong to the station between its frames. A frame of another
  * width or height than the one before it begins the history anew: one that is turned, too.
+ *
+ * The curve. Where gamma is not 1, colour begins with word k of the curve for a channel k, 0 to 255, in
+ * place of k/255: that word is meant to be k/255 to the power gamma. It is data, since the powf of two
+ * machines need not agree in the last bit, and then their pictures may differ. A league that wants equal
+ * pictures hands out the curve with the card, as words.
  *
  * Areas. A rectangle of a picture is four numbers of a list: left, top, width, height. It has three
  * totals: the sums of its words' red, green and blue bytes.
@@ -73,28 +82,34 @@ extern "C" {
 #define HEDGEMALLOW_SIDE 1024
 #define HEDGEMALLOW_DEPTH 8
 
+/* The words of a curve: one for each number that a channel may be. */
+#define HEDGEMALLOW_CURVE 256
+
 /* The answer of a refusal is this and the refusal's number. */
 #define HEDGEMALLOW_REFUSED 256
 
-/* The refusals, in the words of documents 01 and 02. */
+/* The refusals. Beside each are its number, its word, for a front end, and when it is given. */
 enum hedgemallow_refusal {
-    HEDGEMALLOW_TORN_CARD = 257,         /* 1: a field's bits run past the end */
-    HEDGEMALLOW_FOREIGN_CARD = 258,      /* 2: version not 1 */
-    HEDGEMALLOW_OVERFULL_CARD = 259,     /* 3: more than 10 passes */
-    HEDGEMALLOW_UNKNOWN_PASS = 260,      /* 4: kind 0 or 11 to 15 */
-    HEDGEMALLOW_DOUBLED_PASS = 261,      /* 5: kind already read */
-    HEDGEMALLOW_BAD_SETTING = 262,       /* 6: a setting out of range */
-    HEDGEMALLOW_LONG_CARD = 263,         /* 7: a padding bit set, or a byte left over */
-    HEDGEMALLOW_BAD_SIZE = 264,          /* 8: width or height 0 or above 1024 */
-    HEDGEMALLOW_SHORT_FRAME = 265,       /* 9: framebuffer below count */
-    HEDGEMALLOW_SHORT_HISTORY = 266,     /* 10: history below depth * count, persistence on or off */
-    HEDGEMALLOW_SHORT_SCRATCH = 267,     /* 11: floats below 6 * count, or ints below count */
-    HEDGEMALLOW_NOT_IN_CHAIN = 268,      /* 12: the pass of the call is not in the chain */
-    HEDGEMALLOW_BAD_STATION = 269,       /* 13: the bytes are no state */
-    HEDGEMALLOW_SHORT_CARD_BUFFER = 270, /* 14: fewer bytes than the card */
-    HEDGEMALLOW_PASS_OUT_OF_ORDER = 271, /* 15: kind below the one before it */
-    HEDGEMALLOW_BAD_AREA = 275           /* 19: more than 64 areas, a list of another length than four for
-                                            each, an area that leaves the picture, or too few totals */
+    HEDGEMALLOW_TORN_CARD = 257,         /* 1, torn card: a field's bits run past the end */
+    HEDGEMALLOW_FOREIGN_CARD = 258,      /* 2, foreign card: version not 1 */
+    HEDGEMALLOW_OVERFULL_CARD = 259,     /* 3, overfull card: more than 10 passes */
+    HEDGEMALLOW_UNKNOWN_PASS = 260,      /* 4, unknown pass: kind 0 or 11 to 15 */
+    HEDGEMALLOW_DOUBLED_PASS = 261,      /* 5, doubled pass: kind already read */
+    HEDGEMALLOW_BAD_SETTING = 262,       /* 6, bad setting: a setting out of range */
+    HEDGEMALLOW_LONG_CARD = 263,         /* 7, long card: a padding bit set, or a byte left over */
+    HEDGEMALLOW_BAD_SIZE = 264,          /* 8, bad size: width or height 0 or above 1024 */
+    HEDGEMALLOW_SHORT_FRAME = 265,       /* 9, short frame: framebuffer below count */
+    HEDGEMALLOW_SHORT_HISTORY = 266,     /* 10, short history: history below depth * count, persistence on or off */
+    HEDGEMALLOW_SHORT_SCRATCH = 267,     /* 11, short scratch: floats below 6 * count, or ints below count */
+    HEDGEMALLOW_NOT_IN_CHAIN = 268,      /* 12, not in chain: the pass of the call is not in the chain */
+    HEDGEMALLOW_BAD_STATION = 269,       /* 13, bad station: the bytes are no state */
+    HEDGEMALLOW_SHORT_CARD_BUFFER = 270, /* 14, short card buffer: fewer bytes than the card */
+    HEDGEMALLOW_PASS_OUT_OF_ORDER = 271, /* 15, pass out of order: kind below the one before it */
+    HEDGEMALLOW_BAD_CURVE = 272,         /* 16, bad curve: the card reads a curve, and it has fewer than
+                                            256 words or one of the first 256 is not in 0..1 */
+    HEDGEMALLOW_BAD_AREA = 275           /* 19, bad area: more than 64 areas, a list of another length than
+                                            four for each, an area that leaves the picture, or too few
+                                            totals */
 };
 
 /* The kinds of passes, as a card, hedgemallow_set_enabled and hedgemallow_enabled name them. On a card they ascend.
@@ -133,11 +148,12 @@ uint32_t hedgemallow_write(const uint8_t state[HEDGEMALLOW_STATE], uint8_t *buff
 /* A frame: the passes that are on, by ascending kind, over the first count words of the
    framebuffer. clipped[0] is how many channels their final conversions clipped, since they lay
    strictly below 0 or strictly above the top end, added up over the passes: no part of the answer,
-   since it may be above 255. Refusals 13, 8, 9, 10, 11, in that order. */
+   since it may be above 255. The curve is only read, and only where colour has a gamma other than 1.
+   Refusals 13, 8, 9, 10, 11, 16, in that order. */
 uint32_t hedgemallow_apply(uint8_t state[HEDGEMALLOW_STATE], uint32_t *framebuffer, size_t framebuffer_len,
                            size_t width, size_t height, uint32_t *history, size_t history_len,
                            float *floats, size_t floats_len, uint32_t *ints, size_t ints_len,
-                           uint32_t clipped[1]);
+                           const float *curve, size_t curve_len, uint32_t clipped[1]);
 
 /* Forgets what the history holds; its words stay. Refusals 13, 12. */
 uint32_t hedgemallow_reset(uint8_t state[HEDGEMALLOW_STATE]);

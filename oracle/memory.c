@@ -15,6 +15,7 @@ static const uint8_t *next;
 static uint8_t *state;
 static uint32_t *history; /* for frames of `count` words; a frame of another count is of another size, and fills it anew */
 static size_t count;
+static FILE *nowhere; /* what is shown there is looked at by valgrind, and by nobody else */
 
 static void *room(size_t bytes) {
     void *block = malloc(bytes);
@@ -47,6 +48,47 @@ static int told(char letter, uint32_t answer) {
     return 1;
 }
 
+/* A frame and what is lent to it. */
+struct frame {
+    size_t width, height, words, places;
+    uint32_t *picture, *ints, *clipped;
+    float *floats;
+};
+
+static uint32_t apply(const struct frame *f, const float *curve, size_t length) {
+    return hedgemallow_apply(state, f->picture, f->words, f->width, f->height, history, f->places, f->floats, 6 * f->words, f->ints, f->words, curve, length,
+                             f->clipped);
+}
+
+static void show(FILE *to, const struct frame *f) {
+    fprintf(to, "F");
+    for (size_t i = 0; i < f->words; i++) fprintf(to, " %06X", (unsigned)f->picture[i]);
+    fprintf(to, "\n");
+}
+
+/* A frame that program `station`, which lends no curve, refuses: with a curve of so many words, of which nobody wrote those past 256. The
+   station forgets it again. */
+static void with_curve(const struct frame *f, size_t length) {
+    float *curve = room(length * sizeof *curve);
+    for (size_t k = 0; k < 256; k++) curve[k] = (float)k / 255.0f;
+    if (apply(f, curve, length)) printf("a curve of %u words is refused\n", (unsigned)length);
+    show(nowhere, f);
+    hedgemallow_reset(state);
+    free(curve);
+}
+
+/* Prints the picture, or the refusal of a frame that needs a curve. */
+static void tell(const struct frame *f) {
+    float *curve = room(0);
+    if (apply(f, curve, 0) == HEDGEMALLOW_BAD_CURVE) {
+        with_curve(f, 256);
+        with_curve(f, 300);
+        refused(HEDGEMALLOW_BAD_CURVE - HEDGEMALLOW_REFUSED);
+    } else
+        show(stdout, f);
+    free(curve);
+}
+
 static int frame(void) {
     const uint8_t *size = take(2), *pixels;
     if (!size) return refused(1);
@@ -60,20 +102,15 @@ static int frame(void) {
         history = room(places * sizeof *history);
         count = words;
     }
-    uint32_t *picture = room(words * sizeof *picture), *ints = room(words * sizeof *ints);
-    float *floats = room(6 * words * sizeof *floats);
+    struct frame f = {width, height, words, places, room(words * 4), room(words * 4), room(4), room(6 * words * 4)};
     for (size_t i = 0; i < words; i++)
-        picture[i] = (uint32_t)pixels[3 * i] << 16 | (uint32_t)pixels[3 * i + 1] << 8 | pixels[3 * i + 2];
-    uint32_t *clipped = room(sizeof *clipped);
-    uint32_t answer = hedgemallow_apply(state, picture, words, width, height, history, places, floats, 6 * words, ints, words, clipped);
-    printf("F");
-    for (size_t i = 0; i < words; i++) printf(" %06X", (unsigned)picture[i]);
-    printf("\n");
-    free(picture);
-    free(ints);
-    free(floats);
-    free(clipped);
-    return answer == 0;
+        f.picture[i] = (uint32_t)pixels[3 * i] << 16 | (uint32_t)pixels[3 * i + 1] << 8 | pixels[3 * i + 2];
+    tell(&f);
+    free(f.picture);
+    free(f.ints);
+    free(f.clipped);
+    free(f.floats);
+    return 1;
 }
 
 static int change(void) {
@@ -126,6 +163,7 @@ static void play(void) {
 }
 
 int main(int number, char **names) {
+    if (!(nowhere = fopen("/dev/null", "w"))) return 2;
     for (int i = 1; i < number; i++) {
         FILE *file = fopen(names[i], "rb");
         if (!file) return 2;
@@ -134,5 +172,6 @@ int main(int number, char **names) {
         fclose(file);
         play();
     }
+    fclose(nowhere);
     return 0;
 }

@@ -38,6 +38,7 @@ pub struct Lent<'a> {
     pub history: &'a mut [u32],
     pub floats: &'a mut [f32],
     pub ints: &'a mut [u32],
+    pub curve: &'a [f32],
 }
 
 // What is safe of a call is the same for all: each buffer is a slice or an array of its own, goes with its own
@@ -70,6 +71,8 @@ pub fn apply(state: &mut State, width: usize, height: usize, lent: Lent) -> Answ
             lent.floats.len(),
             lent.ints.as_mut_ptr(),
             lent.ints.len(),
+            lent.curve.as_ptr(),
+            lent.curve.len(),
             clipped.as_mut_ptr(),
         )
     });

@@ -79,6 +79,7 @@ struct Rooms {
     history: Room,
     floats: Room,
     ints: Room,
+    curve: Room,
 }
 
 thread_local! {
@@ -89,6 +90,7 @@ thread_local! {
         history: Room::new(),
         floats: Room::new(),
         ints: Room::new(),
+        curve: Room::new(),
     });
 }
 
@@ -152,13 +154,16 @@ pub fn apply(state: &mut State, width: usize, height: usize, lent: Lent) -> Answ
         let history = rooms.history.lay(lent.history, guard);
         let floats = rooms.floats.lay(lent.floats, guard);
         let ints = rooms.ints.lay(lent.ints, guard);
+        let curve = rooms.curve.lay(lent.curve, guard);
         let laid = Lent {
             framebuffer: &mut *framebuffer,
             history: &mut *history,
             floats: &mut *floats,
             ints: &mut *ints,
+            curve: &*curve,
         };
         let answer = plain::apply(copy, width, height, laid);
+        assert!(bits(curve) == bits(lent.curve), "the curve was written");
         let left = [
             framebuffer.to_vec(),
             history.to_vec(),

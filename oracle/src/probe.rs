@@ -50,9 +50,12 @@ mod exports {
         pub fn probe_color_correction(
             frame: *mut u32,
             frame_len: usize,
+            curve: *const f32,
+            curve_len: usize,
             brightness: f32,
             contrast: f32,
             saturation: f32,
+            gamma: f32,
         ) -> u32;
         pub fn probe_crt(
             frame: *mut u32,
@@ -276,12 +279,31 @@ pub fn bloom(
     }
 }
 
-pub fn color_correction(frame: &mut [u32], brightness: f32, contrast: f32, saturation: f32) -> u32 {
+pub fn color_correction(
+    frame: &mut [u32],
+    curve: &[f32],
+    brightness: f32,
+    contrast: f32,
+    saturation: f32,
+    gamma: f32,
+) -> u32 {
     assert_lendable(frame.as_ptr(), frame.len());
+    assert_lendable(curve.as_ptr(), curve.len());
     assert!(frame.len() <= 1024 * 1024);
-    let (start, len) = (frame.as_mut_ptr(), frame.len());
+    assert!(gamma == 1.0 || curve.len() >= 256);
     // SAFETY: as said of the passes.
-    unsafe { exports::probe_color_correction(start, len, brightness, contrast, saturation) }
+    unsafe {
+        exports::probe_color_correction(
+            frame.as_mut_ptr(),
+            frame.len(),
+            curve.as_ptr(),
+            curve.len(),
+            brightness,
+            contrast,
+            saturation,
+            gamma,
+        )
+    }
 }
 
 pub fn crt(frame: &mut [u32], width: usize, height: usize, strength: f32) {

@@ -324,13 +324,14 @@ fn pairs(
 }
 
 /// The ends that settings are limited to.
-const LIMITS: [(f32, f32); 5] = [(0.0, 1.0), (0.0, 0.95), (0.0, 0.5), (0.0, 4.0), (-1.0, 1.0)];
+const LIMITS: [(f32, f32); 6] = [(0.0, 1.0), (0.0, 0.95), (0.0, 0.5), (0.0, 4.0), (0.01, 4.0), (-1.0, 1.0)];
 
 fn limit(boundaries: &[f32]) -> Tally<3> {
     let mut tally = Tally::new("limit", &LIMIT);
     for (lo, hi) in LIMITS {
         for &x in boundaries {
-            let asked = if x == 0.0 && x.is_sign_negative() {
+            // Where 0 is below the low end, both zeros become that.
+            let asked = if x == 0.0 && x.is_sign_negative() && lo <= 0.0 {
                 Asked::Listed(0, 0.0)
             } else {
                 Asked::Rust(x.clamp(lo, hi))
@@ -343,9 +344,9 @@ fn limit(boundaries: &[f32]) -> Tally<3> {
 
 const LIMIT: [&str; 1] = ["-0 (here 0, Rust -0)"];
 
-/// Power with exponent 1.0, which is the operand itself here and needs no step. Rust does not promise
-/// how precise `powf` is, so its own result is what is compared, for all that the original raises:
-/// a channel divided by 255.
+/// Power with exponent 1.0, which is the operand itself here and needs no step; the powers with any other are lent as a curve. Rust
+/// does not promise how precise `powf` is, so its own result is what is compared, for all that the original raises: a channel divided
+/// by 255.
 fn power() -> Tally<1> {
     let mut tally = Tally::new("power 1.0", &[]);
     for k in 0..=255 {

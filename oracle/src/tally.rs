@@ -182,6 +182,8 @@ pub struct FrameTally {
     clipped: u64,
     /// The frames at which the original's memory is made to begin anew.
     turned: u64,
+    /// Those whose channels start from a curve.
+    curved: u64,
     different: u64,
     /// The first few differences, each with the place of its case.
     shown: Vec<(usize, String)>,
@@ -195,6 +197,7 @@ impl FrameTally {
             words: 0,
             clipped: 0,
             turned: 0,
+            curved: 0,
             different: 0,
             shown: Vec::new(),
         }
@@ -238,6 +241,15 @@ impl FrameTally {
         self.turned += 1;
     }
 
+    /// Counts a frame with a curve.
+    pub fn curve(&mut self) {
+        self.curved += 1;
+    }
+
+    pub fn curved(&self) -> u64 {
+        self.curved
+    }
+
     /// Holds the clipped channels that are reported here to those of the original.
     pub fn check_clipped(
         &mut self,
@@ -272,6 +284,7 @@ impl FrameTally {
         self.words += other.words;
         self.clipped += other.clipped;
         self.turned += other.turned;
+        self.curved += other.curved;
         self.different += other.different;
         self.shown.extend(other.shown);
         self.shown.sort_by_key(|&(at, _)| at);
@@ -604,7 +617,7 @@ pub struct RunTally {
     words: u64,
     history: u64,
     /// By the refusal's number.
-    refused: [u64; 15],
+    refused: [u64; 17],
     different: u64,
     /// The first few differences, each with the place of its run.
     shown: Vec<(usize, String)>,
@@ -619,7 +632,7 @@ impl RunTally {
             frames: 0,
             words: 0,
             history: 0,
-            refused: [0; 15],
+            refused: [0; 17],
             different: 0,
             shown: Vec::new(),
         }
@@ -804,6 +817,7 @@ pub struct Total {
     inputs: u64,
     calls: u64,
     turned: u64,
+    curved: u64,
     pub different: u64,
     /// What a comparison was to meet and did not.
     pub unmet: u64,
@@ -811,6 +825,9 @@ pub struct Total {
 
 /// In a list of the comparison at least so many frames have to be turned: else it shows little of them.
 const LEAST_TURNED: u64 = 150;
+
+/// And at least so many have to have a curve.
+const LEAST_CURVED: u64 = 150;
 
 impl Total {
     /// Prints a step's count and adds it.
@@ -883,6 +900,16 @@ impl Total {
             self.unmet += 1;
         }
     }
+
+    /// Prints how many frames of a list started their channels from a curve, and adds them.
+    pub fn add_curved(&mut self, curved: u64) {
+        println!("    curved frames: {curved}");
+        self.curved += curved;
+        if curved < LEAST_CURVED {
+            println!("    too few: less than {LEAST_CURVED}");
+            self.unmet += 1;
+        }
+    }
 }
 
 impl fmt::Display for Total {
@@ -896,6 +923,7 @@ impl fmt::Display for Total {
             inputs,
             calls,
             turned,
+            curved,
             different,
             unmet,
         } = self;
@@ -908,6 +936,9 @@ impl fmt::Display for Total {
         }
         if *turned > 0 {
             write!(f, ", {turned} turned frames")?;
+        }
+        if *curved > 0 {
+            write!(f, ", {curved} curved frames")?;
         }
         write!(
             f,

@@ -17,7 +17,8 @@
 //! let mut history = vec![0; station.history_words(width, height)?];
 //!
 //! let mut frame = [0x123456, 0x123456];
-//! station.apply(&mut frame, width, height, &mut history, &mut floats, &mut ints)?;
+//! // The last buffer is a curve, for cards with a gamma other than 1: this one has no colour, and reads none.
+//! station.apply(&mut frame, width, height, &mut history, &mut floats, &mut ints, &[])?;
 //! assert_eq!(frame, [0x123456, 0]);
 //!
 //! station.set_enabled(Kind::Scanlines, false)?;
@@ -46,6 +47,8 @@ pub(crate) mod exports {
             floats_len: usize,
             ints: *mut u32,
             ints_len: usize,
+            curve: *const f32,
+            curve_len: usize,
             clipped: *mut u32,
         ) -> u32;
         pub fn hedgemallow_reset(state: *mut u8) -> u32;
@@ -86,6 +89,7 @@ pub enum Refusal {
     BadStation,
     ShortCardBuffer,
     PassOutOfOrder,
+    BadCurve,
     BadArea,
     /// A number that this library does not give: one of a later table.
     Other(u32),
@@ -94,7 +98,7 @@ pub enum Refusal {
 use Refusal::*;
 
 /// With the papers' numbers and words.
-const REFUSALS: [(u32, Refusal, &str); 16] = [
+const REFUSALS: [(u32, Refusal, &str); 17] = [
     (1, TornCard, "torn card"),
     (2, ForeignCard, "foreign card"),
     (3, OverfullCard, "overfull card"),
@@ -110,6 +114,7 @@ const REFUSALS: [(u32, Refusal, &str); 16] = [
     (13, BadStation, "bad station"),
     (14, ShortCardBuffer, "short card buffer"),
     (15, PassOutOfOrder, "pass out of order"),
+    (16, BadCurve, "bad curve"),
     (19, BadArea, "bad area"),
 ];
 
@@ -262,6 +267,9 @@ pub const SIDE: usize = 1024;
 /// The most frames that a history has room for.
 pub const DEPTH: usize = 8;
 
+/// The words of a curve: one for each number that a channel may be.
+pub const CURVE: usize = 256;
+
 /// The version of these bindings: that of the header and of the library that is built beside them.
 pub const VERSION: &str = "0.1.0";
 
@@ -302,6 +310,12 @@ impl Station {
 
     /// A frame: the passes that are on, over the first width * height words of the framebuffer. The answer is how many channels
     /// their final conversions clipped. One of another width or height than the frame before it begins the history anew.
+    ///
+    /// The curve is read where the card has colour with a gamma other than 1, on or off: `BadCurve` tells that it has fewer than
+    /// [`CURVE`] words then, or that one of the first so many is not in 0..1. With every other card `&[]` will do. Colour begins
+    /// with word k of it for a channel k, in place of k/255. It is data, since the `powf` of two machines need not agree in the
+    /// last bit, and then their pictures may differ. A league that wants equal pictures hands it out with the card
+    /// ([`curve_from_bytes`]).
     pub fn apply(
         &mut self,
         framebuffer: &mut [u32],
@@ -310,6 +324,7 @@ impl Station {
         history: &mut [u32],
         floats: &mut [f32],
         ints: &mut [u32],
+        curve: &[f32],
     ) -> Result<u32, Refusal> {
         let mut clipped = [0];
         let answer = unsafe {
@@ -325,6 +340,8 @@ impl Station {
                 floats.len(),
                 ints.as_mut_ptr(),
                 ints.len(),
+                curve.as_ptr(),
+                curve.len(),
                 clipped.as_mut_ptr(),
             )
         };
@@ -435,6 +452,41 @@ pub fn scratch_words(width: usize, height: usize) -> Result<Scratch, Refusal> {
     Ok(Scratch { floats: 6 * ints, ints })
 }
 
+/// A curve as it is handed out, in the 1,024 bytes of the file that `filter --curve` takes: word after word, the least significant
+/// byte of each first.
+pub fn curve_from_bytes(bytes: &[u8; 4 * CURVE]) -> [f32; CURVE] {
+    let mut curve = [0.0; CURVE];
+    for (word, four) in curve.iter_mut().zip(bytes.chunks_exact(4)) {
+        *word = f32::from_le_bytes([four[0], four[1], four[2], four[3]]);
+    }
+    curve
+}
+
+/// The curve of a gamma, by the `powf` of the machine that this runs on: word k is k/255 to that power. A gamma below 0.01 is taken
+/// as 0.01, as a card has it. On another machine a word may come out another in its last bit, and then a picture may differ: a
+/// league that wants equal pictures works it out once, and hands out the words ([`curve_from_bytes`]).
+///
+/// ```
+/// # use hedgemallow::{power_curve, Refusal, Station};
+/// // Colour with brightness 0, contrast 1, saturation 1 and gamma 2, on.
+/// let card = [0x11, 0x78, 0, 0, 0, 0x01, 0xFC, 0, 0, 0x01, 0xFC, 0, 0, 0x02, 0, 0, 0, 0];
+/// let mut station = Station::open(&card)?;
+/// let (mut frame, mut floats, mut ints) = ([0x808080], [0.0; 6], [0]);
+/// let refused = station.apply(&mut frame, 1, 1, &mut [], &mut floats, &mut ints, &[]);
+/// assert_eq!(refused, Err(Refusal::BadCurve));
+///
+/// station.apply(&mut frame, 1, 1, &mut [], &mut floats, &mut ints, &power_curve(2.0))?;
+/// assert_eq!(frame, [0x404040]);
+/// # Ok::<(), Refusal>(())
+/// ```
+pub fn power_curve(gamma: f32) -> [f32; CURVE] {
+    let mut curve = [0.0; CURVE];
+    for (k, word) in (0u8..=255).zip(&mut curve) {
+        *word = (f32::from(k) / 255.0).powf(gamma.max(0.01));
+    }
+    curve
+}
+
 #[cfg(test)]
 mod tests {
     use super::*;
@@ -454,7 +506,7 @@ mod tests {
             assert_eq!((refusal.number(), refusal.to_string()), (number, words.to_string()));
             assert_eq!(report(256 + number), Err(refusal));
         }
-        assert_eq!(report(256 + 16), Err(Other(16)));
+        assert_eq!(report(256 + 17), Err(Other(17)));
         assert_eq!(report(256), Err(Other(0)));
         assert_eq!(report(u32::MAX), Err(Other(u32::MAX - 256)));
         assert_eq!(report(255), Ok(255));
@@ -467,10 +519,10 @@ mod tests {
         bytes[0] = 17;
         bytes[1..18].copy_from_slice(&CARD);
         assert_eq!(station.as_bytes(), &bytes);
-        station.apply(&mut [0; 600], 30, 20, &mut [0; 1800], &mut [0.0; 3600], &mut [0; 600]).unwrap();
+        station.apply(&mut [0; 600], 30, 20, &mut [0; 1800], &mut [0.0; 3600], &mut [0; 600], &[]).unwrap();
         bytes[73..77].copy_from_slice(&[0, 30, 0, 20]);
         assert_eq!(station.as_bytes(), &bytes);
-        station.apply(&mut [0; 600], 2, 300, &mut [0; 1800], &mut [0.0; 3600], &mut [0; 600]).unwrap();
+        station.apply(&mut [0; 600], 2, 300, &mut [0; 1800], &mut [0.0; 3600], &mut [0; 600], &[]).unwrap();
         bytes[73..77].copy_from_slice(&[0, 2, 1, 44]);
         assert_eq!(station.as_bytes(), &bytes);
         station.reset().unwrap();
@@ -484,7 +536,7 @@ mod tests {
         let (mut history, mut floats, mut ints) = ([7; 2], [0.0; 12], [0; 2]);
         let mut shows = |word: u32, width: usize, height: usize| {
             let mut frame = [word; 2];
-            station.apply(&mut frame, width, height, &mut history, &mut floats, &mut ints).unwrap();
+            station.apply(&mut frame, width, height, &mut history, &mut floats, &mut ints, &[]).unwrap();
             frame
         };
         assert_eq!(shows(0xFFFFFF, 1, 2), [0xFFFFFF; 2]);
@@ -504,7 +556,7 @@ mod tests {
             assert_eq!(station.history_words(width, height), Err(BadSize));
             assert_eq!(history_words(&CARD, width, height), Err(BadSize));
             assert_eq!(scratch_words(width, height), Err(BadSize));
-            assert_eq!(opened().apply(&mut [], width, height, &mut [], &mut [], &mut []), Err(BadSize));
+            assert_eq!(opened().apply(&mut [], width, height, &mut [], &mut [], &mut [], &[]), Err(BadSize));
         }
     }
 
@@ -512,7 +564,7 @@ mod tests {
     fn an_empty_card_and_an_empty_buffer_are_refused() {
         assert_eq!(Station::open(&[]), Err(TornCard));
         assert_eq!(opened().write(&mut []), Err(ShortCardBuffer));
-        assert_eq!(opened().apply(&mut [], 1, 1, &mut [], &mut [], &mut []), Err(ShortFrame));
+        assert_eq!(opened().apply(&mut [], 1, 1, &mut [], &mut [], &mut [], &[]), Err(ShortFrame));
     }
 
     /// The vignette and scanlines, and the same two in the other order: no card, and no state.
@@ -534,8 +586,88 @@ mod tests {
         let card = [0x11, 0x79, 0xFC, 0, 0, 1, 0xFC, 0, 0, 1, 0xFC, 0, 0, 1, 0xFC, 0, 0, 0];
         let mut station = Station::open(&card).unwrap();
         let mut frame = [0, 0x010101, 0, 0x808080];
-        assert_eq!(station.apply(&mut frame, 2, 2, &mut [], &mut [0.0; 24], &mut [0; 4]), Ok(6));
+        assert_eq!(station.apply(&mut frame, 2, 2, &mut [], &mut [0.0; 24], &mut [0; 4], &[]), Ok(6));
         assert_eq!(frame, [0xFFFFFF; 4]);
+    }
+
+    /// Colour with brightness 0, contrast and saturation 1, and gamma 2; the same with gamma 1.
+    const GAMMA_2: [u8; 18] = [0x11, 0x78, 0, 0, 0, 1, 0xFC, 0, 0, 1, 0xFC, 0, 0, 2, 0, 0, 0, 0];
+    const GAMMA_1: [u8; 18] = [0x11, 0x78, 0, 0, 0, 1, 0xFC, 0, 0, 1, 0xFC, 0, 0, 1, 0xFC, 0, 0, 0];
+
+    /// The picture of black, 010101 and white with this curve.
+    fn shown(station: &mut Station, curve: &[f32]) -> Result<[u32; 3], Refusal> {
+        let mut frame = [0, 0x010101, 0xFFFFFF];
+        station.apply(&mut frame, 3, 1, &mut [], &mut [0.0; 18], &mut [0; 3], curve).map(|_| frame)
+    }
+
+    /// Word 0 white, word 1 black: no power of a channel would show them.
+    #[test]
+    fn channels_begin_with_the_words_of_the_curve() {
+        let mut station = Station::open(&GAMMA_2).unwrap();
+        let mut curve = [1.0; 300];
+        curve[1] = 0.0;
+        curve[256..].fill(f32::NAN);
+        assert_eq!(shown(&mut station, &curve), Ok([0xFFFFFF, 0, 0xFFFFFF]));
+        curve[1] = -0.0;
+        assert_eq!(shown(&mut station, &curve[..CURVE]), Ok([0xFFFFFF, 0, 0xFFFFFF]));
+        station.set_enabled(Kind::ColorCorrection, false).unwrap();
+        assert_eq!(shown(&mut station, &curve), Ok([0, 0x010101, 0xFFFFFF]));
+    }
+
+    /// Too short, or a word among the first 256 that is not in 0..1: also where colour is off, and at gamma 1 in no case.
+    #[test]
+    fn bad_curves_are_refused_where_the_card_reads_one() {
+        let (mut on, mut off, mut plain) = (
+            Station::open(&GAMMA_2).unwrap(),
+            Station::open(&GAMMA_2).unwrap(),
+            Station::open(&GAMMA_1).unwrap(),
+        );
+        off.set_enabled(Kind::ColorCorrection, false).unwrap();
+        let unchanged = shown(&mut plain, &[]);
+        assert!(unchanged.is_ok());
+        let mut refused = |curve: &[f32]| {
+            assert_eq!(shown(&mut on, curve), Err(BadCurve));
+            assert_eq!(shown(&mut off, curve), Err(BadCurve));
+            assert_eq!(shown(&mut plain, curve), unchanged);
+        };
+        refused(&[]);
+        refused(&[0.5; 255]);
+        for word in [f32::NAN, f32::INFINITY, f32::NEG_INFINITY, 1.0000001, -1e-45, 2.0, -1.0] {
+            for place in [0, 100, 255] {
+                let mut curve = [0.5; CURVE];
+                curve[place] = word;
+                refused(&curve);
+            }
+        }
+        // The scratch is asked for before the curve.
+        assert_eq!(on.apply(&mut [0], 1, 1, &mut [], &mut [0.0; 5], &mut [0], &[]), Err(ShortScratch));
+    }
+
+    /// From every gamma comes a curve that is taken; from 2 the squares, near enough.
+    #[test]
+    fn a_gamma_gives_a_curve() {
+        let mut station = Station::open(&GAMMA_2).unwrap();
+        for gamma in [0.0, -0.0, 0.01, 0.5, 1.0, 2.2, 4.0, 1e30, f32::MIN, f32::INFINITY, f32::NEG_INFINITY, f32::NAN] {
+            let curve = power_curve(gamma);
+            assert_eq!((curve[0], curve[255]), (0.0, 1.0));
+            assert!(shown(&mut station, &curve).is_ok(), "{gamma}");
+        }
+        assert_eq!(power_curve(-3.0), power_curve(0.01));
+        for (k, word) in (0u8..=255).zip(power_curve(2.0)) {
+            let share = f32::from(k) / 255.0;
+            assert!((word - share * share).abs() < 1e-6, "{k}");
+        }
+    }
+
+    #[test]
+    fn a_curve_is_handed_out_as_bytes() {
+        let curve = power_curve(2.2);
+        let mut bytes = [0; 4 * CURVE];
+        for (four, word) in bytes.chunks_exact_mut(4).zip(curve) {
+            four.copy_from_slice(&word.to_le_bytes());
+        }
+        assert_eq!(curve_from_bytes(&bytes), curve);
+        assert_eq!(bytes[1020..], [0, 0, 0x80, 0x3F]);
     }
 
     /// Of the three kinds of the card, and of no other.
@@ -598,7 +730,7 @@ mod tests {
                         assert_eq!(station.enabled(Kind::Scanlines), Err(BadStation));
                         assert_eq!(station.preset(), Err(BadStation));
                         let (mut frame, mut history) = ([7], [7; 3]);
-                        assert_eq!(station.apply(&mut frame, 1, 1, &mut history, &mut [0.0; 6], &mut [0]), Err(BadStation));
+                        assert_eq!(station.apply(&mut frame, 1, 1, &mut history, &mut [0.0; 6], &mut [0], &[]), Err(BadStation));
                         assert_eq!((station.state, frame, history), (bytes, [7], [7; 3]));
                         refused += 1;
                     }

@@ -3,6 +3,7 @@ use Prim.Native.Nat.{ℕ}
 use mathlib.Core.Path.{_≡_, refl, ap, sym, subst, _∙_}
 use mathlib.Core.Bool.{Bool, true, false}
 use mathlib.Core.List.{List, []}
+use lib.Ieee.{Float}
 use lib.ListN.{length, replicate}
 use lib.Seq.{take-length}
 use Rattle.cards.specs.Bits.{valueAt, fieldAt}
@@ -96,18 +97,19 @@ step-whole : (s : Station) → Whole s → Whole (stepReply s .station)
 unfolding after call
 step-whole s w = call-whole step (with-past s []) w
 
-frame-whole : (w h : ℕ) (words past : List ℕ) (floats ints : ℕ) (s : Station) → Whole s → Whole (frameReply w h s words past floats ints .station)
+frame-whole : (w h : ℕ) (words past : List ℕ) (floats ints : ℕ) (curve : List Float) (s : Station) → Whole s
+    → Whole (frameReply w h s words past floats ints curve .station)
 unfolding after call
-frame-whole w h words past floats ints s t =
-    subst (λ (l : List ℕ). Whole (frameReply w h s words l floats ints .station)) (take-length past)
-    (call-whole (frame w h words (length past) floats ints) (with-past s past) t)
+frame-whole w h words past floats ints curve s t =
+    subst (λ (l : List ℕ). Whole (frameReply w h s words l floats ints curve .station)) (take-length past)
+    (call-whole (frame w h words (length past) floats ints curve) (with-past s past) t)
 
-frame-state : (w h : ℕ) (b words past : List ℕ) (floats ints : ℕ) (old : List ℕ) → isState b ≡ true
-    → isState (frameShown w h b words past floats ints old .state) ≡ true
+frame-state : (w h : ℕ) (b words past : List ℕ) (floats ints : ℕ) (curve : List Float) (old : List ℕ) → isState b ≡ true
+    → isState (frameShown w h b words past floats ints curve old .state) ≡ true
 unfolding frameShown
-frame-state w h b words past floats ints old e =
-    let r : Framed = frameReply w h (stationIn b) words past floats ints in
-    rw e (left-state (r .answer) b (encoded (r .station)) e (encoded-state (r .station) (frame-whole w h words past floats ints (stationIn b) (state-whole b e))))
+frame-state w h b words past floats ints curve old e =
+    let r : Framed = frameReply w h (stationIn b) words past floats ints curve in
+    rw e (left-state (r .answer) b (encoded (r .station)) e (encoded-state (r .station) (frame-whole w h words past floats ints curve (stationIn b) (state-whole b e))))
 
 pub closed : Closed
 closed =

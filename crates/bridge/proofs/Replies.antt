@@ -141,22 +141,22 @@ module _ (b old words past : List ℕ) (r : Applied) where
   pub shows-none : (k n : ℕ) → r .answer ≡ Frame.Refused k → n ≡ 256 + k → shown n b words past old ≡ tells
   shows-none k n e f = ap (λ (m : ℕ). shown m b words past old) f ∙ by-answer e
 
-module _ (w h : ℕ) (b words past : List ℕ) (floats : List Float) (ints old : List ℕ) where
-  pub frame-none : (k n : ℕ) → Unread b k → n ≡ 256 + k → Frames w h b words past floats ints old n b words past floats ints old
+module _ (w h : ℕ) (b words past : List ℕ) (floats : List Float) (ints : List ℕ) (curve : List Float) (old : List ℕ) where
+  pub frame-none : (k n : ℕ) → Unread b k → n ≡ 256 + k → Frames w h b words past floats ints curve old n b words past floats ints old
   unfolding frameShown
   frame-none k n u e =
       record { replies = rw (u .broken) (ap (λ (m : ℕ). shown m b words past old) (e ∙ u .by-13)); floats-stay = refl; ints-stay = refl }
 
   pub frame-some : (s : Station) (r : Applied) (n : ℕ) (b′ words′ past′ : List ℕ) (floats′ : List Float) (ints′ new : List ℕ) → Read b s
-      → Applies w h s words past floats ints r words′ past′ floats′ ints′ → shown n b′ words′ past′ new ≡ tells b old words′ past′ r
-      → Frames w h b words past floats ints old n b′ words′ past′ floats′ ints′ new
+      → Applies w h s words past floats ints curve r words′ past′ floats′ ints′ → shown n b′ words′ past′ new ≡ tells b old words′ past′ r
+      → Frames w h b words past floats ints curve old n b′ words′ past′ floats′ ints′ new
   unfolding frameShown
   frame-some s r n b′ words′ past′ floats′ ints′ new t a e =
       let same : (k : ℕ) → freed n k ≡ free (r .answer) k = λ k. ap (λ (o : Shown). freed (o .number) k) e ∙ freed-is (r .answer) k in
       record {
         replies =
             rw (t .sound)
-            (e ∙ ap (framedShown b old) (a .replies ∙ ap (λ (q : Station). frameReply w h q words past (length floats) (length ints)) (t .station)));
+            (e ∙ ap (framedShown b old) (a .replies ∙ ap (λ (q : Station). frameReply w h q words past (length floats) (length ints) curve) (t .station)));
         floats-stay = subst (λ (j : ℕ). drop j floats′ ≡ drop j floats) (sym (same (6 * (h * w)))) (a .floats-stay);
         ints-stay = subst (λ (j : ℕ). drop j ints′ ≡ drop j ints) (sym (same (h * w))) (a .ints-stay);
       }

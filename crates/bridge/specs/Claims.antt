@@ -4,6 +4,7 @@ use Prim.Native.Nat.{ℕ, _-_}
 use mathlib.Core.Bool.{Bool, true}
 use mathlib.Core.List.{List}
 use mathlib.Core.Path.{_≡_}
+use lib.Ieee.{Float}
 use lib.ListN.{length, drop, replicate}
 use Rattle.cards.specs.Alike.{chainOf}
 use Rattle.cards.specs.Answers.{ok}
@@ -37,8 +38,8 @@ Lasting =
 pub record Closed : Type 0 where
   pub of-station : (b : List ℕ) → isState b ≡ true → Whole (stationIn b)
   pub by-open : (card b : List ℕ) → ok (openOf card .answer) ≡ true → isState (opening card b .state) ≡ true
-  pub by-frame : (w h : ℕ) (b words past : List ℕ) (floats ints : ℕ) (old : List ℕ) → isState b ≡ true
-      → isState (frameShown w h b words past floats ints old .state) ≡ true
+  pub by-frame : (w h : ℕ) (b words past : List ℕ) (floats ints : ℕ) (curve : List Float) (old : List ℕ) → isState b ≡ true
+      → isState (frameShown w h b words past floats ints curve old .state) ≡ true
   pub by-reset : (b : List ℕ) → isState b ≡ true → isState (onState resetReply b .state) ≡ true
   pub by-switch : (kind : ℕ) (on : Bool) (b : List ℕ) → isState b ≡ true → isState (onState (switchReply kind on) b .state) ≡ true
   pub by-step : (b : List ℕ) → isState b ≡ true → isState (onState stepReply b .state) ≡ true

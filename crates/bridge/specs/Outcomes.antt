@@ -88,17 +88,17 @@ framedShown b old r =
     shown (framedNumber (r .answer)) (left (r .answer) b (encoded (r .station))) (r .words) (r .past) (framedReports (r .answer) old)
 
 -- `floats` and `ints` are the lengths of the scratches
-unfoldable pub frameShown : (w h : ℕ) → (b words past : List ℕ) → (floats ints : ℕ) → (old : List ℕ) → Shown
-frameShown w h b words past floats ints old =
-    cond (isState b) (framedShown b old (frameReply w h (stationIn b) words past floats ints)) (shown damaged b words past old)
+unfoldable pub frameShown : (w h : ℕ) → (b words past : List ℕ) → (floats ints : ℕ) → (curve : List Float) → (old : List ℕ) → Shown
+frameShown w h b words past floats ints curve old =
+    cond (isState b) (framedShown b old (frameReply w h (stationIn b) words past floats ints curve)) (shown damaged b words past old)
 
 -- the scratch words that a frame may change: k, or none where it is refused
 abbrev pub freed : (number k : ℕ) → ℕ
 freed number k = cond (eqb number 0) k 0
 
 -- what a frame promises: the number, the state, the framebuffer, the history, the number of clipped channels, and the scratch words that stay
-pub record Frames (w h : ℕ) (b words past : List ℕ) (floats : List Float) (ints clipped : List ℕ) (number : ℕ)
+pub record Frames (w h : ℕ) (b words past : List ℕ) (floats : List Float) (ints : List ℕ) (curve : List Float) (clipped : List ℕ) (number : ℕ)
     (b′ words′ past′ : List ℕ) (floats′ : List Float) (ints′ clipped′ : List ℕ) : Type 0 where
-  pub replies : shown number b′ words′ past′ clipped′ ≡ frameShown w h b words past (length floats) (length ints) clipped
+  pub replies : shown number b′ words′ past′ clipped′ ≡ frameShown w h b words past (length floats) (length ints) curve clipped
   pub floats-stay : drop (freed number (6 * (h * w))) floats′ ≡ drop (freed number (6 * (h * w))) floats
   pub ints-stay : drop (freed number (h * w)) ints′ ≡ drop (freed number (h * w)) ints

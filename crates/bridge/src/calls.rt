@@ -91,11 +91,12 @@ pub extern "C" fn hedgemallow_apply(
     history: &mut [u32],
     floats: &mut [f32],
     ints: &mut [u32],
+    curve: &[f32],
     clipped: &mut [u32; 1],
 ) -> u32
     ensures { λ r. ⌜ Frames width height (now (state .entry)) (now (framebuffer .entry)) (now (history .entry)) (now (floats .entry)) (now (ints .entry))
-        (now (clipped .entry)) r (now (state .exit)) (now (framebuffer .exit)) (now (history .exit)) (now (floats .exit)) (now (ints .exit))
-        (now (clipped .exit)) ⌝ }
+        (now (curve .entry)) (now (clipped .entry)) r (now (state .exit)) (now (framebuffer .exit)) (now (history .exit)) (now (floats .exit))
+        (now (ints .exit)) (now (clipped .exit)) ⌝ }
 {
     let opened = decode(*state);
     let answer = opened.answer;
@@ -103,7 +104,16 @@ pub extern "C" fn hedgemallow_apply(
     if let Answer::Refused(k) = answer {
         return refusal(k);
     }
-    let applied = pipeline::apply(station, framebuffer, width, height, history, floats, ints);
+    let applied = pipeline::apply(
+        station,
+        framebuffer,
+        width,
+        height,
+        history,
+        floats,
+        ints,
+        curve,
+    );
     let told = applied.answer;
     let after = applied.station;
     match told {

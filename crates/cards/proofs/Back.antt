@@ -16,7 +16,7 @@ use lib.Ieee.Fits.{up-pos}
 use lib.Ieee.Scale.{finite}
 use Rattle.cards.specs.Step.{Step, took, Reader, andThen, _>>=_, _>>_, ret, here, refuseIf}
 use Rattle.cards.specs.Bits.{fieldAt}
-use Rattle.cards.specs.Settings.{finiteAt, limitedAt, withinAt, gainAt, countAt, presetAt}
+use Rattle.cards.specs.Settings.{finiteAt, limitedAt, withinAt, raisedAt, countAt, presetAt}
 use Rattle.num.specs.Const.{c0·0, c4·0}
 use Rattle.num.specs.Steps.{clampOf, plusZeroOf, limitOf}
 use Rattle.cards.specs.Written.{bits, real}
@@ -117,12 +117,12 @@ reads-within low high x s =
     (λ p. reads-last _ (reads-finite low high x s)
     (reads-last _ (reads-guard 6 p _ (simp (s .above, s .below))) (reads-as (limitOf x low high) x (limit-kept low high x s))))
 
-pub reads-gain : (x : Float) → Settled c0·0 c4·0 x → Reads gainAt (real x) x
-unfolding gainAt
-reads-gain x s =
+pub reads-raised : (low x : Float) → Settled low c4·0 x → Reads (raisedAt low) (real x) x
+unfolding raisedAt
+reads-raised low x s =
     reads-here
-    (λ p. reads-last _ (reads-finite c0·0 c4·0 x s)
-    (reads-last _ (reads-guard 6 p _ (s .below)) (reads-as (limitOf x c0·0 c4·0) x (limit-kept c0·0 c4·0 x s))))
+    (λ p. reads-last _ (reads-finite low c4·0 x s)
+    (reads-last _ (reads-guard 6 p _ (s .below)) (reads-as (limitOf x low c4·0) x (limit-kept low c4·0 x s))))
 
 pub record Counted (most v : ℕ) : Type 0 where
   pub some : 1 ≤ v

@@ -10,7 +10,7 @@ use borrow.Author.Tests.{eq-eqb}
 use lib.Ieee.{neg}
 use Rattle.cards.specs.Step.{took, _>>=_, _>>_}
 use Rattle.cards.specs.Bits.{bitAt, valueAt}
-use Rattle.num.specs.Const.{c0·0, c0·5, c0·95, c1·0, c4·0}
+use Rattle.num.specs.Const.{c0·0, c0·01, c0·5, c0·95, c1·0, c4·0}
 use Rattle.cards.specs.Passes.{ntscAt, bloomAt, autoGradientAt, persistenceAt, lutAt, curvatureAt, colorCorrectionAt, crtAt, vignetteAt, scanlinesAt, passAt, kindOf}
 use Rattle.cards.specs.Records.{kinds, among, lastOf, recordAt}
 use Rattle.cards.specs.Card.{stationOf, recordsAt, endsAt, stationAt}
@@ -19,7 +19,7 @@ use Rattle.cards.specs.declared.station.Pass.{Pass}
 use Rattle.cards.specs.declared.station.Pass.the-variants.{Ntsc, Bloom, AutoGradient, Persistence, Lut, Curvature, ColorCorrection, Crt, Vignette, Scanlines}
 use Rattle.cards.specs.declared.station.Record.{Record}
 use Rattle.cards.proofs.Packed.{IsBits, joined-bits, bits-bits, length-bits, bit-packed, length-pack, Holds, holds-front, holds-back}
-use Rattle.cards.proofs.Back.{Reads, reads-then, reads-last, reads-after, reads-ret, reads-as, reads-here, reads-guard, reads-field, Settled, Counted, reads-limited, reads-within, reads-gain, reads-count, reads-preset}
+use Rattle.cards.proofs.Back.{Reads, reads-then, reads-last, reads-after, reads-ret, reads-as, reads-here, reads-guard, reads-field, Settled, Counted, reads-limited, reads-within, reads-raised, reads-count, reads-preset}
 use Rattle.cards.proofs.Opening.{header-took, opens}
 
 -- a normalised pass, whose values their types hold
@@ -30,7 +30,7 @@ NormalPass (AutoGradient s v h) = Settled c0·0 c1·0 s × Settled c0·0 c1·0 v
 NormalPass (Persistence a d) = Settled c0·0 c0·95 a × Counted 8 d
 NormalPass (Lut p s) = (p < 7) × Settled c0·0 c1·0 s
 NormalPass (Curvature a) = Settled c0·0 c0·5 a
-NormalPass (ColorCorrection b c s g) = Settled (neg c1·0) c1·0 b × Settled c0·0 c4·0 c × Settled c0·0 c4·0 s × Settled c1·0 c1·0 g
+NormalPass (ColorCorrection b c s g) = Settled (neg c1·0) c1·0 b × Settled c0·0 c4·0 c × Settled c0·0 c4·0 s × Settled c0·01 c4·0 g
 NormalPass (Crt s) = Settled c0·0 c1·0 s
 NormalPass (Vignette s) = Settled c0·0 c1·0 s
 NormalPass (Scanlines s) = Settled c0·0 c1·0 s
@@ -54,7 +54,7 @@ reads-pass (Lut p s) n = reads-then _ (reads-preset p (n .0)) (reads-last _ (rea
 reads-pass (Curvature a) n = reads-last _ (reads-limited c0·5 a n) reads-ret
 reads-pass (ColorCorrection b c s g) n =
     reads-then _ (reads-within (neg c1·0) c1·0 b (n .0))
-    (reads-then _ (reads-gain c (n .1)) (reads-then _ (reads-gain s (n .2)) (reads-last _ (reads-within c1·0 c1·0 g (n .3)) reads-ret)))
+    (reads-then _ (reads-raised c0·0 c (n .1)) (reads-then _ (reads-raised c0·0 s (n .2)) (reads-last _ (reads-raised c0·01 g (n .3)) reads-ret)))
 reads-pass (Crt s) n = reads-last _ (reads-limited c1·0 s n) reads-ret
 reads-pass (Vignette s) n = reads-last _ (reads-limited c1·0 s n) reads-ret
 reads-pass (Scanlines s) n = reads-last _ (reads-limited c1·0 s n) reads-ret

@@ -11,9 +11,9 @@ use lib.Ieee.{Float, nan, inf, fin, binary32, fits, ofBits, lt, eq, up, down, ne
 use lib.Ieee.Bits.{ofBits-fits}
 use lib.Ieee.Scale.{finite}
 use Rattle.cards.specs.Step.{_>>=_, _>>_}
-use Rattle.cards.specs.Settings.{finiteAt, limitedAt, withinAt, gainAt, countAt, presetAt}
+use Rattle.cards.specs.Settings.{finiteAt, limitedAt, withinAt, raisedAt, countAt, presetAt}
 use Rattle.num.specs.Steps.{clampOf, plusZeroOf, limitOf}
-use Rattle.num.specs.Const.{c0·0, c0·5, c0·95, c1·0, c4·0}
+use Rattle.num.specs.Const.{c0·0, c0·01, c0·5, c0·95, c1·0, c4·0}
 use Rattle.cards.specs.Passes.{ntscAt, bloomAt, autoGradientAt, persistenceAt, lutAt, curvatureAt, colorCorrectionAt, crtAt, vignetteAt, scanlinesAt, passAt, kindOf}
 use Rattle.cards.specs.Records.{kinds, among, lastOf, recordAt}
 use Rattle.cards.specs.Card.{stationOf, recordsAt, endAt, stationAt}
@@ -114,9 +114,9 @@ range-0-4 : Range c0·0 c4·0
 unfolding fits lt ofBits
 range-0-4 = (record { held = tt; number = refl; above = refl; below = refl; plain = refl }, record { held = tt; number = refl; above = refl; below = refl; plain = refl })
 
-range-1-1 : Range c1·0 c1·0
+range-0·01-4 : Range c0·01 c4·0
 unfolding fits lt ofBits
-range-1-1 = (record { held = tt; number = refl; above = refl; below = refl; plain = refl }, record { held = tt; number = refl; above = refl; below = refl; plain = refl })
+range-0·01-4 = (record { held = tt; number = refl; above = refl; below = refl; plain = refl }, record { held = tt; number = refl; above = refl; below = refl; plain = refl })
 
 range-minus : Range (neg c1·0) c1·0
 unfolding fits lt ofBits neg
@@ -125,10 +125,10 @@ range-minus = (record { held = tt; number = refl; above = refl; below = refl; pl
 gives-1 : Gives (limitedAt c1·0) (Settled c0·0 c1·0)
 gives-1 = gives-limited c1·0 range-0-1
 
-gives-gain : Gives gainAt (Settled c0·0 c4·0)
-unfolding gainAt
-gives-gain =
-    gives-here (λ p. gives-then _ gives-finite (λ x n. gives-then _ (gives-guard 6 p _) (λ u g. gives-ret (Settled c0·0 c4·0) _ (limit-settled c0·0 c4·0 x range-0-4 n))))
+gives-raised : (low : Float) → Range low c4·0 → Gives (raisedAt low) (Settled low c4·0)
+unfolding raisedAt
+gives-raised low r =
+    gives-here (λ p. gives-then _ gives-finite (λ x n. gives-then _ (gives-guard 6 p _) (λ u g. gives-ret (Settled low c4·0) _ (limit-settled low c4·0 x r n))))
 
 -- a normalised pass of the kind k
 abbrev Of : ℕ → Pass → Type 0
@@ -143,7 +143,7 @@ gives-pass (suc (suc (suc zero))) = gives-then _ (gives-1) (λ x0 h0. gives-then
 gives-pass (suc (suc (suc (suc zero)))) = gives-then _ (gives-limited c0·95 range-0-0·95) (λ x0 h0. gives-then _ (gives-count 8 (omega arith)) (λ x1 h1. gives-ret (Of 4) _ ((h0, h1), refl)))
 gives-pass (suc (suc (suc (suc (suc zero))))) = gives-then _ (gives-preset) (λ x0 h0. gives-then _ (gives-1) (λ x1 h1. gives-ret (Of 5) _ ((h0, h1), refl)))
 gives-pass (suc (suc (suc (suc (suc (suc zero)))))) = gives-then _ (gives-limited c0·5 range-0-0·5) (λ x0 h0. gives-ret (Of 6) _ (h0, refl))
-gives-pass (suc (suc (suc (suc (suc (suc (suc zero))))))) = gives-then _ (gives-within (neg c1·0) c1·0 range-minus) (λ x0 h0. gives-then _ (gives-gain) (λ x1 h1. gives-then _ (gives-gain) (λ x2 h2. gives-then _ (gives-within c1·0 c1·0 range-1-1) (λ x3 h3. gives-ret (Of 7) _ ((h0, h1, h2, h3), refl)))))
+gives-pass (suc (suc (suc (suc (suc (suc (suc zero))))))) = gives-then _ (gives-within (neg c1·0) c1·0 range-minus) (λ x0 h0. gives-then _ (gives-raised c0·0 range-0-4) (λ x1 h1. gives-then _ (gives-raised c0·0 range-0-4) (λ x2 h2. gives-then _ (gives-raised c0·01 range-0·01-4) (λ x3 h3. gives-ret (Of 7) _ ((h0, h1, h2, h3), refl)))))
 gives-pass (suc (suc (suc (suc (suc (suc (suc (suc zero)))))))) = gives-then _ (gives-1) (λ x0 h0. gives-ret (Of 8) _ (h0, refl))
 gives-pass (suc (suc (suc (suc (suc (suc (suc (suc (suc zero))))))))) = gives-then _ (gives-1) (λ x0 h0. gives-ret (Of 9) _ (h0, refl))
 gives-pass (suc (suc (suc (suc (suc (suc (suc (suc (suc (suc zero)))))))))) = gives-then _ (gives-1) (λ x0 h0. gives-ret (Of 10) _ (h0, refl))

@@ -9,7 +9,7 @@ use lib.Dec.{leb}
 use borrow.Author.Tests.{leb-true}
 use Rattle.cards.specs.Step.{Step, took, refused, stop, Reader, andThen, _>>=_, _>>_, ret, here, refuse, refuseIf}
 use Rattle.cards.specs.Bits.{valueAt, fieldAt}
-use Rattle.cards.specs.Settings.{finiteAt, limitedAt, withinAt, gainAt, countAt, presetAt}
+use Rattle.cards.specs.Settings.{finiteAt, limitedAt, withinAt, raisedAt, countAt, presetAt}
 use Rattle.cards.specs.Passes.{ntscAt, bloomAt, autoGradientAt, persistenceAt, lutAt, curvatureAt, colorCorrectionAt, crtAt, vignetteAt, scanlinesAt, byKind, passAt}
 use Rattle.cards.specs.Records.{kinds, recordAt}
 use Rattle.cards.specs.Card.{headerAt, recordsAt, endsAt, endAt, stationAt, placeOf, stoppedOf}
@@ -81,7 +81,7 @@ picked (more e es) h (suc k) = picked es h k
 
 inside-pass : {q : ℕ} (kind : ℕ) → Inside q (passAt kind)
 unfolding passAt ntscAt bloomAt autoGradientAt persistenceAt lutAt curvatureAt colorCorrectionAt crtAt vignetteAt scanlinesAt
-    finiteAt limitedAt withinAt gainAt countAt presetAt
+    finiteAt limitedAt withinAt raisedAt countAt presetAt
 inside-pass kind = picked {ms = byKind} (search (none, more, insides) depth 30 fits 5000) (inside-refuse 4) kind
 
 inside-record : {q : ℕ} (seen : List ℕ) → Inside q (recordAt seen)

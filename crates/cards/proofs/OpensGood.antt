@@ -7,7 +7,7 @@ use borrow.Author.Tests.{le-leb, lt-ltb}
 use lib.Ieee.{Float, neg}
 use lib.ListN.{length}
 use lib.Seq.{take-append-seam}
-use Rattle.num.specs.Const.{c0·0, c0·5, c0·95, c1·0, c4·0}
+use Rattle.num.specs.Const.{c0·0, c0·01, c0·5, c0·95, c1·0, c4·0}
 use Rattle.cards.specs.Alike.{chainOf}
 use Rattle.cards.specs.Card.{stationOf}
 use Rattle.cards.specs.Claims.{OpensGood}
@@ -39,7 +39,7 @@ normal-is (Persistence a b) t = rw (settled-is c0·0 c0·95 a (t .0), counted-is
 normal-is (Lut a b) t = rw (lt-ltb a 7 (t .0), settled-is c0·0 c1·0 b (t .1))
 normal-is (Curvature a) t = settled-is c0·0 c0·5 a t
 normal-is (ColorCorrection a b c d) t =
-    rw (settled-is (neg c1·0) c1·0 a (t .0), settled-is c0·0 c4·0 b (t .1), settled-is c0·0 c4·0 c (t .2), settled-is c1·0 c1·0 d (t .3))
+    rw (settled-is (neg c1·0) c1·0 a (t .0), settled-is c0·0 c4·0 b (t .1), settled-is c0·0 c4·0 c (t .2), settled-is c0·01 c4·0 d (t .3))
 normal-is (Crt a) t = settled-is c0·0 c1·0 a t
 normal-is (Vignette a) t = settled-is c0·0 c1·0 a t
 normal-is (Scanlines a) t = settled-is c0·0 c1·0 a t

@@ -13,7 +13,7 @@ pub use Rattle.num.specs.Laws.Bools.{not-held, not-failed, or-left, or-right, o
 use Rattle.cards.specs.Step.{Step, took, refused, Reader, andThen, _>>=_, _>>_, stop, ret, here, refuseIf, byteStep, realStep, passStep, recordStep, refusalOf}
 use Rattle.cards.specs.Bits.{fieldAt}
 use Rattle.cards.specs.Records.{lastOf}
-use Rattle.cards.specs.Settings.{finiteAt, limitedAt, withinAt, gainAt, countAt, presetAt}
+use Rattle.cards.specs.Settings.{finiteAt, limitedAt, withinAt, raisedAt, countAt, presetAt}
 use Rattle.cards.specs.declared.fields.Refusal.{Refusal}
 use Rattle.cards.specs.declared.fields.ByteRead.{ByteRead}
 use Rattle.cards.specs.declared.fields.ByteRead.the-variants as B
@@ -154,9 +154,9 @@ pub within-wide : (low high : Float) → Wide 32 (withinAt low high)
 unfolding withinAt
 within-wide low high = here-wide (λ p. then-wide 32 0 finite-wide (λ x. then-wide 0 0 (refuseIf-wide 6 p _) (λ u. ret-wide)))
 
-pub gain-wide : Wide 32 gainAt
-unfolding gainAt
-gain-wide = here-wide (λ p. then-wide 32 0 finite-wide (λ x. then-wide 0 0 (refuseIf-wide 6 p _) (λ u. ret-wide)))
+pub raised-wide : (low : Float) → Wide 32 (raisedAt low)
+unfolding raisedAt
+raised-wide low = here-wide (λ p. then-wide 32 0 finite-wide (λ x. then-wide 0 0 (refuseIf-wide 6 p _) (λ u. ret-wide)))
 
 pub count-wide : (most : ℕ) → Wide 8 (countAt most)
 unfolding countAt
@@ -173,8 +173,8 @@ limited-near high r card p x n m e h l = omega (arith, limited-wide high .next c
 pub within-near : (low high : Float) (r : RealRead) (card : List ℕ) (p : ℕ) (x : Float) (n m : ℕ) → realStep r ≡ withinAt low high card p → r ≡ R.Value x n → p < m - 32 → n < m
 within-near low high r card p x n m e h l = omega (arith, within-wide low high .next card p x n (realTook e h))
 
-pub gain-near : (r : RealRead) (card : List ℕ) (p : ℕ) (x : Float) (n m : ℕ) → realStep r ≡ gainAt card p → r ≡ R.Value x n → p < m - 32 → n < m
-gain-near r card p x n m e h l = omega (arith, gain-wide .next card p x n (realTook e h))
+pub raised-near : (low : Float) (r : RealRead) (card : List ℕ) (p : ℕ) (x : Float) (n m : ℕ) → realStep r ≡ raisedAt low card p → r ≡ R.Value x n → p < m - 32 → n < m
+raised-near low r card p x n m e h l = omega (arith, raised-wide low .next card p x n (realTook e h))
 
 pub count-near : (most : ℕ) (r : ByteRead) (card : List ℕ) (p : ℕ) (x : ℕ) (n m : ℕ) → byteStep r ≡ countAt most card p → r ≡ B.Value x n → p < m - 8 → n < m
 count-near most r card p x n m e h l = omega (arith, count-wide most .next card p x n (byteTook e h))
@@ -189,4 +189,4 @@ pub weaken : (p j m : ℕ) → p < j → T (leb j m) → p < m
 weaken p j m h t = omega (arith, leb→le j m t)
 
 -- `search steps` closes each return of a reader, and what the next field requires of its place
-pub ruleset steps = (refl, here-then, real-then, real-stops, byte-then, byte-stops, pass-then, pass-stops, real-kept, real-back, byte-kept, byte-back, cond-yes, cond-no, limit-is, guard-then, guard-stops, not-held, not-failed, or-left, or-right, or-neither, via, eq-eqb, ne-eqb, lt-ltb, le-ltb, limited-near, within-near, gain-near, count-near, preset-near, field-near, weaken, lit≤, tt, below-last, from-last)
+pub ruleset steps = (refl, here-then, real-then, real-stops, byte-then, byte-stops, pass-then, pass-stops, real-kept, real-back, byte-kept, byte-back, cond-yes, cond-no, limit-is, guard-then, guard-stops, not-held, not-failed, or-left, or-right, or-neither, via, eq-eqb, ne-eqb, lt-ltb, le-ltb, limited-near, within-near, raised-near, count-near, preset-near, field-near, weaken, lit≤, tt, below-last, from-last)

@@ -11,7 +11,7 @@ use borrow.Author.Tests.{ltb-true}
 use lib.Ieee.{Float, binary32, fits, lt, neg}
 use lib.Ieee.Scale.{finite}
 use lib.Ieee.Fits.{and-l, and-r}
-use Rattle.num.specs.Const.{c0·0, c0·5, c0·95, c1·0, c4·0}
+use Rattle.num.specs.Const.{c0·0, c0·01, c0·5, c0·95, c1·0, c4·0}
 use Rattle.cards.specs.Passes.{kindOf}
 use Rattle.cards.specs.Records.{kinds}
 use Rattle.cards.specs.Normal.{negZero, settled, counted, normalPass, normalChain}
@@ -63,7 +63,7 @@ normal-of (ColorCorrection a b c d) t h =
       settled-of (neg c1·0) c1·0 a (t .0) (and-l (settled (neg c1·0) c1·0 a) _ ab),
       settled-of c0·0 c4·0 b (t .1) (and-r (settled (neg c1·0) c1·0 a) _ ab),
       settled-of c0·0 c4·0 c (t .2) (and-r (settled (neg c1·0) c1·0 a && settled c0·0 c4·0 b) _ abc),
-      settled-of c1·0 c1·0 d (t .3) (and-r (settled (neg c1·0) c1·0 a && settled c0·0 c4·0 b && settled c0·0 c4·0 c) _ h),
+      settled-of c0·01 c4·0 d (t .3) (and-r (settled (neg c1·0) c1·0 a && settled c0·0 c4·0 b && settled c0·0 c4·0 c) _ h),
     )
 normal-of (Crt a) t h = settled-of c0·0 c1·0 a t h
 normal-of (Vignette a) t h = settled-of c0·0 c1·0 a t h

@@ -7,7 +7,7 @@ use Rattle.cards.specs.Step.{Step, took, refused, Reader, andThen, _>>=_
 use Rattle.cards.specs.Passes.{ntscAt, bloomAt, autoGradientAt, persistenceAt, lutAt, curvatureAt, colorCorrectionAt, crtAt, vignetteAt, scanlinesAt, passAt}
 use Rattle.cards.specs.Records.{recordAt}
 use Rattle.cards.specs.declared.station.Pass.{Pass}
-use Rattle.cards.proofs.Steps.{Wide, field-wide, ret-wide, refuseIf-wide, then-wide, limited-wide, within-wide, gain-wide, count-wide, preset-wide}
+use Rattle.cards.proofs.Steps.{Wide, field-wide, ret-wide, refuseIf-wide, then-wide, limited-wide, within-wide, raised-wide, count-wide, preset-wide}
 
 ntsc-wide : Wide 40 ntscAt
 unfolding ntscAt
@@ -35,7 +35,7 @@ curvature-wide = then-wide 32 0 (limited-wide _) (λ x0. ret-wide)
 
 color-correction-wide : Wide 128 colorCorrectionAt
 unfolding colorCorrectionAt
-color-correction-wide = then-wide 32 96 (within-wide _ _) (λ x0. then-wide 32 64 (gain-wide) (λ x1. then-wide 32 32 (gain-wide) (λ x2. then-wide 32 0 (within-wide _ _) (λ x3. ret-wide))))
+color-correction-wide = then-wide 32 96 (within-wide _ _) (λ x0. then-wide 32 64 (raised-wide _) (λ x1. then-wide 32 32 (raised-wide _) (λ x2. then-wide 32 0 (raised-wide _) (λ x3. ret-wide))))
 
 crt-wide : Wide 32 crtAt
 unfolding crtAt

@@ -6,7 +6,7 @@ use lib.ListN.{take}
 use lib.Dec.{leb, ltb, eqb}
 use lib.Ieee.{Float, nan, inf, fin, lt, neg}
 use lib.Ieee.Scale.{finite}
-use Rattle.num.specs.Const.{c0·0, c0·5, c0·95, c1·0, c4·0}
+use Rattle.num.specs.Const.{c0·0, c0·01, c0·5, c0·95, c1·0, c4·0}
 use Rattle.num.specs.Held.{nothing, sameHeld, fineHeld}
 use Rattle.cards.specs.Passes.{kindOf}
 use Rattle.cards.specs.Records.{among, lastOf}
@@ -38,7 +38,7 @@ normalPass (Persistence amount depth) = settled c0·0 c0·95 amount && counted 8
 normalPass (Lut preset strength) = ltb preset 7 && settled c0·0 c1·0 strength
 normalPass (Curvature amount) = settled c0·0 c0·5 amount
 normalPass (ColorCorrection brightness contrast saturation gamma) =
-    settled (neg c1·0) c1·0 brightness && settled c0·0 c4·0 contrast && settled c0·0 c4·0 saturation && settled c1·0 c1·0 gamma
+    settled (neg c1·0) c1·0 brightness && settled c0·0 c4·0 contrast && settled c0·0 c4·0 saturation && settled c0·01 c4·0 gamma
 normalPass (Crt strength) = settled c0·0 c1·0 strength
 normalPass (Vignette strength) = settled c0·0 c1·0 strength
 normalPass (Scanlines strength) = settled c0·0 c1·0 strength

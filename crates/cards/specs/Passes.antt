@@ -4,9 +4,9 @@ use mathlib.Core.List.{List, [], _∷_}
 use lib.ListN.{getD}
 use Rattle.cards.specs.Step.{Reader, _>>=_, ret, refuse}
 use Rattle.cards.specs.Bits.{fieldAt}
-use Rattle.cards.specs.Settings.{limitedAt, withinAt, gainAt, countAt, presetAt}
+use Rattle.cards.specs.Settings.{limitedAt, withinAt, raisedAt, countAt, presetAt}
 use lib.Ieee.{neg}
-use Rattle.num.specs.Const.{c0·5, c0·95, c1·0}
+use Rattle.num.specs.Const.{c0·0, c0·01, c0·5, c0·95, c1·0}
 use Rattle.cards.specs.declared.station.Pass.{Pass}
 use Rattle.cards.specs.declared.station.Pass.the-variants.{Ntsc, Bloom, AutoGradient, Persistence, Lut}
 use Rattle.cards.specs.declared.station.Pass.the-variants.{Curvature, ColorCorrection, Crt, Vignette, Scanlines}
@@ -51,9 +51,9 @@ curvatureAt = do
 unfoldable pub colorCorrectionAt : Reader Pass
 colorCorrectionAt = do
   brightness ← withinAt (neg c1·0) c1·0
-  contrast ← gainAt
-  saturation ← gainAt
-  gamma ← withinAt c1·0 c1·0
+  contrast ← raisedAt c0·0
+  saturation ← raisedAt c0·0
+  gamma ← raisedAt c0·01
   ret (ColorCorrection brightness contrast saturation gamma)
 
 unfoldable pub crtAt : Reader Pass

@@ -23,7 +23,7 @@ limitedAt high = do
   x ← finiteAt
   ret (limitOf x c0·0 high)
 
--- brightness, gamma: refused outside low..high
+-- brightness: refused outside low..high
 unfoldable pub withinAt : Float → Float → Reader Float
 withinAt low high = do
   p ← here
@@ -31,13 +31,13 @@ withinAt low high = do
   refuseIf 6 p (lt x low || lt high x)
   ret (limitOf x low high)
 
--- contrast, saturation: refused above 4; below 0 becomes 0
-unfoldable pub gainAt : Reader Float
-gainAt = do
+-- contrast, saturation, gamma: refused above 4; below `low` becomes `low`
+unfoldable pub raisedAt : Float → Reader Float
+raisedAt low = do
   p ← here
   x ← finiteAt
   refuseIf 6 p (lt c4·0 x)
-  ret (limitOf x c0·0 c4·0)
+  ret (limitOf x low c4·0)
 
 -- bleed, radius, depth: refused above `most`; 0 becomes 1
 unfoldable pub countAt : ℕ → Reader ℕ

@@ -85,7 +85,7 @@ pub(crate) fn is_normal(pass: Pass) -> bool
             if !is_settled(0.0, 4.0, saturation) {
                 return false;
             }
-            is_settled(1.0, 1.0, gamma)
+            is_settled(0.01, 4.0, gamma)
         }
         Pass::Crt { strength } => is_settled(0.0, 1.0, strength),
         Pass::Vignette { strength } => is_settled(0.0, 1.0, strength),

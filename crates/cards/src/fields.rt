@@ -3,7 +3,7 @@ ghost use mathlib.Core.Path.{_≡_};
 ghost use Prim.Native.Nat.{_+_, _*_, _^_, _<_, _≤_};
 ghost use Rattle.cards.specs.Step.{fieldStep, byteStep, realStep, refusalOf};
 ghost use Rattle.cards.specs.Bits.{bitAt, fieldAt};
-ghost use Rattle.cards.specs.Settings.{finiteAt, limitedAt, withinAt, gainAt, countAt, presetAt};
+ghost use Rattle.cards.specs.Settings.{finiteAt, limitedAt, withinAt, raisedAt, countAt, presetAt};
 
 // Why a card is refused, by the number of document 01, and where: `at` is the first bit of the field that is refused, and for 7 the
 // bit after the last field.
@@ -107,10 +107,10 @@ pub(crate) fn within(card: &[u8], at: usize, low: f32, high: f32) -> RealRead
     RealRead::Value(num::steps::limit(x, low, high), next)
 }
 
-// A contrast or a saturation: refused above 4, limited to 0 below.
-pub(crate) fn gain(card: &[u8], at: usize) -> RealRead
+// A contrast, a saturation or a gamma: refused above 4, and raised to `low` where it is below.
+pub(crate) fn raised(card: &[u8], at: usize, low: f32) -> RealRead
     requires { ⌜ at < 2 ^ 32 ⌝ }
-    ensures { λ r. ⌜ realStep r ≡ gainAt (now (card .entry)) at ⌝ }
+    ensures { λ r. ⌜ realStep r ≡ raisedAt low (now (card .entry)) at ⌝ }
 {
     let r = finite(card, at);
     let RealRead::Value(x, next) = r else {
@@ -119,7 +119,7 @@ pub(crate) fn gain(card: &[u8], at: usize) -> RealRead
     if 4.0 < x {
         return RealRead::Refused(Refusal { number: 6, at });
     }
-    RealRead::Value(num::steps::limit(x, 0.0, 4.0), next)
+    RealRead::Value(num::steps::limit(x, low, 4.0), next)
 }
 
 // A bleed, a radius or a depth: refused above `most`, and 0 becomes 1.

@@ -16,9 +16,9 @@ use super::fields::byte;
 use super::fields::byte_refusal;
 use super::fields::count;
 use super::fields::field;
-use super::fields::gain;
 use super::fields::limited;
 use super::fields::preset;
+use super::fields::raised;
 use super::fields::real_refusal;
 use super::fields::within;
 use super::station::Answer;
@@ -150,15 +150,15 @@ pub(crate) fn color_correction(card: &[u8], at: usize) -> PassRead
     let RealRead::Value(brightness, at) = r1 else {
         return PassRead::Refused(real_refusal(r1));
     };
-    let r2 = gain(card, at);
+    let r2 = raised(card, at, 0.0);
     let RealRead::Value(contrast, at) = r2 else {
         return PassRead::Refused(real_refusal(r2));
     };
-    let r3 = gain(card, at);
+    let r3 = raised(card, at, 0.0);
     let RealRead::Value(saturation, at) = r3 else {
         return PassRead::Refused(real_refusal(r3));
     };
-    let r4 = within(card, at, 1.0, 1.0);
+    let r4 = raised(card, at, 0.01);
     let RealRead::Value(gamma, at) = r4 else {
         return PassRead::Refused(real_refusal(r4));
     };

@@ -57,13 +57,13 @@ abbrev pub repaint : (Painted → Painted) → Flow → Flow
 repaint paint x = flow (paint (x .frame)) (x .held) (x .past)
 
 pub record Washes (rs : List Record) : Type 0 where
-  pub paint : (w h : ℕ) → Painted → Painted
-  pub keeps : (w h : ℕ) (frame : Painted) → length (paint w h frame .words) ≡ length (frame .words)
-  pub whole : (w h : ℕ) (x : Flow) → chain w h rs x ≡ repaint (paint w h) x
+  pub paint : (w h : ℕ) → List Float → Painted → Painted
+  pub keeps : (w h : ℕ) (curve : List Float) (frame : Painted) → length (paint w h curve frame .words) ≡ length (frame .words)
+  pub whole : (w h : ℕ) (curve : List Float) (x : Flow) → chain w h curve rs x ≡ repaint (paint w h curve) x
 
 unwashed : (r : Record) → r .on ≡ false → Washes (r ∷ [])
 unfolding fold turnBy
-unwashed r e = record { paint = λ w h frame. frame; keeps = λ w h frame. refl; whole = λ w h x. rw e }
+unwashed r e = record { paint = λ w h curve frame. frame; keeps = λ w h curve frame. refl; whole = λ w h curve x. rw e }
 
 washed : (r : Record) → Plain (r .pass) → Washes (r ∷ [])
 unfolding fold turnBy wash
@@ -72,9 +72,9 @@ washed r m = go (r .on) refl
     go : (b : Bool) → r .on ≡ b → Washes (r ∷ [])
     go true e =
         record {
-          paint = λ w h. onto (m .paint w h);
-          keeps = λ w h frame. m .paints w h (frame .words) .long;
-          whole = λ w h x. rw e (m .whole w h x);
+          paint = λ w h curve. onto (m .paint w h curve);
+          keeps = λ w h curve frame. m .paints w h curve (frame .words) .long;
+          whole = λ w h curve x. rw e (m .whole w h curve x);
         }
     go false e = unwashed r e
 
@@ -88,14 +88,14 @@ washes-more : (r : Record) (rs : List Record) → Washes (r ∷ []) → Washes r
 unfolding fold
 washes-more r rs a b =
     record {
-      paint = λ w h frame. b .paint w h (a .paint w h frame);
-      keeps = λ w h frame. b .keeps w h (a .paint w h frame) ∙ a .keeps w h frame;
-      whole = λ w h x. ap (chain w h rs) (a .whole w h x) ∙ b .whole w h _;
+      paint = λ w h curve frame. b .paint w h curve (a .paint w h curve frame);
+      keeps = λ w h curve frame. b .keeps w h curve (a .paint w h curve frame) ∙ a .keeps w h curve frame;
+      whole = λ w h curve x. ap (chain w h curve rs) (a .whole w h curve x) ∙ b .whole w h curve _;
     }
 
 washes : (rs : List Record) → persists rs ≡ false → Washes rs
 unfolding fold persists
-washes [] e = record { paint = λ w h frame. frame; keeps = λ w h frame. refl; whole = λ w h x. refl }
+washes [] e = record { paint = λ w h curve frame. frame; keeps = λ w h curve frame. refl; whole = λ w h curve x. refl }
 washes (r ∷ rs) e =
     let d = neither (eqb (kindOf (r .pass)) 4 && r .on) (persists rs) e in
     washes-more r rs (washes-one r (d .0)) (washes rs (d .1))
@@ -105,12 +105,13 @@ washes (r ∷ rs) e =
 -- what stands before it, persistence, and what stands after it
 pub record Keeps (rs : List Record) : Type 0 where
   pub amount : Float
-  pub before : (w h : ℕ) → Painted → Painted
-  pub after : (w h : ℕ) → Painted → Painted
-  pub before-keeps : (w h : ℕ) (frame : Painted) → length (before w h frame .words) ≡ length (frame .words)
-  pub after-keeps : (w h : ℕ) (frame : Painted) → length (after w h frame .words) ≡ length (frame .words)
+  pub before : (w h : ℕ) → List Float → Painted → Painted
+  pub after : (w h : ℕ) → List Float → Painted → Painted
+  pub before-keeps : (w h : ℕ) (curve : List Float) (frame : Painted) → length (before w h curve frame .words) ≡ length (frame .words)
+  pub after-keeps : (w h : ℕ) (curve : List Float) (frame : Painted) → length (after w h curve frame .words) ≡ length (frame .words)
   pub some-depth : 1 ≤ depth rs
-  pub whole : (w h : ℕ) (x : Flow) → chain w h rs x ≡ repaint (after w h) (persistence amount (depth rs) (sized w h) (repaint (before w h) x))
+  pub whole : (w h : ℕ) (curve : List Float) (x : Flow)
+      → chain w h curve rs x ≡ repaint (after w h curve) (persistence amount (depth rs) (sized w h) (repaint (before w h curve) x))
 
 keeps-later : (r : Record) (rs : List Record) → Plain (r .pass) → Keeps rs → Keeps (r ∷ rs)
 unfolding fold depth
@@ -118,12 +119,12 @@ keeps-later r rs m s =
     let a = washed r m in
     record {
       amount = s .amount;
-      before = λ w h frame. s .before w h (a .paint w h frame);
+      before = λ w h curve frame. s .before w h curve (a .paint w h curve frame);
       after = s .after;
-      before-keeps = λ w h frame. s .before-keeps w h (a .paint w h frame) ∙ a .keeps w h frame;
+      before-keeps = λ w h curve frame. s .before-keeps w h curve (a .paint w h curve frame) ∙ a .keeps w h curve frame;
       after-keeps = s .after-keeps;
       some-depth = rw (m .no-depth, zero-add (depth rs)) (s .some-depth);
-      whole = λ w h x. ap (chain w h rs) (a .whole w h x) ∙ s .whole w h _ ∙ rw (m .no-depth, zero-add (depth rs));
+      whole = λ w h curve x. ap (chain w h curve rs) (a .whole w h curve x) ∙ s .whole w h curve _ ∙ rw (m .no-depth, zero-add (depth rs));
     }
 
 keeps-now : (seen : List ℕ) (on : Bool) (amount : Float) (k : ℕ) (rs : List Record) → Headed seen (Persistence amount k) rs
@@ -136,12 +137,12 @@ keeps-now seen true amount k rs q e =
     let some : 1 ≤ k = leb-true 1 k (both (leb 1 k) _ (both (settled c0·0 c0·95 amount) _ (q .normal) .1) .0) in
     record {
       amount = amount;
-      before = λ w h frame. frame;
+      before = λ w h curve frame. frame;
       after = a .paint;
-      before-keeps = λ w h frame. refl;
+      before-keeps = λ w h curve frame. refl;
       after-keeps = a .keeps;
       some-depth = omega arith;
-      whole = λ w h x. a .whole w h _ ∙ rw one;
+      whole = λ w h curve x. a .whole w h curve _ ∙ rw one;
     }
 keeps-now seen false amount k rs q e = false-true (sym (absent rs (no-second seen (Persistence amount k) rs q) .0) ∙ e)
 
@@ -167,54 +168,54 @@ apart rs n = go (persists rs) refl
     go true e = keeping e (keeps [] rs n e)
     go false e = quiet e (washes rs e)
 
-module _ (w h : ℕ) (rs : List Record) where
+module _ (w h : ℕ) (curve : List Float) (rs : List Record) where
   abbrev Enough : Flow → Type 0
   Enough = Fits (depth rs) (sized w h)
 
-  pub frame-length : Apart rs → (x : Flow) → length (chain w h rs x .frame .words) ≡ length (x .frame .words)
-  frame-length (quiet e a) x = ap (λ (y : Flow). length (y .frame .words)) (a .whole w h x) ∙ a .keeps w h (x .frame)
+  pub frame-length : Apart rs → (x : Flow) → length (chain w h curve rs x .frame .words) ≡ length (x .frame .words)
+  frame-length (quiet e a) x = ap (λ (y : Flow). length (y .frame .words)) (a .whole w h curve x) ∙ a .keeps w h curve (x .frame)
   frame-length (keeping e a) x =
-      ap (λ (y : Flow). length (y .frame .words)) (a .whole w h x)
-      ∙ a .after-keeps w h _
-      ∙ persistence-length (a .amount) (depth rs) (sized w h) (repaint (a .before w h) x)
-      ∙ a .before-keeps w h (x .frame)
+      ap (λ (y : Flow). length (y .frame .words)) (a .whole w h curve x)
+      ∙ a .after-keeps w h curve _
+      ∙ persistence-length (a .amount) (depth rs) (sized w h) (repaint (a .before w h curve) x)
+      ∙ a .before-keeps w h curve (x .frame)
 
-  pub past-length : Apart rs → (x : Flow) → Enough x → length (chain w h rs x .past) ≡ length (x .past)
-  past-length (quiet e a) x fits = ap (λ (y : Flow). length (y .past)) (a .whole w h x)
+  pub past-length : Apart rs → (x : Flow) → Enough x → length (chain w h curve rs x .past) ≡ length (x .past)
+  past-length (quiet e a) x fits = ap (λ (y : Flow). length (y .past)) (a .whole w h curve x)
   past-length (keeping e a) x fits =
-      let long : length (a .before w h (x .frame) .words) ≡ h * w = a .before-keeps w h (x .frame) ∙ fits .long in
-      ap (λ (y : Flow). length (y .past)) (a .whole w h x)
-      ∙ history-length (a .amount) (depth rs) (sized w h) (repaint (a .before w h) x) (rw long (fits .room))
+      let long : length (a .before w h curve (x .frame) .words) ≡ h * w = a .before-keeps w h curve (x .frame) ∙ fits .long in
+      ap (λ (y : Flow). length (y .past)) (a .whole w h curve x)
+      ∙ history-length (a .amount) (depth rs) (sized w h) (repaint (a .before w h curve) x) (rw long (fits .room))
 
-  pub chain-held : Keeps rs → (x : Flow) → chain w h rs x .held ≡ sized w h
-  chain-held a x = ap (λ (y : Flow). y .held) (a .whole w h x) ∙ persistence-held (a .amount) (depth rs) (sized w h) (repaint (a .before w h) x)
+  pub chain-held : Keeps rs → (x : Flow) → chain w h curve rs x .held ≡ sized w h
+  chain-held a x = ap (λ (y : Flow). y .held) (a .whole w h curve x) ∙ persistence-held (a .amount) (depth rs) (sized w h) (repaint (a .before w h curve) x)
 
-  before-fits : (a : Keeps rs) (x : Flow) → Enough x → Enough (repaint (a .before w h) x)
-  before-fits a x fits = record { long = a .before-keeps w h (x .frame) ∙ fits .long; room = fits .room }
+  before-fits : (a : Keeps rs) (x : Flow) → Enough x → Enough (repaint (a .before w h curve) x)
+  before-fits a x fits = record { long = a .before-keeps w h curve (x .frame) ∙ fits .long; room = fits .room }
 
   -- two flows through it
   module _ (x y : Flow) (same : x .frame ≡ y .frame) (fits : Enough x) (fits′ : Enough y) where
     before-near : (a : Keeps rs) (m : ℕ) → Near m (x .held) (y .held) (x .past) (y .past)
-        → let u = repaint (a .before w h) x in let v = repaint (a .before w h) y in Near m (u .held) (v .held) (u .past) (v .past)
+        → let u = repaint (a .before w h curve) x in let v = repaint (a .before w h curve) y in Near m (u .held) (v .held) (u .past) (v .past)
     before-near a m near = record { same-held = near .same-held; places = near .places }
 
-    before-same : (a : Keeps rs) → repaint (a .before w h) x .frame ≡ repaint (a .before w h) y .frame
-    before-same a = ap (a .before w h) same
+    before-same : (a : Keeps rs) → repaint (a .before w h curve) x .frame ≡ repaint (a .before w h curve) y .frame
+    before-same a = ap (a .before w h curve) same
 
     -- where m places agree, one more does
     pub chain-near : Keeps rs → (m : ℕ) → suc m ≤ depth rs → Near m (x .held) (y .held) (x .past) (y .past)
-        → take (suc m * (h * w)) (chain w h rs x .past) ≡ take (suc m * (h * w)) (chain w h rs y .past)
+        → take (suc m * (h * w)) (chain w h curve rs x .past) ≡ take (suc m * (h * w)) (chain w h curve rs y .past)
     chain-near a m le near =
-        ap (λ (z : Flow). take (suc m * (h * w)) (z .past)) (a .whole w h x)
+        ap (λ (z : Flow). take (suc m * (h * w)) (z .past)) (a .whole w h curve x)
         ∙ near-more (a .amount) (depth rs) (sized w h) _ _ (ap (λ (p : Painted). p .words) (before-same a)) (before-fits a x fits) (before-fits a y fits′) m le (before-near a m near)
-        ∙ sym (ap (λ (z : Flow). take (suc m * (h * w)) (z .past)) (a .whole w h y))
+        ∙ sym (ap (λ (z : Flow). take (suc m * (h * w)) (z .past)) (a .whole w h curve y))
 
     -- where all do, the pictures do, and what was clipped
-    pub chain-picture : Apart rs → Near (depth rs) (x .held) (y .held) (x .past) (y .past) → chain w h rs x .frame ≡ chain w h rs y .frame
+    pub chain-picture : Apart rs → Near (depth rs) (x .held) (y .held) (x .past) (y .past) → chain w h curve rs x .frame ≡ chain w h curve rs y .frame
     chain-picture (quiet e a) near =
-        ap (λ (z : Flow). z .frame) (a .whole w h x) ∙ ap (a .paint w h) same ∙ sym (ap (λ (z : Flow). z .frame) (a .whole w h y))
+        ap (λ (z : Flow). z .frame) (a .whole w h curve x) ∙ ap (a .paint w h curve) same ∙ sym (ap (λ (z : Flow). z .frame) (a .whole w h curve y))
     chain-picture (keeping e a) near =
         let fine = before-fits a x fits .long in
-        ap (λ (z : Flow). z .frame) (a .whole w h x)
-        ∙ ap (a .after w h) (near-picture (a .amount) (depth rs) (sized w h) _ _ (before-same a) fine (a .some-depth) (before-near a (depth rs) near))
-        ∙ sym (ap (λ (z : Flow). z .frame) (a .whole w h y))
+        ap (λ (z : Flow). z .frame) (a .whole w h curve x)
+        ∙ ap (a .after w h curve) (near-picture (a .amount) (depth rs) (sized w h) _ _ (before-same a) fine (a .some-depth) (before-near a (depth rs) near))
+        ∙ sym (ap (λ (z : Flow). z .frame) (a .whole w h curve y))

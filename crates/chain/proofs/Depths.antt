@@ -1,4 +1,5 @@
--- The depth of a chain: the sum grows record by record, and is enough for each of its passes. Assumes nothing.
+-- The depth of a chain: the sum grows record by record, and is enough for each of its passes; so is the curve where the chain reads one. Assumes
+-- nothing.
 use Prim.Native.Nat.{ℕ, zero, suc, _+_, _*_, _≤_, _<_}
 use native.Mathlib.Nat.{le-of-suc-le-suc, not-suc-le-zero, mul-le-mul-right, le-trans}
 use native.Mathlib.Omega.{arith}
@@ -8,13 +9,14 @@ use mathlib.Core.List.{List, [], _∷_, _++_}
 use lib.ListN.{length, take, getD}
 use lib.Seq.{getD-take, length-take-le}
 use Rattle.cards.specs.Alike.{chainOf}
-use Rattle.chain.specs.Chain.{depth, depthOf}
+use Rattle.chain.specs.Chain.{depth, depthOf, reads, readsCurve}
 use Rattle.chain.specs.Lent.{Readies}
 use Rattle.cards.specs.Normal.{goodStation, normalPass, normalChain}
 use Rattle.cards.specs.Passes.{kindOf}
 use Rattle.cards.specs.declared.station.Record.{Record}
 use Rattle.cards.specs.declared.station.Station.{Station}
 use Rattle.cards.specs.Laws.Good.{good, headed}
+use Rattle.num.specs.Laws.Bools.{or-left, or-second}
 
 pub depth-more : (rs : List Record) (i : ℕ) (d : Record) → i < length rs → depth (take (suc i) rs) ≡ depth (take i rs) + depthOf (getD rs i d .pass)
 unfolding depth
@@ -35,9 +37,17 @@ normal-at seen [] h i d l = absurd (not-suc-le-zero l)
 normal-at seen (r ∷ rs) h zero d l = headed seen r rs h .normal
 normal-at seen (r ∷ rs) h (suc i) d l = normal-at (seen ++ kindOf (r .pass) ∷ []) rs (headed seen r rs h .others) i d (le-of-suc-le-suc l)
 
--- a good station's records are ready where the history is long enough
-pub readies : (s : Station) (w h room : ℕ) → goodStation s ≡ true → length (s .records) ≡ 10 → depth (chainOf s) * (h * w) ≤ room → Readies w h (s .n) (s .records) room
-readies s w h room e long fits =
+-- a chain reads the curve where one of its passes does
+reads-at : (rs : List Record) (i : ℕ) (d : Record) → i < length rs → reads (getD rs i d .pass) ≡ true → readsCurve rs ≡ true
+unfolding readsCurve
+reads-at [] i d l e = absurd (not-suc-le-zero l)
+reads-at (r ∷ rs) zero d l e = or-left (reads (r .pass)) (readsCurve rs) e
+reads-at (r ∷ rs) (suc i) d l e = or-second (reads (r .pass)) (readsCurve rs) (reads-at rs i d (le-of-suc-le-suc l) e)
+
+-- a good station's records are ready where the history is long enough, and the curve where it is read
+pub readies : (s : Station) (w h room lent : ℕ) → goodStation s ≡ true → length (s .records) ≡ 10 → depth (chainOf s) * (h * w) ≤ room
+    → (readsCurve (chainOf s) ≡ true → 256 ≤ lent) → Readies w h (s .n) (s .records) room lent
+readies s w h room lent e long fits read =
     let g = good s e in
     let size : length (chainOf s) ≡ s .n = length-take-le (s .n) (s .records) (omega (arith, g .few)) in
     record {
@@ -48,5 +58,6 @@ readies s w h room e long fits =
           record {
             normal = subst (λ (r : Record). normalPass (r .pass) ≡ true) same (normal-at [] (chainOf s) (g .normal) i d inside);
             past-room = subst (λ (r : Record). depthOf (r .pass) * (h * w) ≤ room) same (le-trans (mul-le-mul-right (h * w) (deepest (chainOf s) i d inside)) fits);
+            curve-room = subst (λ (r : Record). reads (r .pass) ≡ true → 256 ≤ lent) same (λ c. read (reads-at (chainOf s) i d inside c));
           };
     }

@@ -24,7 +24,7 @@ use Rattle.cards.specs.Answers.{Report, refusal, acceptance}
 use Rattle.chain.specs.Calls.{stops, lacks, onFirst, presets, shownBy}
 use Rattle.chain.specs.Calls.{frameReplyBy}
 use Rattle.cards.specs.Card.{stationOf, headerAt, recordsAt, endsAt, endAt, stationAt, accepted, openOf}
-use Rattle.chain.specs.Chain.{wash, overBy, turnBy, depth}
+use Rattle.chain.specs.Chain.{wash, overBy, turnBy, depth, readsCurve}
 use Rattle.chain.specs.Machine.{Call, frame, reset, switch, step, State, Seen, call, after, run, saw}
 use Rattle.cards.specs.Normal.{settled, normalPass, normalChain, persists, goodStation}
 use Rattle.cards.specs.Passes.{passAt, persistenceAt, lutAt}
@@ -61,11 +61,11 @@ opens-other = refl
 
 -- a frame of one pixel in a framebuffer of two words, with two history words lent
 abbrev one : (spare p : ℕ) → Call
-one spare p = frame 1 1 (p ∷ spare ∷ []) 2 6 1
+one spare p = frame 1 1 (p ∷ spare ∷ []) 2 6 1 []
 
 -- with one history word lent it is refused
 abbrev short : Call
-short = frame 1 1 (0 ∷ 0 ∷ []) 1 6 1
+short = frame 1 1 (0 ∷ 0 ∷ []) 1 6 1 []
 
 -- shared, but for the word past count
 abbrev shared : (spare : ℕ) → List Call
@@ -102,7 +102,7 @@ abbrev tube : Station
 tube = stationOf (record { on = true; pass = Persistence c0·30 1 } ∷ [])
 
 abbrev white : Call
-white = frame 1 1 (0xffffff ∷ []) 1 6 1
+white = frame 1 1 (0xffffff ∷ []) 1 6 1 []
 
 -- What the own list reports: acceptance with no channel clipped, refusal 10, and the presets. Before the point of agreement two stations may report different
 -- numbers: the first shared frame is mixed by one, and fills the history of the other.
@@ -129,7 +129,7 @@ points =
 
 pub runs-hold : Hold shows × Hold reports × Hold points
 unfolding point before saw run after call frameReplyBy unless shownBy stops lacks goodStation fineHeld sameHeld
-    badSide settled normalPass normalChain persists depth fold turnBy overBy wash onFirst presets ofBits ofInt add mul div
+    badSide settled normalPass normalChain persists depth readsCurve fold turnBy overBy wash onFirst presets ofBits ofInt add mul div
     lt clampOf cutOf rewrite Text.Pixel.unpack Text.Pixel.pack Text.Pixel.packClamped Text.Persistence.persistence
     Text.Persistence.decay Text.Persistence.total Text.Persistence.add Text.Persistence.mix converted sum
     Text.Pixel.clip Text.Pixel.clips Text.Persistence.blend Persistence.copies Persistence.refilled Persistence.shifted
@@ -138,11 +138,11 @@ runs-hold = (refl, refl, refl)
 -- ## The theorem at these stations
 
 same : (p : ℕ) → SameCall (one 7 p) (one 8 p)
-same p = frames refl (λ fits. refl)
+same p = frames (record { same-length = refl; same-first = λ fits. refl }) (record { same-length = refl; same-first = λ fits. refl })
 
 pub agree : drop 2 (saw old (shared 7)) ≡ drop 2 (saw new (shared 8))
 unfolding point before saw run after call frameReplyBy unless shownBy stops lacks goodStation fineHeld sameHeld
-    badSide settled normalPass normalChain persists depth fold turnBy overBy wash onFirst presets ofBits ofInt add mul div
+    badSide settled normalPass normalChain persists depth readsCurve fold turnBy overBy wash onFirst presets ofBits ofInt add mul div
     lt clampOf cutOf rewrite Text.Pixel.unpack Text.Pixel.pack Text.Pixel.packClamped Text.Persistence.persistence
     Text.Persistence.decay Text.Persistence.total Text.Persistence.add Text.Persistence.mix converted sum
     Text.Pixel.clip Text.Pixel.clips Text.Persistence.blend Persistence.copies Persistence.refilled Persistence.shifted

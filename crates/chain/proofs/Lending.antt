@@ -12,23 +12,24 @@ use lib.Ieee.{Float}
 use Rattle.num.specs.Const.{c0·0, c0·95, c1·0}
 use Rattle.passes.specs as Text
 use Rattle.num.specs.Held.{Held, sized, sameHeld}
+use Rattle.passes.specs.ColorCorrection.{Enough}
 use Rattle.passes.specs.Flow.{Flow, flow}
 use Rattle.passes.specs.Laws.Fold.{Folded}
 use Rattle.passes.specs.Painted.{Painted, painted, onto}
 use Rattle.passes.specs.Plain.Persistence.{persistence, blend, shifted, refilled}
 use Rattle.passes.specs.Rows.{Frame}
-use Rattle.chain.specs.Chain.{wash, over, overBy, turn, turnBy}
+use Rattle.chain.specs.Chain.{wash, over, overBy, turn, turnBy, reads}
 use Rattle.chain.specs.Lent.{Lent, Ready}
 use Rattle.cards.specs.Normal.{normalPass, settled, counted}
 use Rattle.cards.specs.declared.station.Pass.{Pass}
-use Rattle.cards.specs.declared.station.Pass.the-variants.{Ntsc, Bloom, Persistence}
+use Rattle.cards.specs.declared.station.Pass.the-variants.{Ntsc, Bloom, Persistence, ColorCorrection}
 use Rattle.cards.specs.declared.station.Record.{Record}
 use Rattle.num.specs.Laws.Bools.{both}
 use Rattle.chain.proofs.PassCases.{by-memory, over-few}
 
 -- ## What a ready pass may rely on
 
-module _ {w h room : ℕ} {pass : Pass} (r : Ready w h pass room) where
+module _ {w h room lent : ℕ} {pass : Pass} (r : Ready w h pass room lent) where
   pub bleed-fine : {strength : Float} {bleed : ℕ} → pass ≡ Ntsc strength bleed → bleed ≤ 64
   unfolding normalPass
   bleed-fine {strength} {bleed} e =
@@ -45,10 +46,14 @@ module _ {w h room : ℕ} {pass : Pass} (r : Ready w h pass room) where
   unfolding normalPass
   depth-fine {amount} {depth} {frame} s e =
       let normal : settled c0·0 c0·95 amount && counted 8 depth ≡ true = ap normalPass (sym e) ∙ r .normal in
-      let known : Ready w h (Persistence amount depth) room = subst (λ (p : Pass). Ready w h p room) e r in (
+      let known : Ready w h (Persistence amount depth) room lent = subst (λ (p : Pass). Ready w h p room lent) e r in (
         leb-true depth 8 (both (leb 1 depth) (leb depth 8) (both (settled c0·0 c0·95 amount) (counted 8 depth) normal .1) .1),
         subst (λ (n : ℕ). depth * n ≤ room) (sym (s .area)) (known .past-room),
       )
+
+  pub curve-fine : {brightness contrast saturation gamma : Float} (curve : List Float) → lent ≡ length curve
+      → pass ≡ ColorCorrection brightness contrast saturation gamma → Enough gamma curve
+  curve-fine curve n e c = subst (λ (k : ℕ). 256 ≤ k) n (r .curve-room (ap reads e ∙ c))
 
 -- ## What a pass leaves
 
@@ -57,26 +62,26 @@ fresh : (t : Painted) → t ≡ painted (t .words) (0 + t .clipped)
 fresh t = ap (painted (t .words)) (sym (zero-add (t .clipped)))
 
 -- a pass without memory was `case`, and left `new`
-pub washed : (w h : ℕ) (frame : List ℕ) (paint : List ℕ → Painted) {held : Held} {pass case : Pass} {new : Painted} {past : List ℕ}
-    → pass ≡ case → new ≡ paint frame → over w h case (flow (painted frame 0) held past) ≡ wash paint (flow (painted frame 0) held past)
-    → flow new held past ≡ over w h pass (flow (painted frame 0) held past)
+pub washed : (w h : ℕ) (curve : List Float) (frame : List ℕ) (paint : List ℕ → Painted) {held : Held} {pass case : Pass} {new : Painted} {past : List ℕ}
+    → pass ≡ case → new ≡ paint frame → over w h curve case (flow (painted frame 0) held past) ≡ wash paint (flow (painted frame 0) held past)
+    → flow new held past ≡ over w h curve pass (flow (painted frame 0) held past)
 unfolding wash
-washed w h frame paint {held} {pass} {case} {new} {past} e n o =
-    ap (λ (y : Painted). flow y held past) (n ∙ fresh (paint frame)) ∙ sym o ∙ ap (λ (p : Pass). over w h p (flow (painted frame 0) held past)) (sym e)
+washed w h curve frame paint {held} {pass} {case} {new} {past} e n o =
+    ap (λ (y : Painted). flow y held past) (n ∙ fresh (paint frame)) ∙ sym o ∙ ap (λ (p : Pass). over w h curve p (flow (painted frame 0) held past)) (sym e)
 
 -- persistence, by the frame's size
-pub persisted : (w h : ℕ) (x : Flow) {pass : Pass} {amount : Float} {depth : ℕ} {size : Held} {y : Flow} → size ≡ sized w h
-    → pass ≡ Persistence amount depth → y ≡ persistence amount depth size x → y ≡ over w h pass x
+pub persisted : (w h : ℕ) (curve : List Float) (x : Flow) {pass : Pass} {amount : Float} {depth : ℕ} {size : Held} {y : Flow} → size ≡ sized w h
+    → pass ≡ Persistence amount depth → y ≡ persistence amount depth size x → y ≡ over w h curve pass x
 unfolding overBy
-persisted w h x {pass} {amount} {depth} s e o = o ∙ ap (λ (n : Held). persistence amount depth n x) s ∙ ap (λ (p : Pass). over w h p x) (sym e)
+persisted w h curve x {pass} {amount} {depth} s e o = o ∙ ap (λ (n : Held). persistence amount depth n x) s ∙ ap (λ (p : Pass). over w h curve p x) (sym e)
 
-pub turn-on : (w h : ℕ) (x : Flow) (r : Record) {y : Flow} → r .on ≡ true → y ≡ over w h (r .pass) x → y ≡ turn w h x r
+pub turn-on : (w h : ℕ) (curve : List Float) (x : Flow) (r : Record) {y : Flow} → r .on ≡ true → y ≡ over w h curve (r .pass) x → y ≡ turn w h curve x r
 unfolding turnBy
-turn-on w h x r e o = o ∙ ap (λ (b : Bool). cond b (over w h (r .pass) x) x) (sym e)
+turn-on w h curve x r e o = o ∙ ap (λ (b : Bool). cond b (over w h curve (r .pass) x) x) (sym e)
 
-pub turn-off : (w h : ℕ) (x : Flow) (r : Record) → r .on ≡ false → x ≡ turn w h x r
+pub turn-off : (w h : ℕ) (curve : List Float) (x : Flow) (r : Record) → r .on ≡ false → x ≡ turn w h curve x r
 unfolding turnBy
-turn-off w h x r e = ap (λ (b : Bool). cond b (over w h (r .pass) x) x) (sym e)
+turn-off w h curve x r e = ap (λ (b : Bool). cond b (over w h curve (r .pass) x) x) (sym e)
 
 -- ## What was clipped before
 
@@ -84,7 +89,7 @@ turn-off w h x r e = ap (λ (b : Bool). cond b (over w h (r .pass) x) x) (sym e)
 abbrev pub adding : ℕ → Flow → Flow
 adding n x = flow (painted (x .frame .words) (n + x .frame .clipped)) (x .held) (x .past)
 
-module _ (w h n : ℕ) (words : List ℕ) (held : Held) (past : List ℕ) where
+module _ (w h n : ℕ) (curve : List Float) (words : List ℕ) (held : Held) (past : List ℕ) where
   abbrev before : ℕ → Flow
   before k = flow (painted words k) held past
 
@@ -106,42 +111,42 @@ module _ (w h n : ℕ) (words : List ℕ) (held : Held) (past : List ℕ) where
           ap (λ (m : ℕ). flow (painted (t .words) (n + m)) (sized w h) (shifted k words past)) (sym (zero-add (t .clipped)))
       of false = ap (λ (m : ℕ). flow (painted words m) (sized w h) (refilled k words past)) (sym (add-zero n))
 
-  over-adds : (p : Pass) → over w h p (before n) ≡ adding n (over w h p (before 0))
+  over-adds : (p : Pass) → over w h curve p (before n) ≡ adding n (over w h curve p (before 0))
   unfolding overBy wash
   over-adds =
-      by-memory (λ p. over w h p (before n) ≡ adding n (over w h p (before 0))) persistence-adds
+      by-memory (λ p. over w h curve p (before n) ≡ adding n (over w h curve p (before 0))) persistence-adds
       (λ p m.
-      let t : Painted = m .paint w h words in
-      m .whole w h (before n) ∙ ap (λ (y : Painted). flow (painted (y .words) (n + y .clipped)) held past) (fresh t)
-      ∙ sym (ap (adding n) (m .whole w h (before 0))))
+      let t : Painted = m .paint w h curve words in
+      m .whole w h curve (before n) ∙ ap (λ (y : Painted). flow (painted (y .words) (n + y .clipped)) held past) (fresh t)
+      ∙ sym (ap (adding n) (m .whole w h curve (before 0))))
 
   -- a record over a frame of which n channels were clipped before: as over one of which none were, and these added
-  pub turn-adds : (r : Record) → turn w h (before n) r ≡ adding n (turn w h (before 0) r)
+  pub turn-adds : (r : Record) → turn w h curve (before n) r ≡ adding n (turn w h curve (before 0) r)
   unfolding turnBy
   turn-adds r = of (r .on)
     where
-      of : (b : Bool) → cond b (over w h (r .pass) (before n)) (before n) ≡ adding n (cond b (over w h (r .pass) (before 0)) (before 0))
+      of : (b : Bool) → cond b (over w h curve (r .pass) (before n)) (before n) ≡ adding n (cond b (over w h curve (r .pass) (before 0)) (before 0))
       of true = over-adds (r .pass)
       of false = none-added
 
 -- a record clips no more than three channels of each word
-pub turn-few : (w h : ℕ) (x : Flow) (r : Record) → turn w h x r .frame .clipped ≤ x .frame .clipped + 3 * length (x .frame .words)
+pub turn-few : (w h : ℕ) (curve : List Float) (x : Flow) (r : Record) → turn w h curve x r .frame .clipped ≤ x .frame .clipped + 3 * length (x .frame .words)
 unfolding turnBy
-turn-few w h x r = of (r .on)
+turn-few w h curve x r = of (r .on)
   where
-    of : (b : Bool) → cond b (over w h (r .pass) x) x .frame .clipped ≤ x .frame .clipped + 3 * length (x .frame .words)
-    of true = over-few w h x (r .pass)
+    of : (b : Bool) → cond b (over w h curve (r .pass) x) x .frame .clipped ≤ x .frame .clipped + 3 * length (x .frame .words)
+    of true = over-few w h curve x (r .pass)
     of false = omega arith
 
 -- ## The loop over the records
 
 -- the first i of n records have turned the flow x into `frame`, `clipped`, `held` and `past`; `room` is the length of the history
 pub record Running
-    (w h n i room : ℕ) (rs : List Record) (x : Flow) (frame : List ℕ) (clipped : ℕ) (held : Held) (past : List ℕ) (floats : List Float) (ints : List ℕ)
+    (w h n i room : ℕ) (curve : List Float) (rs : List Record) (x : Flow) (frame : List ℕ) (clipped : ℕ) (held : Held) (past : List ℕ) (floats : List Float) (ints : List ℕ)
     : Type 0
   where
     pub near : i ≤ n
-    pub so-far : Folded i (turn w h) x rs (flow (painted frame clipped) held past)
+    pub so-far : Folded i (turn w h curve) x rs (flow (painted frame clipped) held past)
     pub few : clipped ≤ 3145728 * i
     pub lent : Lent w h frame floats ints
     pub kept : length past ≡ room

@@ -7,6 +7,7 @@ pub mod Depths
 pub mod First
 pub mod Lending
 pub mod Goes
+pub mod Curves
 pub mod Kept
 pub mod Apart
 pub mod Changed

@@ -1,6 +1,6 @@
 -- The cases that document 01 marks (●) hold, by computation. Assumes nothing.
 use mathlib.Core.Path.{refl}
-use lib.Ieee.{ofBits, toBits, ofInt, add, sub, mul, div, neg, lt, le, eq}
+use lib.Ieee.{ofBits, toBits, ofInt, add, sub, mul, div, neg, lt, le, eq, ne}
 use Rattle.num.specs.F32.{dec}
 use Rattle.num.specs.Held.{sameHeld, fineHeld}
 use Rattle.num.specs.Refusals.{badSide, unless}
@@ -14,13 +14,13 @@ use Rattle.passes.specs.Plain.Persistence as Persistence
 use Rattle.cards.specs.Bits.{valueAt, fieldAt}
 use Rattle.chain.specs.Calls.{stops, shownBy, frameReplyBy}
 use Rattle.cards.specs.Card.{headerAt, recordsAt, endsAt, endAt, stationAt, openOf}
-use Rattle.chain.specs.Chain.{wash, overBy, turnBy, depth}
+use Rattle.chain.specs.Chain.{wash, overBy, turnBy, depth, readsCurve}
 use Rattle.chain.specs.Machine.{call, after, saw}
 use Rattle.cards.specs.Normal.{settled, normalPass, normalChain, persists, goodStation}
 use Rattle.cards.specs.Passes.{passAt, autoGradientAt, persistenceAt, curvatureAt, colorCorrectionAt, crtAt}
 use Rattle.cards.specs.Passes.{vignetteAt, scanlinesAt}
 use Rattle.cards.specs.Records.{recordAt}
-use Rattle.cards.specs.Settings.{finiteAt, limitedAt, withinAt, gainAt, countAt}
+use Rattle.cards.specs.Settings.{finiteAt, limitedAt, withinAt, raisedAt, countAt}
 use Rattle.cards.specs.Step.{refuseIf}
 use Rattle.cards.specs.Written.{bits, passBits, recordBits, recordsBits, chainBits, valueOf, pack as packBytes}
 use Rattle.cards.specs.Written.{chainCard, cardOf}
@@ -37,11 +37,11 @@ unfolding dec ofBits toBits ofInt add sub mul div neg lt le eq clampOf minOf max
     Text.AutoGradient.warm Text.AutoGradient.fall Text.AutoGradient.brightness Text.AutoGradient.shade Text.Persistence.persistence
     Text.Persistence.decay Text.Persistence.total Text.Persistence.add Text.Persistence.mix converted
     Text.Persistence.blend Persistence.copies Persistence.refilled Persistence.shifted
-    Text.ColorCorrection.colorCorrection Text.ColorCorrection.colour openOf stationAt headerAt fieldAt valueAt refuseIf
+    Text.ColorCorrection.colorCorrection Text.ColorCorrection.curved Text.ColorCorrection.start Text.ColorCorrection.colour ne openOf stationAt headerAt fieldAt valueAt refuseIf
     recordsAt endAt endsAt recordAt passAt autoGradientAt persistenceAt curvatureAt colorCorrectionAt crtAt vignetteAt
-    scanlinesAt finiteAt limitedAt withinAt gainAt countAt cardOf chainCard packBytes valueOf chainBits recordsBits
+    scanlinesAt finiteAt limitedAt withinAt raisedAt countAt cardOf chainCard packBytes valueOf chainBits recordsBits
     recordBits passBits bits saw after call frameReplyBy unless shownBy stops badSide goodStation normalChain
-    normalPass settled persists depth turnBy overBy wash
+    normalPass settled persists depth readsCurve turnBy overBy wash
 marked =
     record {
       round-half = refl;
@@ -53,7 +53,7 @@ marked =
       root-one = refl;
       root-two = refl;
       empty-card = refl;
-      empty-picture = λ w h x. refl;
+      empty-picture = λ w h curve x. refl;
       limited-card = refl;
       scanlines = refl;
       vignette = refl;

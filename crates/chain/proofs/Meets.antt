@@ -9,13 +9,14 @@ use mathlib.Core.Bool.{Bool, true, false, not, _&&_, cond, and-true, and-false}
 use mathlib.Core.List.{List, [], _∷_, _++_}
 use borrow.Author.Tests.{not-true}
 use lib.Dec.{eqb}
+use lib.Ieee.{Float}
 use lib.ListN.{length, take, drop, take-append-drop}
 use lib.Seq.{take-nil, take-append-le, take-at, length-take-le}
 use Rattle.num.specs.Held.{Held, nothing, sized, area}
 use Rattle.num.specs.Refusals.{unless}
 use Rattle.passes.specs.Flow.{Flow}
 use Rattle.passes.specs.Painted.{Painted, painted}
-use Rattle.chain.specs.Agree.{SameCall, frames, resets, switches-to, steps, lent, Lends}
+use Rattle.chain.specs.Agree.{SameFirst, SameCall, frames, resets, switches-to, steps, lent, Lends}
 use Rattle.cards.specs.Answers.{Report, acceptance, ok, reply, refusing}
 use Rattle.chain.specs.Agree.{on, takes, ends}
 use Rattle.cards.specs.Alike.{chainOf}
@@ -28,6 +29,7 @@ use Rattle.cards.specs.declared.station.Record.{Record}
 use Rattle.cards.specs.declared.station.Station.{Station}
 use Rattle.chain.proofs.Apart.{Apart, quiet, keeping, depth-among, frame-length, past-length, chain-held, chain-near, chain-picture}
 use Rattle.num.specs.Laws.Bools.{both, false-true}
+use Rattle.chain.proofs.Curves.{reply-curve}
 use Rattle.chain.proofs.Goes.{goes}
 use Rattle.chain.proofs.Kept.{Near, near-less, near-zero, near-nothing, Fits}
 use Rattle.chain.proofs.Fit.{Fit, same-depth, idle-held}
@@ -79,7 +81,7 @@ module _ (s : Station) (b : Held) (H G : List ℕ) (fit-s : Fit s) (fit-t : Fit 
 
   -- a frame that both accept
   module _
-      (w h l : ℕ) (p q : List ℕ) (same : take (h * w) p ≡ take (h * w) q)
+      (w h l : ℕ) (curve : List Float) (p q : List ℕ) (same : take (h * w) p ≡ take (h * w) q)
       (fits : Fits (depth (chainOf s)) (sized w h) (incoming w h s p (take l H)))
       (fits′ : Fits (depth (chainOf s)) (sized w h) (incoming w h (hold b s) q (take l G)))
     where
@@ -93,25 +95,25 @@ module _ (s : Station) (b : Held) (H G : List ℕ) (fit-s : Fit s) (fit-t : Fit 
       y = incoming w h (hold b s) q (take l G)
 
       abbrev X : Flow
-      X = chain w h rs x
+      X = chain w h curve rs x
 
       abbrev Y : Flow
-      Y = chain w h rs y
+      Y = chain w h curve rs y
 
       lent-near : (m : ℕ) → m ≤ j → Near m (s .held) b (take l H) (take l G)
       lent-near m le = near-less (s .held) b (take l H) (take l G) m j le (near-lent j l (s .held) b H G near)
 
       near-after : Apart rs → (i : ℕ) → i ≤ depth rs → i ≤ cond (persists rs) (suc j) j
           → Near i (X .held) (Y .held) (X .past ++ drop l H) (Y .past ++ drop l G)
-      near-after (quiet o a) i le at = rw (a .whole w h x, a .whole w h y) (near-nothing (s .held) b _ _ i (idle-held s fit-s o) (idle-held (hold b s) fit-t o))
+      near-after (quiet o a) i le at = rw (a .whole w h curve x, a .whole w h curve y) (near-nothing (s .held) b _ _ i (idle-held s fit-s o) (idle-held (hold b s) fit-t o))
       near-after (keeping o a) zero le at = near-zero (X .held) (Y .held) _ _
       near-after (keeping o a) (suc m) le at =
-          let u : X .held ≡ sized w h = chain-held w h rs a x in
-          let v : Y .held ≡ sized w h = chain-held w h rs a y in
+          let u : X .held ≡ sized w h = chain-held w h curve rs a x in
+          let v : Y .held ≡ sized w h = chain-held w h curve rs a y in
           let fewer : m ≤ j = le-of-suc-le-suc (rw o at at) in
           let less : suc m * (h * w) ≤ depth rs * (h * w) = mul-le-mul-right (h * w) le in
-          let long : length (X .past) ≡ length (x .past) = past-length w h rs (keeping o a) x fits in
-          let long′ : length (Y .past) ≡ length (y .past) = past-length w h rs (keeping o a) y fits′ in
+          let long : length (X .past) ≡ length (x .past) = past-length w h curve rs (keeping o a) x fits in
+          let long′ : length (Y .past) ≡ length (y .past) = past-length w h curve rs (keeping o a) y fits′ in
           let room : depth rs * (h * w) ≤ length (x .past) = fits .room in
           let room′ : depth rs * (h * w) ≤ length (y .past) = fits′ .room in
           record {
@@ -119,54 +121,55 @@ module _ (s : Station) (b : Held) (H G : List ℕ) (fit-s : Fit s) (fit-t : Fit 
             places =
                 rw u
                 (take-append-le (suc m * (h * w)) (X .past) (drop l H) (omega arith)
-                ∙ chain-near w h rs x y (ap (λ (l : List ℕ). painted l 0) same) fits fits′ a m le (lent-near m fewer)
+                ∙ chain-near w h curve rs x y (ap (λ (l : List ℕ). painted l 0) same) fits fits′ a m le (lent-near m fewer)
                 ∙ sym (take-append-le (suc m * (h * w)) (Y .past) (drop l G) (omega arith)));
           }
 
       frame-same : Apart rs → depth rs ≤ j → X .frame ≡ Y .frame
-      frame-same a all = chain-picture w h rs x y (ap (λ (l : List ℕ). painted l 0) same) fits fits′ a (lent-near (depth rs) all)
+      frame-same a all = chain-picture w h curve rs x y (ap (λ (l : List ℕ). painted l 0) same) fits fits′ a (lent-near (depth rs) all)
 
       picture-same : Apart rs → depth rs ≤ j → take (h * w) (X .frame .words ++ drop (h * w) p) ≡ take (h * w) (Y .frame .words ++ drop (h * w) q)
       picture-same a all =
-          take-at (X .frame .words) (drop (h * w) p) (h * w) (frame-length w h rs a x ∙ fits .long)
+          take-at (X .frame .words) (drop (h * w) p) (h * w) (frame-length w h curve rs a x ∙ fits .long)
           ∙ ap (λ (f : Painted). f .words) (frame-same a all)
-          ∙ sym (take-at (Y .frame .words) (drop (h * w) q) (h * w) (frame-length w h rs a y ∙ fits′ .long))
+          ∙ sym (take-at (Y .frame .words) (drop (h * w) q) (h * w) (frame-length w h curve rs a y ∙ fits′ .long))
 
   lacks-same : (kind : ℕ) → lacks s kind ≡ lacks (hold b s) kind
   unfolding lacks
   lacks-same kind = rw (fit-s .sound, fit-t .sound)
 
-  stops-same : (w h u v m i : ℕ) → stops s w h u v m i ≡ stops (hold b s) w h u v m i
+  stops-same : (w h u v m i : ℕ) (curve : List Float) → stops s w h u v m i curve ≡ stops (hold b s) w h u v m i curve
   unfolding stops
-  stops-same w h u v m i = rw (fit-s .sound, fit-t .sound)
+  stops-same w h u v m i curve = rw (fit-s .sound, fit-t .sound)
 
   -- a frame, where k is its refusal
-  module _ (w h l m i : ℕ) (p q : List ℕ) (lent-s : l ≤ length H) (lent-t : l ≤ length G) where
+  module _ (w h l m i : ℕ) (curve : List Float) (p q : List ℕ) (lent-s : l ≤ length H) (lent-t : l ≤ length G) where
     abbrev this-frame : ℕ → Framed
-    this-frame k = unless k (refusingFrame s p (take l H)) (shown w h s p (take l H))
+    this-frame k = unless k (refusingFrame s p (take l H)) (shown w h s p (take l H) curve)
 
     abbrev that-frame : ℕ → Framed
-    that-frame k = unless k (refusingFrame (hold b s) q (take l G)) (shown w h (hold b s) q (take l G))
+    that-frame k = unless k (refusingFrame (hold b s) q (take l G)) (shown w h (hold b s) q (take l G) curve)
 
-    frame-step : (A : Type 0) → (A → depth (chainOf s) ≤ j) → length p ≡ length q → (h * w ≤ length p → take (h * w) p ≡ take (h * w) q)
-        → (k : ℕ) → stops s w h (length p) (length (take l H)) m i ≡ k
+    frame-step : (A : Type 0) → (A → depth (chainOf s) ≤ j) → SameFirst (h * w) p q
+        → (k : ℕ) → stops s w h (length p) (length (take l H)) m i curve ≡ k
         → (n : ℕ) → n ≤ depth (chainOf s) → n ≤ cond (persists (chainOf s) && ok (this-frame k .answer)) (suc j) j
         → Step A n (lend (h * w) l H (this-frame k)) (lend (h * w) l G (that-frame k))
     unfolding unless shownBy
-    frame-step A all e f zero z n le at =
-        let g = goes s w h (length p) (length (take l H)) m i z in
+    frame-step A all same zero z n le at =
+        let g = goes s w h (length p) (length (take l H)) m i curve z in
+        let first : take (h * w) p ≡ take (h * w) q = same .same-first (g .frame-room) in
         let room : depth (chainOf s) * (h * w) ≤ l = rw (length-take-le l H lent-s) at (g .past-room) in
         let fits = enough w h s p (take l H) (g .frame-room) (g .past-room) in
-        let fits′ = enough w h (hold b s) q (take l G) (rw e at (g .frame-room)) (rw (length-take-le l G lent-t) room) in
+        let fits′ = enough w h (hold b s) q (take l G) (rw (same .same-length) at (g .frame-room)) (rw (length-take-le l G lent-t) room) in
         let a = good-apart s fit-s in
         record {
           accepted = refl;
           alike = refl;
-          near = near-after w h l p q (f (g .frame-room)) fits fits′ a n le (rw (and-true (persists (chainOf s))) at at);
-          answers = λ z. ap (λ (x : Painted). acceptance (x .clipped ∷ [])) (frame-same w h l p q (f (g .frame-room)) fits fits′ a (all z));
-          pictures = λ z. picture-same w h l p q (f (g .frame-room)) fits fits′ a (all z);
+          near = near-after w h l curve p q first fits fits′ a n le (rw (and-true (persists (chainOf s))) at at);
+          answers = λ z. ap (λ (x : Painted). acceptance (x .clipped ∷ [])) (frame-same w h l curve p q first fits fits′ a (all z));
+          pictures = λ z. picture-same w h l curve p q first fits fits′ a (all z);
         }
-    frame-step A all e f (suc k) z n le at =
+    frame-step A all same (suc k) z n le at =
         rw (take-append-drop l H, take-append-drop l G)
         (unseen A n _ s (hold b s) H G refl (near-less (s .held) b H G n j (rw (and-false (persists (chainOf s))) at at) near))
 
@@ -185,13 +188,16 @@ module _ (s : Station) (b : Held) (H G : List ℕ) (fit-s : Fit s) (fit-t : Fit 
   call-step : {c d : Call} → SameCall c d → lent c ≤ length H → lent c ≤ length G
       → (n : ℕ) → n ≤ depth (chainOf s) → n ≤ cond (takes this c) (suc j) j → Step (Whole c) n (call c this) (call d that)
   unfolding call frameReplyBy
-  call-step (frames {w} {h} {lent = l} {floats = m} {ints = i} {words = p} {other = q} e f) lH lG n le at =
-      let k = stops s w h (length p) (length (take l H)) m i in
-      let stop : k ≡ stops (hold b s) w h (length q) (length (take l G)) m i =
-      cc (stops-same w h (length p) (length (take l H)) m i, length-take-le l H lH, length-take-le l G lG) in
-      let left = lend (h * w) l H (this-frame w h l m i p q lH lG k) in
-      subst (λ (o : ℕ). Step (Whole (frame w h p l m i)) n left (lend (h * w) l G (that-frame w h l m i p q lH lG o))) stop
-      (frame-step w h l m i p q lH lG _ (λ z. z refl) e f k refl n le at)
+  call-step (frames {w} {h} {lent = l} {floats = m} {ints = i} {words = p} {other = q} {curve = curve} same curves) lH lG n le at =
+      let k = stops s w h (length p) (length (take l H)) m i curve in
+      let long = same .same-length in
+      let stop : k ≡ stops (hold b s) w h (length q) (length (take l G)) m i curve =
+      cc (stops-same w h (length p) (length (take l H)) m i curve, long, length-take-le l H lH, length-take-le l G lG) in
+      let left = lend (h * w) l H (this-frame w h l m i curve p q lH lG k) in
+      let whole = Whole (frame w h p l m i curve) in
+      subst (λ (r : Framed). Step whole n left (lend (h * w) l G r)) (reply-curve w h (hold b s) q (take l G) m i curves)
+      (subst (λ (o : ℕ). Step whole n left (lend (h * w) l G (that-frame w h l m i curve p q lH lG o))) stop
+      (frame-step w h l m i curve p q lH lG _ (λ z. z refl) same k refl n le at))
   call-step resets lH lG n le at = rw (← (lacks-same 4)) (reply-step (Whole reset) n at (lacks s 4) [] true s)
   call-step (switches-to {kind} {on = position}) lH lG n le at =
       let turning = rechain (onFirst kind (turned position) (chainOf s)) s in

@@ -2,11 +2,13 @@
 use Prim.Native.Nat.{ℕ, _*_}
 use native.Mathlib.Omega.{arith}
 use mathlib.Core.Path.{_≡_}
-use mathlib.Core.Bool.{Bool, true, false, _||_, cond}
+use mathlib.Core.Bool.{Bool, true, false, not, _&&_, _||_, cond}
 use mathlib.Core.List.{List, [], _∷_}
 use lib.Dec.{ltb}
+use lib.Ieee.{Float}
 use lib.ListN.{take}
 use Rattle.num.specs.Refusals.{badSide}
+use Rattle.passes.specs.ColorCorrection.{goodCurve}
 use Rattle.chain.specs.Agree.{opened}
 use Rattle.cards.specs.Alike.{chainOf}
 use Rattle.cards.specs.Answers.{Report, refusal}
@@ -14,7 +16,7 @@ use Rattle.cards.specs.Laws.Answers.{accepted-not}
 use Rattle.chain.specs.Calls.{stops, lacks}
 use Rattle.chain.specs.Calls.{shownBy, frameReplyBy}
 use Rattle.cards.specs.Card.{accepted, openOf}
-use Rattle.chain.specs.Chain.{depth}
+use Rattle.chain.specs.Chain.{depth, readsCurve}
 use Rattle.chain.specs.Machine.{Call, frame, reset, switch, step, State, Seen, call, after, run, saw}
 use Rattle.cards.specs.Normal.{goodStation}
 use Rattle.cards.specs.Records.{kinds, among}
@@ -30,14 +32,15 @@ lacks-not : (s : Station) (kind : ℕ) → goodStation s ≡ true → lacks s ki
 unfolding lacks
 lacks-not s kind e = rw e (cond-not (among kind (kinds (chainOf s))) 0 12 (omega arith) (omega arith))
 
-stops-not : (s : Station) (w h u v m i : ℕ) → goodStation s ≡ true → stops s w h u v m i ≡ 13 → ⊥
+stops-not : (s : Station) (w h u v m i : ℕ) (curve : List Float) → goodStation s ≡ true → stops s w h u v m i curve ≡ 13 → ⊥
 unfolding stops
-stops-not s w h u v m i e =
+stops-not s w h u v m i curve e =
     rw e
     (cond-not (badSide w || badSide h) 8 _ (omega arith)
     (cond-not (ltb u (h * w)) 9 _ (omega arith)
     (cond-not (ltb v (depth (chainOf s) * (h * w))) 10 _ (omega arith)
-    (cond-not (ltb m (6 * (h * w)) || ltb i (h * w)) 11 0 (omega arith) (omega arith)))))
+    (cond-not (ltb m (6 * (h * w)) || ltb i (h * w)) 11 _ (omega arith)
+    (cond-not (readsCurve (chainOf s) && not (goodCurve curve)) 16 0 (omega arith) (omega arith))))))
 
 refusal-not : (k : ℕ) → (k ≡ 13 → ⊥) → Path Report (refusal k) (refusal 13) → ⊥
 refusal-not k q e = q (cc)
@@ -45,9 +48,9 @@ refusal-not k q e = q (cc)
 -- to a good station, in one call
 pub call-not : (c : Call) (s : State) → goodStation (s .station) ≡ true → call c s .gives .answer ≡ refusal 13 → ⊥
 unfolding call frameReplyBy shownBy
-call-not (frame w h words l m i) s e =
+call-not (frame w h words l m i curve) s e =
     by-stop (λ r. r .answer ≡ refusal 13 → ⊥) _ (s .station) words (take l (s .history)) _
-    (refusal-not _ (stops-not (s .station) w h _ _ m i e)) (λ z. accepted-not _ 13)
+    (refusal-not _ (stops-not (s .station) w h _ _ m i curve e)) (λ z. accepted-not _ 13)
 call-not reset s e = by-lack (λ r. r .answer ≡ refusal 13 → ⊥) _ (s .station) _ (refusal-not _ (lacks-not (s .station) 4 e)) (accepted-not [] 13)
 call-not (switch kind on) s e = by-lack (λ r. r .answer ≡ refusal 13 → ⊥) _ (s .station) _ (refusal-not _ (lacks-not (s .station) kind e)) (accepted-not [] 13)
 call-not step s e = by-lack (λ r. r .answer ≡ refusal 13 → ⊥) _ (s .station) _ (refusal-not _ (lacks-not (s .station) 5 e)) (accepted-not _ 13)

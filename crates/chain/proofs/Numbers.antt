@@ -15,14 +15,16 @@ use lib.Ieee.Fits.{down-pos}
 use lib.Ieee.Scale.{finite}
 use Rattle.num.specs.Held.{sized}
 use Rattle.num.specs.Refusals.{unless}
-use Rattle.num.specs.Const.{c0·0, c0·5, c0·95, c1·0, c4·0}
+use Rattle.num.specs.Const.{c0·0, c0·01, c0·5, c0·95, c1·0, c4·0}
 use Rattle.num.specs.Ranges.{within}
 use Rattle.num.specs.Laws.Within.{size-le, within-plus, zero-value}
 use Rattle.passes.specs.Arith.{Arith, Agrees}
 use Rattle.passes.specs.Casts.{casts, checked}
 use Rattle.passes.specs.Laws.Casts.{casts-agree, checked-agree}
+use Rattle.passes.specs.ColorCorrection.{goodCurve}
 use Rattle.passes.specs.Flow.{Flow, flow}
 use Rattle.passes.specs.Fold.{fold}
+use Rattle.passes.specs.Laws.Curves.{curve-within}
 use Rattle.passes.specs.Laws.Inside as Inside
 use Rattle.passes.specs.Painted.{Painted, painted}
 use Rattle.passes.specs.Laws.Range as Range
@@ -31,7 +33,7 @@ use Rattle.cards.specs.Alike.{chainOf}
 use Rattle.cards.specs.Answers.{acceptance}
 use Rattle.chain.specs.Calls.{framed, hold, incoming, stops, refusingFrame, shown, shownBy}
 use Rattle.chain.specs.Calls.{frameReply, frameReplyBy}
-use Rattle.chain.specs.Chain.{wash, overBy, turn, turnBy, chain, depthOf, depth, over}
+use Rattle.chain.specs.Chain.{wash, overBy, turn, turnBy, chain, depthOf, depth, over, reads, readsCurve}
 use Rattle.cards.specs.Normal.{negZero, settled, counted, normalPass, normalChain}
 use Rattle.chain.specs.Numbers.{Pass-inside, Numbers-inside, Casts-inside}
 use Rattle.chain.specs.Numbers.{Checked-inside}
@@ -42,7 +44,7 @@ use Rattle.cards.specs.declared.station.Pass.the-variants.{Ntsc, Bloom, AutoGra
 use Rattle.cards.specs.declared.station.Pass.the-variants.{ColorCorrection, Crt, Vignette, Scanlines}
 use Rattle.cards.specs.declared.station.Record.{Record}
 use Rattle.cards.specs.declared.station.Station.{Station}
-use Rattle.num.specs.Laws.Bools.{false-true, both}
+use Rattle.num.specs.Laws.Bools.{false-true, both, or-left, or-second}
 use Rattle.chain.proofs.Goes.{goes}
 use Rattle.cards.specs.Laws.Good.{good, headed}
 use Rattle.chain.proofs.PassCases.{over-frame, over-past}
@@ -127,109 +129,109 @@ unpainting x l = painting x (painted l 0)
 module _ (A : Arith) (G : Agrees A) where
   pub pass-inside : Pass-inside A
   unfolding overBy wash normalPass within ofBits
-  pass-inside w h (Ntsc strength bleed) x n t f room =
+  pass-inside w h curve (Ntsc strength bleed) x n t f room good =
       let p = both (settled c0·0 c1·0 strength) (counted 64 bleed) n in
       ap (painting x)
       (Inside.ntsc-inside G w h strength bleed (x .frame .words) f (unit strength (p .0)) (counted-most 64 bleed (p .1)))
-  pass-inside w h (Bloom threshold strength radius) x n t f room =
+  pass-inside w h curve (Bloom threshold strength radius) x n t f room good =
       let p = both (settled c0·0 c1·0 strength) (counted 64 radius) n in
       let l : threshold ≤ 255 = (let u = t .0 in omega arith) in
       ap (painting x)
       (Inside.bloom-inside G w h threshold strength radius (x .frame .words) f l (unit strength (p .0))
       (counted-most 64 radius (p .1)))
-  pass-inside w h (AutoGradient strength vertical horizontal) x n t f room =
+  pass-inside w h curve (AutoGradient strength vertical horizontal) x n t f room good =
       let p = both (settled c0·0 c1·0 strength && settled c0·0 c1·0 vertical) (settled c0·0 c1·0 horizontal) n in
       let q = both (settled c0·0 c1·0 strength) (settled c0·0 c1·0 vertical) (p .0) in
       ap (painting x)
       (Inside.auto-gradient-inside G w h strength vertical horizontal (x .frame .words) f (unit strength (q .0))
       (unit vertical (q .1)) (unit horizontal (p .1)))
-  pass-inside w h (Persistence amount k) x n t f room =
+  pass-inside w h curve (Persistence amount k) x n t f room good =
       let p = both (settled c0·0 c0·95 amount) (counted 8 k) n in
       Inside.persistence-inside G amount k (sized w h) x (settled-within 1 c0·95 amount tt (p .0))
       (counted-most 8 k (p .1)) room
-  pass-inside w h (Lut preset strength) x n t f room =
+  pass-inside w h curve (Lut preset strength) x n t f room good =
       ap (painting x)
       (Inside.lut-inside G preset strength (x .frame .words)
       (unit strength (both (ltb preset 7) (settled c0·0 c1·0 strength) n .1)))
-  pass-inside w h (Curvature amount) x n t f room =
+  pass-inside w h curve (Curvature amount) x n t f room good =
       ap (unpainting x)
       (Inside.curvature-inside G w h amount (x .frame .words) f (settled-within 1 c0·5 amount tt n))
-  pass-inside w h (ColorCorrection brightness contrast saturation gamma) x n t f room =
+  pass-inside w h curve (ColorCorrection brightness contrast saturation gamma) x n t f room good =
       let b = settled (neg c1·0) c1·0 brightness in
       let c = settled c0·0 c4·0 contrast in
       let s = settled c0·0 c4·0 saturation in
-      let p = both (b && c && s) (settled c1·0 c1·0 gamma) n in
+      let p = both (b && c && s) (settled c0·01 c4·0 gamma) n in
       let q = both (b && c) s (p .0) in
       let r = both b c (q .0) in
       ap (painting x)
-      (Inside.color-correction-inside G brightness contrast saturation (x .frame .words) (settled-sized brightness (r .0))
+      (Inside.color-correction-inside G curve brightness contrast saturation gamma (x .frame .words) (λ c. curve-within curve (good c)) (settled-sized brightness (r .0))
       (settled-within 4 c4·0 contrast tt (r .1)) (settled-within 4 c4·0 saturation tt (q .1)))
-  pass-inside w h (Crt strength) x n t f room =
+  pass-inside w h curve (Crt strength) x n t f room good =
       ap (unpainting x) (Inside.crt-inside G w h strength (x .frame .words) f (unit strength n))
-  pass-inside w h (Vignette strength) x n t f room =
+  pass-inside w h curve (Vignette strength) x n t f room good =
       ap (unpainting x)
       (Inside.vignette-inside G w h strength (x .frame .words) f (unit strength n))
-  pass-inside w h (Scanlines strength) x n t f room =
+  pass-inside w h curve (Scanlines strength) x n t f room good =
       ap (unpainting x)
       (Inside.scanlines-inside G w strength (x .frame .words) (unit strength n))
 
 -- ## The chain
 
-module _ (A : Arith) (G : Agrees A) (w h : ℕ) where
+module _ (A : Arith) (G : Agrees A) (w h : ℕ) (curve : List Float) where
   -- a record, on or off
   record Turned (x : Flow) (r : Record) : Type 0 where
-    same : turnBy A w h x r ≡ turn w h x r
-    frame : length (turn w h x r .frame .words) ≡ length (x .frame .words)
-    past : length (turn w h x r .past) ≡ length (x .past)
+    same : turnBy A w h curve x r ≡ turn w h curve x r
+    frame : length (turn w h curve x r .frame .words) ≡ length (x .frame .words)
+    past : length (turn w h curve x r .past) ≡ length (x .past)
 
   turned : (x : Flow) (r : Record) → normalPass (r .pass) ≡ true → Typed (r .pass) → Frame w h (x .frame .words)
-      → depthOf (r .pass) * length (x .frame .words) ≤ length (x .past) → Turned x r
+      → depthOf (r .pass) * length (x .frame .words) ≤ length (x .past) → (reads (r .pass) ≡ true → goodCurve curve ≡ true) → Turned x r
   unfolding turnBy
-  turned x r n t f room = go (r .on) refl
+  turned x r n t f room good = go (r .on) refl
     where
       go : (b : Bool) → r .on ≡ b → Turned x r
       go true e =
           record {
-            same = rw e (pass-inside A G w h (r .pass) x n t f room);
-            frame = rw e (over-frame w h x (r .pass));
-            past = rw e (over-past w h x (r .pass) room);
+            same = rw e (pass-inside A G w h curve (r .pass) x n t f room good);
+            frame = rw e (over-frame w h curve x (r .pass));
+            past = rw e (over-past w h curve x (r .pass) room);
           }
       go false e = record { same = rw e; frame = rw e; past = rw e }
 
   chained : (rs : List Record) (seen : List ℕ) (x : Flow) → normalChain seen rs ≡ true → TypedChain rs
-      → Frame w h (x .frame .words) → depth rs * (h * w) ≤ length (x .past)
-      → fold (turnBy A w h) x rs ≡ chain w h rs x
-  unfolding fold depth
-  chained [] seen x n t f room = refl
-  chained (r ∷ rs) seen x n t f room =
+      → Frame w h (x .frame .words) → depth rs * (h * w) ≤ length (x .past) → (readsCurve rs ≡ true → goodCurve curve ≡ true)
+      → fold (turnBy A w h curve) x rs ≡ chain w h curve rs x
+  unfolding fold depth readsCurve
+  chained [] seen x n t f room good = refl
+  chained (r ∷ rs) seen x n t f room good =
       let q = headed seen r rs n in
       let parts : depthOf (r .pass) * (h * w) + depth rs * (h * w) ≤ length (x .past) =
       subst (λ (k : ℕ). k ≤ length (x .past)) (add-mul (depthOf (r .pass)) (depth rs) (h * w)) room in
       let own : depthOf (r .pass) * length (x .frame .words) ≤ length (x .past) = rw (f .area) (omega arith) in
-      let y = turned x r (q .normal) (t .0) f own in
-      ap (λ (z : Flow). fold (turnBy A w h) z rs) (y .same)
-      ∙ chained rs (seen ++ kindOf (r .pass) ∷ []) (turn w h x r) (q .others) (t .1)
+      let y = turned x r (q .normal) (t .0) f own (λ c. good (or-left (reads (r .pass)) (readsCurve rs) c)) in
+      ap (λ (z : Flow). fold (turnBy A w h curve) z rs) (y .same)
+      ∙ chained rs (seen ++ kindOf (r .pass) ∷ []) (turn w h curve x r) (q .others) (t .1)
       (record { area = y .frame ∙ f .area; wide = f .wide; high = f .high })
-      (rw (y .past) (omega arith))
+      (rw (y .past) (omega arith)) (λ c. good (or-second (reads (r .pass)) (readsCurve rs) c))
 
   frame-inside-at : (s : Station) (words past : List ℕ) (floats ints : ℕ) → TypedChain (chainOf s)
-      → frameReplyBy A w h s words past floats ints ≡ frameReply w h s words past floats ints
+      → frameReplyBy A w h s words past floats ints curve ≡ frameReply w h s words past floats ints curve
   unfolding frameReplyBy unless shownBy
-  frame-inside-at s words past floats ints t = go (stops s w h (length words) (length past) floats ints) refl
+  frame-inside-at s words past floats ints t = go (stops s w h (length words) (length past) floats ints curve) refl
     where
-      go : (k : ℕ) → stops s w h (length words) (length past) floats ints ≡ k
-          → unless k (refusingFrame s words past) (shownBy A w h s words past)
-          ≡ unless k (refusingFrame s words past) (shown w h s words past)
+      go : (k : ℕ) → stops s w h (length words) (length past) floats ints curve ≡ k
+          → unless k (refusingFrame s words past) (shownBy A w h s words past curve)
+          ≡ unless k (refusingFrame s words past) (shown w h s words past curve)
       go zero e =
-          let g = goes s w h (length words) (length past) floats ints e in
+          let g = goes s w h (length words) (length past) floats ints curve e in
           ap (λ (x : Flow). framed (acceptance (x .frame .clipped ∷ [])) (hold (x .held) s) (x .frame .words ++ drop (h * w) words) (x .past))
           (chained (chainOf s) [] (incoming w h s words past) (good s (g .good) .normal) t
           (record { area = length-take-le (h * w) words (g .frame-room); wide = g .wide .1; high = g .high .1 })
-          (g .past-room))
+          (g .past-room) (g .curve-good))
       go (suc k) e = refl
 
 pub numbers-inside : Numbers-inside
-numbers-inside A G = (pass-inside A G, λ w h. frame-inside-at A G w h)
+numbers-inside A G = (pass-inside A G, λ w h s words past floats ints curve. frame-inside-at A G w h curve s words past floats ints)
 
 pub casts-inside : Casts-inside
 casts-inside = numbers-inside casts casts-agree .1

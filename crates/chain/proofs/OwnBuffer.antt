@@ -2,6 +2,7 @@
 use Prim.Native.Nat.{ℕ}
 use mathlib.Core.Path.{_≡_, refl, _∙_}
 use mathlib.Core.List.{List, [], _∷_}
+use lib.Ieee.{Float}
 use lib.ListN.{length, take}
 use lib.Seq.{length-front}
 use Rattle.cards.specs.Alike.{chainOf}
@@ -13,19 +14,20 @@ use Rattle.chain.proofs.Goes.{goes}
 use Rattle.chain.proofs.Fit.{Fit}
 use Rattle.chain.proofs.Sound.{good-apart, enough, by-stop, call-fit}
 
-frame-past : (w h : ℕ) (s : Station) (words past : List ℕ) (m i : ℕ) → Fit s → length (frameReply w h s words past m i .past) ≡ length past
+frame-past : (w h : ℕ) (s : Station) (words past : List ℕ) (m i : ℕ) (curve : List Float) → Fit s
+    → length (frameReply w h s words past m i curve .past) ≡ length past
 unfolding frameReplyBy shownBy
-frame-past w h s words past m i f =
+frame-past w h s words past m i curve f =
     by-stop (λ r. length (r .past) ≡ length past) _ s words past _ refl
     (λ z.
-    let g = goes s w h (length words) (length past) m i z in
-    past-length w h (chainOf s) (good-apart s f) (incoming w h s words past) (enough w h s words past (g .frame-room) (g .past-room)))
+    let g = goes s w h (length words) (length past) m i curve z in
+    past-length w h curve (chainOf s) (good-apart s f) (incoming w h s words past) (enough w h s words past (g .frame-room) (g .past-room)))
 
 pub call-length : (c : Call) (s : State) → Fit (s .station) → length (after c s .history) ≡ length (s .history)
 unfolding call after
-call-length (frame w h words l m i) s f =
+call-length (frame w h words l m i curve) s f =
     let past = take l (s .history) in
-    length-front (s .history) (frameReply w h (s .station) words past m i .past) l (frame-past w h (s .station) words past m i f)
+    length-front (s .history) (frameReply w h (s .station) words past m i curve .past) l (frame-past w h (s .station) words past m i curve f)
 call-length reset s f = refl
 call-length (switch kind on) s f = refl
 call-length step s f = refl

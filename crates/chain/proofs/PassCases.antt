@@ -3,12 +3,13 @@
 use Prim.Native.Nat.{ℕ, suc, _+_, _*_, _≤_, zero-le}
 use native.Mathlib.Omega.{arith}
 use mathlib.Core.Path.{_≡_, refl, sym, ap, subst, _∙_}
-use mathlib.Core.Bool.{false}
+use mathlib.Core.Bool.{false, not}
 use mathlib.Core.List.{List, [], _∷_}
 use denote.Enum.Declared.{tagOf}
-use lib.Dec.{eqb}
+use lib.Dec.{T, eqb}
 use lib.Ieee.{Float}
 use lib.ListN.{length}
+use mir.Val.{hasKey}
 use types.Run.{OneOf, miss}
 use Rattle.num.specs.Held.{sized}
 use Rattle.passes.specs.Flow.{Flow}
@@ -27,7 +28,7 @@ use Rattle.passes.specs.Plain.Crt.{crt}
 use Rattle.passes.specs.Plain.Vignette.{vignette}
 use Rattle.passes.specs.Plain.Scanlines.{scanlines}
 use Rattle.chain.specs.Calls.{next, steppedPass, presetOf}
-use Rattle.chain.specs.Chain.{wash, over, overBy, depthOf}
+use Rattle.chain.specs.Chain.{wash, over, overBy, depthOf, reads}
 use Rattle.cards.specs.Passes.{kindOf}
 use Rattle.cards.specs.declared.station.Pass.{Pass}
 use Rattle.cards.specs.declared.station.Pass.the-variants.{Ntsc, Bloom, AutoGradient, Persistence, Lut, Curvature}
@@ -37,9 +38,9 @@ use Rattle.cards.proofs.station.Pass.{the-type}
 -- ## Persistence, or a pass that only paints the frame
 
 pub record Plain (p : Pass) : Type 0 where
-  pub paint : (w h : ℕ) → List ℕ → Painted
-  pub paints : (w h : ℕ) (frame : List ℕ) → Paints frame (paint w h frame)
-  pub whole : (w h : ℕ) (x : Flow) → over w h p x ≡ wash (paint w h) x
+  pub paint : (w h : ℕ) → List Float → List ℕ → Painted
+  pub paints : (w h : ℕ) (curve : List Float) (frame : List ℕ) → Paints frame (paint w h curve frame)
+  pub whole : (w h : ℕ) (curve : List Float) (x : Flow) → over w h curve p x ≡ wash (paint w h curve) x
   pub kind : eqb (kindOf p) 4 ≡ false
   pub no-depth : depthOf p ≡ 0
 
@@ -50,52 +51,52 @@ unclipped-paints frame words e = record { long = e; few = zero-le }
 pub by-memory : (P : Pass → Type 0) → ((amount : Float) (k : ℕ) → P (Persistence amount k)) → ((p : Pass) → Plain p → P p) → (p : Pass) → P p
 unfolding overBy
 by-memory P f g (Ntsc s b) =
-    g _ (record { paint = λ w h. ntsc w s b; paints = λ w h l. ntsc-paints w h s l b; whole = λ w h x. refl; kind = refl; no-depth = refl })
+    g _ (record { paint = λ w h curve. ntsc w s b; paints = λ w h curve l. ntsc-paints w h s l b; whole = λ w h curve x. refl; kind = refl; no-depth = refl })
 by-memory P f g (Bloom t s r) =
-    g _ (record { paint = λ w h. bloom w h t s r; paints = λ w h l. bloom-paints w h s l t r; whole = λ w h x. refl; kind = refl; no-depth = refl })
+    g _ (record { paint = λ w h curve. bloom w h t s r; paints = λ w h curve l. bloom-paints w h s l t r; whole = λ w h curve x. refl; kind = refl; no-depth = refl })
 by-memory P f g (AutoGradient s u v) =
-    let law : (w h : ℕ) (l : List ℕ) → Paints l (autoGradient w h s u v l) = λ w h l. auto-gradient-paints w h s l u v in
-    g _ (record { paint = λ w h. autoGradient w h s u v; paints = law; whole = λ w h x. refl; kind = refl; no-depth = refl })
+    let law : (w h : ℕ) (curve : List Float) (l : List ℕ) → Paints l (autoGradient w h s u v l) = λ w h curve l. auto-gradient-paints w h s l u v in
+    g _ (record { paint = λ w h curve. autoGradient w h s u v; paints = law; whole = λ w h curve x. refl; kind = refl; no-depth = refl })
 by-memory P f g (Persistence a k) = f a k
 by-memory P f g (Lut p s) =
-    g _ (record { paint = λ w h. lut p s; paints = λ w h l. lut-paints w h s l p; whole = λ w h x. refl; kind = refl; no-depth = refl })
+    g _ (record { paint = λ w h curve. lut p s; paints = λ w h curve l. lut-paints w h s l p; whole = λ w h curve x. refl; kind = refl; no-depth = refl })
 by-memory P f g (Curvature a) =
-    let law : (w h : ℕ) (l : List ℕ) → Paints l (unclipped (curvature w h a) l) = λ w h l. unclipped-paints l _ (curvature-length w h a l) in
-    g _ (record { paint = λ w h. unclipped (curvature w h a); paints = law; whole = λ w h x. refl; kind = refl; no-depth = refl })
+    let law : (w h : ℕ) (curve : List Float) (l : List ℕ) → Paints l (unclipped (curvature w h a) l) = λ w h curve l. unclipped-paints l _ (curvature-length w h a l) in
+    g _ (record { paint = λ w h curve. unclipped (curvature w h a); paints = law; whole = λ w h curve x. refl; kind = refl; no-depth = refl })
 by-memory P f g (ColorCorrection b c s y) =
-    let law : (w h : ℕ) (l : List ℕ) → Paints l (colorCorrection b c s l) = λ w h l. color-correction-paints w h b l c s in
-    g _ (record { paint = λ w h. colorCorrection b c s; paints = law; whole = λ w h x. refl; kind = refl; no-depth = refl })
+    let law : (w h : ℕ) (curve : List Float) (l : List ℕ) → Paints l (colorCorrection curve b c s y l) = λ w h curve l. color-correction-paints w h b l curve c s y in
+    g _ (record { paint = λ w h curve. colorCorrection curve b c s y; paints = law; whole = λ w h curve x. refl; kind = refl; no-depth = refl })
 by-memory P f g (Crt s) =
-    let law : (w h : ℕ) (l : List ℕ) → Paints l (unclipped (crt w h s) l) = λ w h l. unclipped-paints l _ (crt-length w h s l) in
-    g _ (record { paint = λ w h. unclipped (crt w h s); paints = law; whole = λ w h x. refl; kind = refl; no-depth = refl })
+    let law : (w h : ℕ) (curve : List Float) (l : List ℕ) → Paints l (unclipped (crt w h s) l) = λ w h curve l. unclipped-paints l _ (crt-length w h s l) in
+    g _ (record { paint = λ w h curve. unclipped (crt w h s); paints = law; whole = λ w h curve x. refl; kind = refl; no-depth = refl })
 by-memory P f g (Vignette s) =
-    let law : (w h : ℕ) (l : List ℕ) → Paints l (unclipped (vignette w h s) l) = λ w h l. unclipped-paints l _ (vignette-length w h s l) in
-    g _ (record { paint = λ w h. unclipped (vignette w h s); paints = law; whole = λ w h x. refl; kind = refl; no-depth = refl })
+    let law : (w h : ℕ) (curve : List Float) (l : List ℕ) → Paints l (unclipped (vignette w h s) l) = λ w h curve l. unclipped-paints l _ (vignette-length w h s l) in
+    g _ (record { paint = λ w h curve. unclipped (vignette w h s); paints = law; whole = λ w h curve x. refl; kind = refl; no-depth = refl })
 by-memory P f g (Scanlines s) =
-    let law : (w h : ℕ) (l : List ℕ) → Paints l (unclipped (scanlines w s) l) = λ w h l. unclipped-paints l _ (scanlines-length w h s l) in
-    g _ (record { paint = λ w h. unclipped (scanlines w s); paints = law; whole = λ w h x. refl; kind = refl; no-depth = refl })
+    let law : (w h : ℕ) (curve : List Float) (l : List ℕ) → Paints l (unclipped (scanlines w s) l) = λ w h curve l. unclipped-paints l _ (scanlines-length w h s l) in
+    g _ (record { paint = λ w h curve. unclipped (scanlines w s); paints = law; whole = λ w h curve x. refl; kind = refl; no-depth = refl })
 
 -- ## What each pass keeps
 
-module _ (w h : ℕ) (x : Flow) where
-  pub over-frame : (p : Pass) → length (over w h p x .frame .words) ≡ length (x .frame .words)
+module _ (w h : ℕ) (curve : List Float) (x : Flow) where
+  pub over-frame : (p : Pass) → length (over w h curve p x .frame .words) ≡ length (x .frame .words)
   unfolding overBy wash
   over-frame =
-      by-memory (λ p. length (over w h p x .frame .words) ≡ length (x .frame .words)) (λ amount k. persistence-length amount k (sized w h) x)
-      (λ p m. ap (λ (y : Flow). length (y .frame .words)) (m .whole w h x) ∙ m .paints w h (x .frame .words) .long)
+      by-memory (λ p. length (over w h curve p x .frame .words) ≡ length (x .frame .words)) (λ amount k. persistence-length amount k (sized w h) x)
+      (λ p m. ap (λ (y : Flow). length (y .frame .words)) (m .whole w h curve x) ∙ m .paints w h curve (x .frame .words) .long)
 
   -- and how few channels it clips
-  pub over-few : (p : Pass) → over w h p x .frame .clipped ≤ x .frame .clipped + 3 * length (x .frame .words)
+  pub over-few : (p : Pass) → over w h curve p x .frame .clipped ≤ x .frame .clipped + 3 * length (x .frame .words)
   unfolding overBy wash
   over-few =
-      by-memory (λ p. over w h p x .frame .clipped ≤ x .frame .clipped + 3 * length (x .frame .words)) (λ amount k. persistence-few amount k (sized w h) x)
-      (λ p m. rw (m .whole w h x) (omega (arith, m .paints w h (x .frame .words) .few)))
+      by-memory (λ p. over w h curve p x .frame .clipped ≤ x .frame .clipped + 3 * length (x .frame .words)) (λ amount k. persistence-few amount k (sized w h) x)
+      (λ p m. rw (m .whole w h curve x) (omega (arith, m .paints w h curve (x .frame .words) .few)))
 
-  pub over-past : (p : Pass) → depthOf p * length (x .frame .words) ≤ length (x .past) → length (over w h p x .past) ≡ length (x .past)
+  pub over-past : (p : Pass) → depthOf p * length (x .frame .words) ≤ length (x .past) → length (over w h curve p x .past) ≡ length (x .past)
   unfolding overBy wash
   over-past =
-      by-memory (λ p. depthOf p * length (x .frame .words) ≤ length (x .past) → length (over w h p x .past) ≡ length (x .past))
-      (λ amount k room. history-length amount k (sized w h) x room) (λ p m room. ap (λ (y : Flow). length (y .past)) (m .whole w h x))
+      by-memory (λ p. depthOf p * length (x .frame .words) ≤ length (x .past) → length (over w h curve p x .past) ≡ length (x .past))
+      (λ amount k room. history-length amount k (sized w h) x room) (λ p m room. ap (λ (y : Flow). length (y .past)) (m .whole w h curve x))
 
 -- ## No second persistence
 
@@ -148,6 +149,20 @@ stepped-kind = by-preset (λ p. kindOf (steppedPass p) ≡ kindOf p) (λ preset 
 pub steps : (p : Pass) {preset new : ℕ} {strength : Float} → p ≡ Lut preset strength → new ≡ next preset → Lut new strength ≡ steppedPass p
 steps p {strength = strength} e n = ap (λ (k : ℕ). Lut k strength) n ∙ ap steppedPass (sym e)
 
+-- ## Colour, or a pass that reads no curve
+
+pub no-curve : (p : Pass) → (kindOf p ≡ 7 → ⊥) → reads p ≡ false
+no-curve (Ntsc strength bleed) n = refl
+no-curve (Bloom threshold strength radius) n = refl
+no-curve (AutoGradient strength vertical horizontal) n = refl
+no-curve (Persistence amount depth) n = refl
+no-curve (Lut preset strength) n = refl
+no-curve (Curvature amount) n = refl
+no-curve (ColorCorrection brightness contrast saturation gamma) n = absurd (n refl)
+no-curve (Crt strength) n = refl
+no-curve (Vignette strength) n = refl
+no-curve (Scanlines strength) n = refl
+
 -- ## What the other arm of a `match` tells
 
 -- the kinds stand in the order of the enum's cases
@@ -163,19 +178,20 @@ tag-kind (Crt strength) = refl
 tag-kind (Vignette strength) = refl
 tag-kind (Scanlines strength) = refl
 
--- a pass of the cases that are left is no persistence, and no LUT
-pub not-persistence : (p : Pass) → OneOf (0 ∷ 1 ∷ 2 ∷ 4 ∷ 5 ∷ 6 ∷ 7 ∷ 8 ∷ 9 ∷ []) (tagOf the-type p) → kindOf p ≡ 4 → ⊥
-not-persistence p t e =
-    let tag : tagOf the-type p ≡ 3 = omega (arith, tag-kind p) in
-    miss others 3 tt (subst (OneOf others) tag t)
-  where
-    others : List ℕ
-    others = 0 ∷ 1 ∷ 2 ∷ 4 ∷ 5 ∷ 6 ∷ 7 ∷ 8 ∷ 9 ∷ []
+-- a pass of the cases that are left has not that kind
+abbrev Not : (others : List ℕ) → (kind : ℕ) → Type 0
+Not others kind = (p : Pass) → OneOf others (tagOf the-type p) → kindOf p ≡ kind → ⊥
 
-pub not-lut : (p : Pass) → OneOf (0 ∷ 1 ∷ 2 ∷ 3 ∷ 5 ∷ 6 ∷ 7 ∷ 8 ∷ 9 ∷ []) (tagOf the-type p) → kindOf p ≡ 5 → ⊥
-not-lut p t e =
-    let tag : tagOf the-type p ≡ 4 = omega (arith, tag-kind p) in
-    miss others 4 tt (subst (OneOf others) tag t)
-  where
-    others : List ℕ
-    others = 0 ∷ 1 ∷ 2 ∷ 3 ∷ 5 ∷ 6 ∷ 7 ∷ 8 ∷ 9 ∷ []
+not-among : (others : List ℕ) (tag : ℕ) → T (not (hasKey others tag)) → Not others (suc tag)
+not-among others tag out p t e =
+    let here : tagOf the-type p ≡ tag = omega (arith, tag-kind p) in
+    miss others tag out (subst (OneOf others) here t)
+
+pub not-persistence : Not (0 ∷ 1 ∷ 2 ∷ 4 ∷ 5 ∷ 6 ∷ 7 ∷ 8 ∷ 9 ∷ []) 4
+not-persistence = not-among (0 ∷ 1 ∷ 2 ∷ 4 ∷ 5 ∷ 6 ∷ 7 ∷ 8 ∷ 9 ∷ []) 3 tt
+
+pub not-lut : Not (0 ∷ 1 ∷ 2 ∷ 3 ∷ 5 ∷ 6 ∷ 7 ∷ 8 ∷ 9 ∷ []) 5
+not-lut = not-among (0 ∷ 1 ∷ 2 ∷ 3 ∷ 5 ∷ 6 ∷ 7 ∷ 8 ∷ 9 ∷ []) 4 tt
+
+pub not-colour : Not (0 ∷ 1 ∷ 2 ∷ 3 ∷ 4 ∷ 5 ∷ 7 ∷ 8 ∷ 9 ∷ []) 7
+not-colour = not-among (0 ∷ 1 ∷ 2 ∷ 3 ∷ 4 ∷ 5 ∷ 7 ∷ 8 ∷ 9 ∷ []) 6 tt

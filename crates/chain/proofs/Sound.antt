@@ -3,6 +3,7 @@ use Prim.Native.Nat.{ℕ, zero, suc, _*_, _≤_}
 use mathlib.Core.Path.{_≡_, refl, ap, _∙_}
 use mathlib.Core.Bool.{true}
 use mathlib.Core.List.{List, [], _∷_}
+use lib.Ieee.{Float}
 use lib.ListN.{length, take}
 use lib.Seq.{length-take-le}
 use Rattle.num.specs.Held.{nothing, sized, sameHeld, fineHeld}
@@ -34,17 +35,18 @@ pub enough : (w h : ℕ) (s : Station) (words past : List ℕ) → h * w ≤ len
     → Fits (depth (chainOf s)) (sized w h) (incoming w h s words past)
 enough w h s words past frame-room past-room = record { long = length-take-le (h * w) words frame-room; room = past-room }
 
-after-frame : (w h : ℕ) (s : Station) (words past : List ℕ) → Fit s → fineHeld (sized w h) ≡ true → After s (shown w h s words past .station)
+after-frame : (w h : ℕ) (s : Station) (words past : List ℕ) (curve : List Float) → Fit s → fineHeld (sized w h) ≡ true
+    → After s (shown w h s words past curve .station)
 unfolding shownBy
-after-frame w h s words past f fine = go (good-apart s f)
+after-frame w h s words past curve f fine = go (good-apart s f)
   where
     x : Flow
     x = incoming w h s words past
 
-    go : Apart (chainOf s) → After s (hold (chain w h (chainOf s) x .held) s)
-    go (quiet o a) = rw (ap (λ (y : Flow). y .held) (a .whole w h x)) (after-itself s f)
+    go : Apart (chainOf s) → After s (hold (chain w h curve (chainOf s) x .held) s)
+    go (quiet o a) = rw (ap (λ (y : Flow). y .held) (a .whole w h curve x)) (after-itself s f)
     go (keeping o a) =
-        rw (chain-held w h (chainOf s) a x) (after-hold s f (sized w h) fine (or-second (sameHeld (sized w h) nothing) (persists (chainOf s)) o))
+        rw (chain-held w h curve (chainOf s) a x) (after-hold s f (sized w h) fine (or-second (sameHeld (sized w h) nothing) (persists (chainOf s)) o))
 
 -- ## Each call
 
@@ -62,12 +64,12 @@ by-stop P (suc k) s words past r p q = p
 
 pub call-after : (c : Call) (s : State) → Fit (s .station) → After (s .station) (call c s .gives .station)
 unfolding call frameReplyBy
-call-after (frame w h words l m i) s f =
+call-after (frame w h words l m i curve) s f =
     let past = take l (s .history) in
     by-stop (λ r. After (s .station) (r .station)) _ (s .station) words past _ (after-itself (s .station) f)
     (λ z.
-    let g = goes (s .station) w h (length words) (length past) m i z in
-    after-frame w h (s .station) words past f (fine-sized w h (g .wide .0) (g .wide .1) (g .high .0) (g .high .1)))
+    let g = goes (s .station) w h (length words) (length past) m i curve z in
+    after-frame w h (s .station) words past curve f (fine-sized w h (g .wide .0) (g .wide .1) (g .high .0) (g .high .1)))
 call-after reset s f = by-lack (λ r. After (s .station) (r .station)) _ (s .station) _ (after-itself (s .station) f) (after-reset (s .station) f)
 call-after (switch kind on) s f =
     by-lack (λ r. After (s .station) (r .station)) _ (s .station) _ (after-itself (s .station) f) (after-switch (s .station) f kind on)

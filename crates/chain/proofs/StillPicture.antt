@@ -27,7 +27,7 @@ use Rattle.passes.specs.Still.{Still}
 use Rattle.passes.specs.Laws.Still.Pictures.{still-itself, persistence-still}
 use Rattle.passes.specs.Laws.Still.Places.{Full}
 use Rattle.cards.specs.Answers.{acceptance, ok, reply, refusing}
-use Rattle.chain.specs.Agree.{SameCall, frames}
+use Rattle.chain.specs.Agree.{SameFirst, SameCall, frames}
 use Rattle.cards.specs.Alike.{chainOf}
 use Rattle.chain.specs.Calls.{hold, stops, lacks, Framed, framed, incoming, shown}
 use Rattle.chain.specs.Calls.{shownBy, frameReplyBy}
@@ -143,18 +143,17 @@ module _ (on : Bool) (amount : Float) (k w h : ℕ) (words : List ℕ) where
     record { is-alone = t .is-alone; full = λ g p held. take-append-le (k * (h * w)) (y .past) (drop lent (s .history)) room ∙ full held },
   )
 
-  accepted : (s : State) (other : List ℕ) (lent floats ints : ℕ) → Steady s → length words ≡ length other
-      → (h * w ≤ length words → F ≡ take (h * w) other)
-      → stops (s .station) w h (length other) (length (take lent (s .history))) floats ints ≡ 0
-      → Gives lent s (shown w h (s .station) other (take lent (s .history)))
+  accepted : (s : State) (other : List ℕ) (lent floats ints : ℕ) (curve : List Float) → Steady s → SameFirst (h * w) words other
+      → stops (s .station) w h (length other) (length (take lent (s .history))) floats ints curve ≡ 0
+      → Gives lent s (shown w h (s .station) other (take lent (s .history)) curve)
   unfolding shownBy fold turnBy overBy depth
-  accepted s other lent floats ints t long same z =
+  accepted s other lent floats ints curve t same z =
       let n = h * w in
       let past = take lent (s .history) in
       let x : Flow = incoming w h (s .station) other past in
       let y : Flow = cond on (persistence amount k (sized w h) x) x in
-      let g = goes (s .station) w h (length other) (length past) floats ints z in
-      let one : F ≡ take n other = same (omega (arith, g .frame-room)) in
+      let g = goes (s .station) w h (length other) (length past) floats ints curve z in
+      let one : F ≡ take n other = same .same-first (omega (arith, g .frame-room, same .same-length)) in
       let fits : length (take n other) ≡ n = length-take-le n other (g .frame-room) in
       let room : k * n ≤ length past = subst (λ (d : ℕ). d * n ≤ length past) (ap depth (t .is-alone) ∙ add-zero k) (g .past-room) in
       let lends : k * n ≤ lent = omega (arith, length-take lent (s .history)) in
@@ -162,32 +161,32 @@ module _ (on : Bool) (amount : Float) (k w h : ℕ) (words : List ℕ) where
       (λ held. rw fits (take-take (k * n) lent (s .history) lends ∙ t .full (g .good) (mul-pos (g .high .0) (g .wide .0)) held ∙ ap (copies k) one)) in
       subst
       (λ (v : Flow). Gives lent s (framed (acceptance (v .frame .clipped ∷ [])) (hold (v .held) (s .station)) (v .frame .words ++ drop n other) (v .past)))
-      (sym (ap (λ (rs : List Record). chain w h rs x) (t .is-alone)))
+      (sym (ap (λ (rs : List Record). chain w h curve rs x) (t .is-alone)))
       (leaves s other lent y t (rw one (p .0)) (p .0 .0 ∙ fits) (rw (p .1) room) (λ held. (rw fits at (p .2 held)) ∙ ap (copies k) (sym one)))
 
-  each : (s : State) (d : Call) (lent floats ints : ℕ) → Steady s → SameCall (frame w h words lent floats ints) d
+  each : (s : State) (d : Call) (lent floats ints : ℕ) (curve : List Float) → Steady s → SameCall (frame w h words lent floats ints curve) d
       → (ok (call d s .gives .answer) ≡ true → Still F (call d s .gives .picture)) × Steady (after d s)
   unfolding call after frameReplyBy
-  each s d lent floats ints t (frames {other = other} long same) =
+  each s d lent floats ints curve t (frames {other = other} {curve′ = curve′} same curves) =
       let past = take lent (s .history) in
       by-stop (Gives lent s) _ (s .station) other past _
       (λ z. false-true z, rw (take-append-drop lent (s .history)) t)
-      (accepted s other lent floats ints t long same)
+      (accepted s other lent floats ints curve′ t same)
 
-  all : (s : State) (cs : List Call) (lent floats ints : ℕ) → Steady s
-      → Repeats (frame w h words lent floats ints) cs → AllStill F (saw s cs)
+  all : (s : State) (cs : List Call) (lent floats ints : ℕ) (curve : List Float) → Steady s
+      → Repeats (frame w h words lent floats ints curve) cs → AllStill F (saw s cs)
   unfolding saw
-  all s [] lent floats ints t r = tt
-  all s (c ∷ cs) lent floats ints t r =
-      let e = each s c lent floats ints t (r .0) in
-      (e .0, all (after c s) cs lent floats ints (e .1) (r .1))
+  all s [] lent floats ints curve t r = tt
+  all s (c ∷ cs) lent floats ints curve t r =
+      let e = each s c lent floats ints curve t (r .0) in
+      (e .0, all (after c s) cs lent floats ints curve (e .1) (r .1))
 
 pub stays-still : Stays-still
 unfolding saw
-stays-still s on amount k e w h words history floats ints cs same =
-    all on amount k w h words (after reset s) cs history floats ints (after-reset on amount k w h words s e) same
+stays-still s on amount k e w h words history floats ints curve cs same =
+    all on amount k w h words (after reset s) cs history floats ints curve (after-reset on amount k w h words s e) same
 
 pub stays-still-made : Stays-still-made
-stays-still-made s t on amount k e w h words history floats ints cs same gave made =
+stays-still-made s t on amount k e w h words history floats ints curve cs same gave made =
     subst (λ (g : List Seen). AllStill (take (h * w) words) (drop 1 g)) (sym (made-is s t (reset ∷ cs) gave made .0))
-    (stays-still s on amount k e w h words history floats ints cs same)
+    (stays-still s on amount k e w h words history floats ints curve cs same)

@@ -34,17 +34,18 @@ unfolding unless
 reply-keeps zero s t ns k e = accepted-not ns k e
 reply-keeps (suc n) s t ns k e = refl
 
-frame-keeps : (n w h : ℕ) (s : Station) (words past : List ℕ) (k : ℕ) → unless n (refusingFrame s words past) (shown w h s words past) .answer ≡ refusal k
-    → unless n (refusingFrame s words past) (shown w h s words past) ≡ framed (refusal k) s words past
+frame-keeps : (n w h : ℕ) (s : Station) (words past : List ℕ) (curve : List Float) (k : ℕ)
+    → unless n (refusingFrame s words past) (shown w h s words past curve) .answer ≡ refusal k
+    → unless n (refusingFrame s words past) (shown w h s words past curve) ≡ framed (refusal k) s words past
 unfolding unless shownBy
-frame-keeps zero w h s words past k e = accepted-not _ k e
-frame-keeps (suc n) w h s words past k e = ap (λ (r : Report). framed r s words past) e
+frame-keeps zero w h s words past curve k e = accepted-not _ k e
+frame-keeps (suc n) w h s words past curve k e = ap (λ (r : Report). framed r s words past) e
 
 call-keeps : (c : Call) (s : State) (k : ℕ) → call c s .gives .answer ≡ refusal k → after c s ≡ s
 unfolding call after frameReplyBy
-call-keeps (frame w h words l m i) s k e =
+call-keeps (frame w h words l m i curve) s k e =
     let past = take l (s .history) in
-    let kept = frame-keeps (stops (s .station) w h (length words) (length past) m i) w h (s .station) words past k e in
+    let kept = frame-keeps (stops (s .station) w h (length words) (length past) m i curve) w h (s .station) words past curve k e in
     ap (λ (r : Framed). record { station = r .station; history = r .past ++ drop l (s .history) }) kept
     ∙ ap (λ (l : List ℕ). record { station = s .station; history = l }) (take-append-drop l (s .history))
 call-keeps reset s k e = ap (λ (t : Station). record { station = t; history = s .history }) (reply-keeps (lacks (s .station) 4) (s .station) _ _ k e)
@@ -53,7 +54,7 @@ call-keeps step s k e = ap (λ (t : Station). record { station = t; history = s 
 
 pub refused-keeps : Refused-keeps
 unfolding frameReplyBy
-refused-keeps = (call-keeps, λ w h s words past floats ints k e. frame-keeps (stops s w h (length words) (length past) floats ints) w h s words past k e)
+refused-keeps = (call-keeps, λ w h s words past floats ints curve k e. frame-keeps (stops s w h (length words) (length past) floats ints curve) w h s words past curve k e)
 
 -- ## What no frame touches
 
@@ -75,13 +76,13 @@ persistence-rest amount k size x fits = of (sameHeld (x .held) size)
     of false = refilled-rest k words (x .past)
 
 -- a chain leaves the history past its places
-chain-rest : (w h : ℕ) (rs : List Record) → Apart rs → (x : Flow) → length (x .frame .words) ≡ h * w → depth rs * (h * w) ≤ length (x .past)
-    → drop (depth rs * (h * w)) (chain w h rs x .past) ≡ drop (depth rs * (h * w)) (x .past)
-chain-rest w h rs (quiet e a) x long fits = ap (λ (y : Flow). drop (depth rs * (h * w)) (y .past)) (a .whole w h x)
-chain-rest w h rs (keeping e a) x long fits =
-    let y : Flow = repaint (a .before w h) x in
-    let size : length (a .before w h (x .frame) .words) ≡ h * w = a .before-keeps w h (x .frame) ∙ long in
-    ap (λ (z : Flow). drop (depth rs * (h * w)) (z .past)) (a .whole w h x)
+chain-rest : (w h : ℕ) (curve : List Float) (rs : List Record) → Apart rs → (x : Flow) → length (x .frame .words) ≡ h * w → depth rs * (h * w) ≤ length (x .past)
+    → drop (depth rs * (h * w)) (chain w h curve rs x .past) ≡ drop (depth rs * (h * w)) (x .past)
+chain-rest w h curve rs (quiet e a) x long fits = ap (λ (y : Flow). drop (depth rs * (h * w)) (y .past)) (a .whole w h curve x)
+chain-rest w h curve rs (keeping e a) x long fits =
+    let y : Flow = repaint (a .before w h curve) x in
+    let size : length (a .before w h curve (x .frame) .words) ≡ h * w = a .before-keeps w h curve (x .frame) ∙ long in
+    ap (λ (z : Flow). drop (depth rs * (h * w)) (z .past)) (a .whole w h curve x)
     ∙ subst
     (λ (n : ℕ). depth rs * n ≤ length (x .past) → drop (depth rs * n) (persistence (a .amount) (depth rs) (sized w h) y .past) ≡ drop (depth rs * n) (x .past)) size
     (persistence-rest (a .amount) (depth rs) (sized w h) y) fits
@@ -92,20 +93,21 @@ Stays w h s words past r =
     × (drop (depth (chainOf s) * (h * w)) (r .past) ≡ drop (depth (chainOf s) * (h * w)) past)
     × (r .station .records ≡ s .records)
 
-stays : (w h : ℕ) (s : Station) (words past : List ℕ) (floats ints n : ℕ) → stops s w h (length words) (length past) floats ints ≡ n
-    → Stays w h s words past (unless n (refusingFrame s words past) (shown w h s words past))
+stays : (w h : ℕ) (s : Station) (words past : List ℕ) (floats ints : ℕ) (curve : List Float) (n : ℕ)
+    → stops s w h (length words) (length past) floats ints curve ≡ n
+    → Stays w h s words past (unless n (refusingFrame s words past) (shown w h s words past curve))
 unfolding unless shownBy
-stays w h s words past floats ints zero e =
-    let g = goes s w h (length words) (length past) floats ints e in
+stays w h s words past floats ints curve zero e =
+    let g = goes s w h (length words) (length past) floats ints curve e in
     let a = apart (chainOf s) (good s (g .good) .normal) in
     let x = incoming w h s words past in
     let long : length (take (h * w) words) ≡ h * w = length-take-le (h * w) words (g .frame-room) in (
-      drop-at (chain w h (chainOf s) x .frame .words) (drop (h * w) words) (h * w) (frame-length w h (chainOf s) a x ∙ long),
-      chain-rest w h (chainOf s) a x long (g .past-room),
+      drop-at (chain w h curve (chainOf s) x .frame .words) (drop (h * w) words) (h * w) (frame-length w h curve (chainOf s) a x ∙ long),
+      chain-rest w h curve (chainOf s) a x long (g .past-room),
       refl,
     )
-stays w h s words past floats ints (suc n) e = (refl, refl, refl)
+stays w h s words past floats ints curve (suc n) e = (refl, refl, refl)
 
 pub untouched : Untouched
 unfolding frameReplyBy
-untouched w h s words past floats ints = stays w h s words past floats ints (stops s w h (length words) (length past) floats ints) refl
+untouched w h s words past floats ints curve = stays w h s words past floats ints curve (stops s w h (length words) (length past) floats ints curve) refl

@@ -26,11 +26,16 @@ use Rattle.cards.specs.declared.station.Station.{Station}
 abbrev pub opened : Station → List ℕ → State
 opened s history = record { station = s; history = history }
 
--- Calls that two stations share. Frames are equal when width, height and all lent lengths are, and, where the framebuffer holds count words, its first count
--- words: those past count may differ.
+-- two lists with as many words, and, where these are n or more, the same first n: those past n may differ
+pub record SameFirst {A : Type 0} (n : ℕ) (xs ys : List A) : Type 0 where
+  pub same-length : length xs ≡ length ys
+  pub same-first : n ≤ length xs → take n xs ≡ take n ys
+
+-- Calls that two stations share. Frames are equal when width, height and all lent lengths are, and the first count words of the framebuffer, and the first
+-- 256 of the curve.
 pub data SameCall : Call → Call → Type 0 where
-  frames : {w h lent floats ints : ℕ} {words other : List ℕ} → length words ≡ length other → (h * w ≤ length words → take (h * w) words ≡ take (h * w) other)
-      → SameCall (frame w h words lent floats ints) (frame w h other lent floats ints)
+  frames : {w h lent floats ints : ℕ} {words other : List ℕ} {curve curve′ : List Float} → SameFirst (h * w) words other → SameFirst 256 curve curve′
+      → SameCall (frame w h words lent floats ints curve) (frame w h other lent floats ints curve′)
   resets : SameCall reset reset
   switches-to : {kind : ℕ} {on : Bool} → SameCall (switch kind on) (switch kind on)
   steps : SameCall step step
@@ -42,7 +47,7 @@ pub data Same : List Call → List Call → Type 0 where
 
 -- the history words lent to a call
 abbrev pub lent : Call → ℕ
-lent (frame w h words history floats ints) = history
+lent (frame w h words history floats ints curve) = history
 lent reset = 0
 lent (switch kind on) = 0
 lent step = 0
@@ -60,14 +65,14 @@ on s = persists (chainOf (s .station))
 
 -- persistence takes each accepted frame that comes while it is on
 abbrev pub takes : State → Call → Bool
-takes s (frame w h words history floats ints) = on s && ok (call (frame w h words history floats ints) s .gives .answer)
+takes s (frame w h words history floats ints curve) = on s && ok (call (frame w h words history floats ints curve) s .gives .answer)
 takes s reset = false
 takes s (switch kind position) = false
 takes s step = false
 
 -- a reset, or a switching-off: an accepted switch of persistence from on to off
 abbrev pub ends : State → Call → Bool
-ends s (frame w h words history floats ints) = false
+ends s (frame w h words history floats ints curve) = false
 ends s reset = true
 ends s (switch kind position) = ok (call (switch kind position) s .gives .answer) && (on s && not (on (after (switch kind position) s)))
 ends s step = false
@@ -111,10 +116,10 @@ pub data Made : (s : State) → List Call → (gave : List Seen) → (t : State)
   begin : {s : State} → Made s [] [] s
   -- `apply` with the first words of the own buffer, and scratches with any words
   by-apply : {s t : State} {cs : List Call} {gave : List Seen} {w h history : ℕ} {words ints words′ past′ ints′ : List ℕ}
-      {floats floats′ : List Float} (r : Applied)
-      → Applies w h (s .station) words (take history (s .history)) floats ints r words′ past′ floats′ ints′
+      {floats floats′ curve : List Float} (r : Applied)
+      → Applies w h (s .station) words (take history (s .history)) floats ints curve r words′ past′ floats′ ints′
       → Made (record { station = r .station; history = past′ ++ drop history (s .history) }) cs gave t
-      → Made s (frame w h words history (length floats) (length ints) ∷ cs)
+      → Made s (frame w h words history (length floats) (length ints) curve ∷ cs)
       (seen (reportedFrame (r .answer)) (r .station) (picture (reportedFrame (r .answer)) (h * w) words′) ∷ gave) t
   by-reset : {s t : State} {cs : List Call} {gave : List Seen} (r : Called) → called r ≡ resetReply (s .station)
       → Made (record { station = r .station; history = s .history }) cs gave t

@@ -43,11 +43,12 @@ abbrev pub free : FrameAnswer → ℕ → ℕ
 free (Frame.Shown clipped) k = k
 free (Frame.Refused e) k = 0
 
--- What a frame call promises. It gets a station, a framebuffer, a history and two scratches, and leaves `r` and the buffers with a prime.
-pub record Applies (w h : ℕ) (s : Station) (words past : List ℕ) (floats : List Float) (ints : List ℕ)
+-- What a frame call promises. It gets a station, a framebuffer, a history, two scratches and a curve, and leaves `r` and the buffers with a prime. The
+-- curve is only read.
+pub record Applies (w h : ℕ) (s : Station) (words past : List ℕ) (floats : List Float) (ints : List ℕ) (curve : List Float)
     (r : Applied) (words′ past′ : List ℕ) (floats′ : List Float) (ints′ : List ℕ) : Type 0 where
   -- the answer, the station, and every word of the framebuffer and of the history
-  pub replies : framed (reportedFrame (r .answer)) (r .station) words′ past′ ≡ frameReply w h s words past (length floats) (length ints)
+  pub replies : framed (reportedFrame (r .answer)) (r .station) words′ past′ ≡ frameReply w h s words past (length floats) (length ints) curve
   -- the f32 words past 6 * count stay, and all of them where the frame is refused
   pub floats-stay : drop (free (r .answer) (6 * (h * w))) floats′ ≡ drop (free (r .answer) (6 * (h * w))) floats
   -- the u32 words past count stay, and all of them where the frame is refused

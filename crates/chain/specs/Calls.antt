@@ -3,15 +3,17 @@ use Prim.Native.Nat.{ℕ, _+_, _*_}
 use mathlib.Core.Bool.{Bool, not, _&&_, _||_, cond}
 use mathlib.Core.List.{List, [], _∷_, _++_}
 use lib.Dec.{eqb, ltb}
+use lib.Ieee.{Float}
 use lib.ListN.{length, take, drop}
 use Rattle.num.specs.Held.{Held, nothing}
 use Rattle.num.specs.Refusals.{badSide, unless}
 use Rattle.passes.specs.Arith.{Arith, plain}
+use Rattle.passes.specs.ColorCorrection.{goodCurve}
 use Rattle.passes.specs.Flow.{Flow, flow}
 use Rattle.passes.specs.Painted.{painted}
 use Rattle.cards.specs.Alike.{chainOf}
 use Rattle.cards.specs.Answers.{Report, refusal, acceptance, Reply, reply, refusing}
-use Rattle.chain.specs.Chain.{chainBy, depth}
+use Rattle.chain.specs.Chain.{chainBy, depth, readsCurve}
 use Rattle.cards.specs.Normal.{goodStation}
 use Rattle.cards.specs.Passes.{kindOf}
 use Rattle.cards.specs.Records.{kinds, among}
@@ -32,14 +34,15 @@ rechain rs s = record { records = rs ++ drop (s .n) (s .records); n = s .n; held
 
 -- ## Refusals: a number of document 01's table, 0 for none
 
--- of a frame, by the lengths of what is lent
-unfoldable pub stops : Station → (w h words history floats ints : ℕ) → ℕ
-stops s w h words history floats ints =
+-- of a frame, by the curve and the lengths of all else that is lent
+unfoldable pub stops : Station → (w h words history floats ints : ℕ) → (curve : List Float) → ℕ
+stops s w h words history floats ints curve =
     cond (not (goodStation s)) 13
     (cond (badSide w || badSide h) 8
     (cond (ltb words (h * w)) 9
     (cond (ltb history (depth (chainOf s) * (h * w))) 10
-    (cond (ltb floats (6 * (h * w)) || ltb ints (h * w)) 11 0))))
+    (cond (ltb floats (6 * (h * w)) || ltb ints (h * w)) 11
+    (cond (readsCurve (chainOf s) && not (goodCurve curve)) 16 0)))))
 
 -- of a call on the pass of that kind
 unfoldable pub lacks : Station → ℕ → ℕ
@@ -150,20 +153,20 @@ incoming w h s words past = flow (painted (take (h * w) words) 0) (s .held) past
 module _ (A : Arith) (w h : ℕ) where
   -- an accepted frame: the chain runs over the first count words of the framebuffer, and it reports how many channels the
   -- passes that are on clipped
-  unfoldable pub shownBy : Station → (words past : List ℕ) → Framed
-  shownBy s words past =
-      let x : Flow = chainBy A w h (chainOf s) (incoming w h s words past) in
+  unfoldable pub shownBy : Station → (words past : List ℕ) → (curve : List Float) → Framed
+  shownBy s words past curve =
+      let x : Flow = chainBy A w h curve (chainOf s) (incoming w h s words past) in
       framed (acceptance (x .frame .clipped ∷ [])) (hold (x .held) s) (x .frame .words ++ drop (h * w) words) (x .past)
 
   -- `floats` and `ints` are the lengths of the scratches
-  unfoldable pub frameReplyBy : Station → (words past : List ℕ) → (floats ints : ℕ) → Framed
-  frameReplyBy s words past floats ints =
-      unless (stops s w h (length words) (length past) floats ints) (refusingFrame s words past) (shownBy s words past)
+  unfoldable pub frameReplyBy : Station → (words past : List ℕ) → (floats ints : ℕ) → (curve : List Float) → Framed
+  frameReplyBy s words past floats ints curve =
+      unless (stops s w h (length words) (length past) floats ints curve) (refusingFrame s words past) (shownBy s words past curve)
 
 -- the product's
 
-abbrev pub shown : (w h : ℕ) → Station → (words past : List ℕ) → Framed
+abbrev pub shown : (w h : ℕ) → Station → (words past : List ℕ) → (curve : List Float) → Framed
 shown = shownBy plain
 
-abbrev pub frameReply : (w h : ℕ) → Station → (words past : List ℕ) → (floats ints : ℕ) → Framed
+abbrev pub frameReply : (w h : ℕ) → Station → (words past : List ℕ) → (floats ints : ℕ) → (curve : List Float) → Framed
 frameReply = frameReplyBy plain

@@ -1,18 +1,19 @@
--- The cases of the refusals of the calls, of what a frame reports, and of turned frames. Each list pairs what a definition gives with
+-- The cases of the refusals of the calls, of what a frame reports, of frames with a curve, and of turned frames. Each list pairs what a definition gives with
 -- what it should give, and one proof by computation holds the whole list. Assumes nothing.
 use Prim.Native.Nat.{ℕ}
 use mathlib.Core.Bool.{Bool, true, false}
 use mathlib.Core.List.{List, [], _∷_, map}
 use mathlib.Core.Path.{refl}
-use lib.Ieee.{ofBits, ofInt, add, sub, mul, div, lt, neg}
+use lib.Ieee.{Float, nan, binary32, ofBits, ofInt, add, sub, mul, div, lt, le, eq, ne, neg}
 use Rattle.num.specs.Cases.{Hold}
-use Rattle.num.specs.Const.{c0·0, c0·30, c0·5, c1·0}
+use Rattle.num.specs.Const.{c0·0, c0·30, c0·5, c1·0, c2·0}
 use Rattle.num.specs.Held.{Held, nothing, sized, sameHeld, fineHeld}
 use Rattle.num.specs.Refusals.{badSide, unless}
 use Rattle.num.specs.Rewrite.{rewrite}
 use Rattle.num.specs.Steps.{clampOf, cutOf}
 use Rattle.num.specs.Sums.{sum}
 use Rattle.passes.specs as Text
+use Rattle.passes.specs.Cases.{times}
 use Rattle.passes.specs.Fold.{fold}
 use Rattle.passes.specs.Painted.{converted}
 use Rattle.passes.specs.Plain.Persistence as Persistence
@@ -21,7 +22,7 @@ use Rattle.cards.specs.Card.{stationOf}
 use Rattle.cards.specs.Normal.{settled, normalPass, normalChain, persists, goodStation}
 use Rattle.chain.specs.Calls.{hold, stops, lacks, shownBy, frameReply, frameReplyBy}
 use Rattle.chain.specs.Agree.{opened}
-use Rattle.chain.specs.Chain.{wash, overBy, turnBy, depth}
+use Rattle.chain.specs.Chain.{wash, overBy, turnBy, depth, readsCurve}
 use Rattle.chain.specs.Machine.{Call, frame, State, call, after, run, saw}
 use Rattle.cards.specs.declared.station.Pass.the-variants.{Persistence, Lut, ColorCorrection, Scanlines}
 use Rattle.cards.specs.declared.station.Record.{Record}
@@ -37,25 +38,25 @@ kept on = stationOf (record { on = on; pass = Persistence c0·0 8 } ∷ record {
 -- Other calls: on a bad station (13), on a kind that is not there, and that no pass has (12), and on one that is there.
 abbrev pub stopped : List (ℕ × ℕ)
 stopped =
-    (stops (stationOf (record { on = true; pass = Scanlines c0·0 } ∷ record { on = false; pass = Scanlines c0·0 } ∷ [])) 0 0 0 0 0 0, 13)
-    ∷ (stops (stationOf (record { on = true; pass = Scanlines c0·0 } ∷ record { on = true; pass = Persistence c0·0 8 } ∷ [])) 1 1 1 8 6 1, 13)
-    ∷ (stops (hold (sized 1 1) (kept false)) 0 0 0 0 0 0, 13)
-    ∷ (stops (hold (sized 1025 1) (kept true)) 1 1 1 8 6 1, 13)
-    ∷ (stops (hold (sized 1 1025) (kept true)) 1 1 1 8 6 1, 13)
-    ∷ (stops (hold (sized 0 1) (kept true)) 1 1 1 8 6 1, 13)
-    ∷ (stops (hold (sized 1 0) (kept true)) 1 1 1 8 6 1, 13)
-    ∷ (stops (hold (sized 1024 1024) (kept true)) 1 1 1 8 6 1, 0)
-    ∷ (stops (kept true) 0 1 0 0 0 0, 8)
-    ∷ (stops (kept true) 1 0 0 0 0 0, 8)
-    ∷ (stops (kept true) 1025 1 1025 8200 6150 1025, 8)
-    ∷ (stops (kept true) 1 1025 1025 8200 6150 1025, 8)
-    ∷ (stops (kept true) 1024 1 1024 8192 6144 1024, 0)
-    ∷ (stops (kept true) 3 2 5 0 0 0, 9)
-    ∷ (stops (kept true) 3 2 6 47 0 0, 10)
-    ∷ (stops (kept false) 3 2 6 47 0 0, 10)
-    ∷ (stops (kept true) 3 2 6 48 35 6, 11)
-    ∷ (stops (kept true) 3 2 6 48 36 5, 11)
-    ∷ (stops (kept true) 3 2 6 48 36 6, 0)
+    (stops (stationOf (record { on = true; pass = Scanlines c0·0 } ∷ record { on = false; pass = Scanlines c0·0 } ∷ [])) 0 0 0 0 0 0 [], 13)
+    ∷ (stops (stationOf (record { on = true; pass = Scanlines c0·0 } ∷ record { on = true; pass = Persistence c0·0 8 } ∷ [])) 1 1 1 8 6 1 [], 13)
+    ∷ (stops (hold (sized 1 1) (kept false)) 0 0 0 0 0 0 [], 13)
+    ∷ (stops (hold (sized 1025 1) (kept true)) 1 1 1 8 6 1 [], 13)
+    ∷ (stops (hold (sized 1 1025) (kept true)) 1 1 1 8 6 1 [], 13)
+    ∷ (stops (hold (sized 0 1) (kept true)) 1 1 1 8 6 1 [], 13)
+    ∷ (stops (hold (sized 1 0) (kept true)) 1 1 1 8 6 1 [], 13)
+    ∷ (stops (hold (sized 1024 1024) (kept true)) 1 1 1 8 6 1 [], 0)
+    ∷ (stops (kept true) 0 1 0 0 0 0 [], 8)
+    ∷ (stops (kept true) 1 0 0 0 0 0 [], 8)
+    ∷ (stops (kept true) 1025 1 1025 8200 6150 1025 [], 8)
+    ∷ (stops (kept true) 1 1025 1025 8200 6150 1025 [], 8)
+    ∷ (stops (kept true) 1024 1 1024 8192 6144 1024 [], 0)
+    ∷ (stops (kept true) 3 2 5 0 0 0 [], 9)
+    ∷ (stops (kept true) 3 2 6 47 0 0 [], 10)
+    ∷ (stops (kept false) 3 2 6 47 0 0 [], 10)
+    ∷ (stops (kept true) 3 2 6 48 35 6 [], 11)
+    ∷ (stops (kept true) 3 2 6 48 36 5 [], 11)
+    ∷ (stops (kept true) 3 2 6 48 36 6 [], 0)
     ∷ (lacks (hold (sized 1 1) (kept false)) 4, 13)
     ∷ (lacks (kept false) 5, 12)
     ∷ (lacks (kept false) 11, 12)
@@ -63,7 +64,7 @@ stopped =
     ∷ []
 
 pub stopped-hold : Hold stopped
-unfolding stops lacks badSide goodStation fineHeld sameHeld normalChain normalPass settled persists depth ofBits lt
+unfolding stops lacks badSide goodStation fineHeld sameHeld normalChain normalPass settled persists depth readsCurve ofBits lt
 stopped-hold = refl
 
 -- What a frame of two words and one row reports: the channels that the passes that are on clipped (request P5).
@@ -71,7 +72,7 @@ stopped-hold = refl
 -- black, which comes to lie exactly at the end; each alone the same. Persistence at 0.3 clips all six where its history is white, and
 -- none when it refills it. A refusal reports its number alone.
 abbrev reportOf : List Record → (held : Held) → (words past : List ℕ) → Report
-reportOf rs held words past = frameReply 2 1 (hold held (stationOf rs)) words past 12 2 .answer
+reportOf rs held words past = frameReply 2 1 (hold held (stationOf rs)) words past 12 2 [] .answer
 
 abbrev ends : List ℕ
 ends = 0 ∷ 0xffffff ∷ []
@@ -98,14 +99,58 @@ reports =
     ∷ []
 
 pub reports-hold : Hold reports
-unfolding frameReplyBy unless shownBy stops badSide goodStation fineHeld sameHeld normalChain normalPass settled persists depth fold turnBy
+unfolding frameReplyBy unless shownBy stops badSide goodStation fineHeld sameHeld normalChain normalPass settled persists depth readsCurve fold turnBy
     overBy wash ofBits ofInt add sub mul div neg lt clampOf cutOf rewrite sum converted Text.Pixel.unpack Text.Pixel.unit Text.Pixel.pack
     Text.Pixel.packClamped Text.Pixel.packUnit Text.Pixel.clip Text.Pixel.clips Text.Pixel.dim Text.Pixel.luma709
-    Text.ColorCorrection.colorCorrection Text.ColorCorrection.colour Text.Lut.lut Text.Lut.colour Text.Lut.transform
+    Text.ColorCorrection.colorCorrection Text.ColorCorrection.curved Text.ColorCorrection.start Text.ColorCorrection.colour eq ne
+    Text.Lut.lut Text.Lut.colour Text.Lut.transform
     Text.Scanlines.scanlines Text.Scanlines.inRow Text.Persistence.persistence Text.Persistence.decay Text.Persistence.total
     Text.Persistence.add Text.Persistence.mix Text.Persistence.blend Persistence.copies Persistence.refilled
     Persistence.shifted
 reports-hold = refl
+
+-- Frames with a curve (request P3): of one word, with all that is lent but the curve. Gamma 1.0 needs none, whatever is lent. At gamma 2, on or off, 255
+-- words are too few, and one step above 1 is bad (16), but not past the 256 words that are read. Scratch is asked for first (11).
+abbrev tinted : Bool → Float → Station
+tinted on gamma = stationOf (record { on = on; pass = ColorCorrection c0·0 c1·0 c1·0 gamma } ∷ [])
+
+abbrev above : Float
+above = ofBits binary32 0x3f80_0001
+
+abbrev curveStops : Bool → Float → List Float → ℕ
+curveStops on gamma curve = stops (tinted on gamma) 1 1 1 0 6 1 curve
+
+abbrev pub curved : List (ℕ × ℕ)
+curved =
+    (curveStops true c1·0 [], 0)
+    ∷ (curveStops true c1·0 (nan ∷ []), 0)
+    ∷ (curveStops true c2·0 (times 255 c0·0 []), 16)
+    ∷ (curveStops false c2·0 (times 255 c0·0 []), 16)
+    ∷ (curveStops true c2·0 (times 256 c0·0 []), 0)
+    ∷ (curveStops true c2·0 (times 255 c0·0 (above ∷ [])), 16)
+    ∷ (curveStops false c2·0 (times 255 c0·0 (above ∷ [])), 16)
+    ∷ (curveStops true c2·0 (times 256 c0·0 (above ∷ [])), 0)
+    ∷ (stops (tinted true c2·0) 1 1 1 0 6 0 [], 11)
+    ∷ []
+
+pub curved-hold : Hold curved
+unfolding times stops badSide goodStation fineHeld sameHeld normalChain normalPass settled persists depth readsCurve Text.ColorCorrection.curved
+    Text.ColorCorrection.goodCurve Text.ColorCorrection.allInUnit Text.ColorCorrection.inUnit ofBits lt le eq ne neg
+curved-hold = refl
+
+-- a white pixel under a curve of zeros, colour on and off; the framebuffer's second word is past the frame
+abbrev pub tints : List (List ℕ × List ℕ)
+tints =
+    (frameReply 1 1 (tinted true c2·0) white [] 6 1 (times 256 c0·0 []) .words, 0 ∷ 0xffffff ∷ [])
+    ∷ (frameReply 1 1 (tinted false c2·0) white [] 6 1 (times 256 c0·0 []) .words, white)
+    ∷ []
+
+pub tints-hold : Hold tints
+unfolding times frameReplyBy unless shownBy stops badSide goodStation fineHeld sameHeld normalChain normalPass settled persists depth readsCurve
+    Text.ColorCorrection.goodCurve Text.ColorCorrection.allInUnit Text.ColorCorrection.inUnit fold turnBy overBy wash ofBits ofInt add sub mul div
+    neg lt le eq ne clampOf cutOf rewrite sum converted Text.Pixel.pack Text.Pixel.packUnit Text.Pixel.clip Text.Pixel.clips Text.Pixel.luma709
+    Text.ColorCorrection.colorCorrection Text.ColorCorrection.curved Text.ColorCorrection.start Text.ColorCorrection.colour
+tints-hold = refl
 
 -- Turned frames (request P1). Persistence 0.5 of depth 1, frames of two words, upright (1 by 2) and turned (2 by 1). A black frame shows
 -- the white one before it as 555555; turned, it is shown unaltered. A turn and back: each begins anew. Two stations, one of which was
@@ -114,10 +159,10 @@ abbrev half : State
 half = opened (stationOf (record { on = true; pass = Persistence c0·5 1 } ∷ [])) (7 ∷ 8 ∷ [])
 
 abbrev upright : List ℕ → Call
-upright words = frame 1 2 words 2 12 2
+upright words = frame 1 2 words 2 12 2 []
 
 abbrev turned : List ℕ → Call
-turned words = frame 2 1 words 2 12 2
+turned words = frame 2 1 words 2 12 2 []
 
 abbrev black : List ℕ
 black = 0 ∷ 0 ∷ []
@@ -136,7 +181,7 @@ turns =
 
 pub turns-hold : Hold turns
 unfolding run saw after call frameReplyBy unless shownBy stops badSide goodStation fineHeld sameHeld normalChain normalPass settled persists
-    depth fold turnBy overBy ofBits ofInt add sub mul div neg lt clampOf cutOf rewrite sum converted Text.Pixel.unpack Text.Pixel.pack
+    depth readsCurve fold turnBy overBy ofBits ofInt add sub mul div neg lt clampOf cutOf rewrite sum converted Text.Pixel.unpack Text.Pixel.pack
     Text.Pixel.packClamped Text.Pixel.clip Text.Pixel.clips Text.Persistence.persistence Text.Persistence.decay
     Text.Persistence.total Text.Persistence.add Text.Persistence.mix Text.Persistence.blend Persistence.copies
     Persistence.refilled Persistence.shifted

@@ -1,7 +1,8 @@
 -- The way of a frame through the chain: the passes that are on, in the card's order. Assumes nothing.
 use Prim.Native.Nat.{ℕ, _+_}
-use mathlib.Core.Bool.{cond}
+use mathlib.Core.Bool.{Bool, false, _||_, cond}
 use mathlib.Core.List.{List, [], _∷_}
+use lib.Ieee.{Float}
 use Rattle.num.specs.Held.{sized}
 use Rattle.passes.specs.Arith.{Arith, plain}
 use Rattle.passes.specs.Fold.{fold}
@@ -13,7 +14,7 @@ use Rattle.passes.specs.AutoGradient.{autoGradient}
 use Rattle.passes.specs.Persistence.{persistence}
 use Rattle.passes.specs.Lut.{lut}
 use Rattle.passes.specs.Curvature.{curvature}
-use Rattle.passes.specs.ColorCorrection.{colorCorrection}
+use Rattle.passes.specs.ColorCorrection.{curved, colorCorrection}
 use Rattle.passes.specs.Crt.{crt}
 use Rattle.passes.specs.Vignette.{vignette}
 use Rattle.passes.specs.Scanlines.{scanlines}
@@ -28,8 +29,8 @@ wash paint x = flow (onto paint (x .frame)) (x .held) (x .past)
 
 -- ## The passes, over an arithmetic A (passes' Arith)
 
-module _ (A : Arith) (w h : ℕ) where
-  -- one pass over a frame of width w and height h
+module _ (A : Arith) (w h : ℕ) (curve : List Float) where
+  -- one pass over a frame of width w and height h, with the curve that is lent
   unfoldable pub overBy : Pass → Flow → Flow
   overBy (Ntsc strength bleed) = wash (ntsc A w (A .lit strength) bleed)
   overBy (Bloom threshold strength radius) = wash (bloom A w h threshold (A .lit strength) radius)
@@ -39,7 +40,7 @@ module _ (A : Arith) (w h : ℕ) where
   overBy (Lut preset strength) = wash (lut A preset (A .lit strength))
   overBy (Curvature amount) = wash (unclipped (curvature A w h (A .lit amount)))
   overBy (ColorCorrection brightness contrast saturation gamma) =
-      wash (colorCorrection A (A .lit brightness) (A .lit contrast) (A .lit saturation))
+      wash (colorCorrection A curve (A .lit brightness) (A .lit contrast) (A .lit saturation) gamma)
   overBy (Crt strength) = wash (unclipped (crt A w h (A .lit strength)))
   overBy (Vignette strength) = wash (unclipped (vignette A w h (A .lit strength)))
   overBy (Scanlines strength) = wash (unclipped (scanlines A w (A .lit strength)))
@@ -53,13 +54,13 @@ module _ (A : Arith) (w h : ℕ) where
 
 -- the product's: binary32 and the number steps
 
-abbrev pub over : (w h : ℕ) → Pass → Flow → Flow
+abbrev pub over : (w h : ℕ) → List Float → Pass → Flow → Flow
 over = overBy plain
 
-abbrev pub turn : (w h : ℕ) → Flow → Record → Flow
+abbrev pub turn : (w h : ℕ) → List Float → Flow → Record → Flow
 turn = turnBy plain
 
-abbrev pub chain : (w h : ℕ) → List Record → Flow → Flow
+abbrev pub chain : (w h : ℕ) → List Float → List Record → Flow → Flow
 chain = chainBy plain
 
 -- ## The places of the history
@@ -81,3 +82,23 @@ depthOf (Scanlines strength) = 0
 unfoldable pub depth : List Record → ℕ
 depth [] = 0
 depth (r ∷ rs) = depthOf (r .pass) + depth rs
+
+-- ## The curve
+
+-- whether a pass reads it: colour, at a gamma other than 1.0
+abbrev pub reads : Pass → Bool
+reads (Ntsc strength bleed) = false
+reads (Bloom threshold strength radius) = false
+reads (AutoGradient strength vertical horizontal) = false
+reads (Persistence amount depth) = false
+reads (Lut preset strength) = false
+reads (Curvature amount) = false
+reads (ColorCorrection brightness contrast saturation gamma) = curved gamma
+reads (Crt strength) = false
+reads (Vignette strength) = false
+reads (Scanlines strength) = false
+
+-- whether a pass in the chain does, on or off
+unfoldable pub readsCurve : List Record → Bool
+readsCurve [] = false
+readsCurve (r ∷ rs) = reads (r .pass) || readsCurve rs

@@ -2,6 +2,7 @@
 use Prim.Native.Nat.{ℕ, _*_}
 use mathlib.Core.List.{List}
 use mathlib.Core.Path.{_≡_}
+use lib.Ieee.{Float}
 use lib.ListN.{drop}
 use Rattle.cards.specs.Alike.{chainOf}
 use Rattle.cards.specs.Answers.{refusal}
@@ -14,14 +15,15 @@ use Rattle.cards.specs.declared.station.Station.{Station}
 abbrev pub Refused-keeps : Type 0
 Refused-keeps =
     ((c : Call) (s : State) (k : ℕ) → call c s .gives .answer ≡ refusal k → after c s ≡ s)
-    × ((w h : ℕ) (s : Station) (words past : List ℕ) (floats ints k : ℕ) → frameReply w h s words past floats ints .answer ≡ refusal k
-    → frameReply w h s words past floats ints ≡ framed (refusal k) s words past)
+    × ((w h : ℕ) (s : Station) (words past : List ℕ) (floats ints : ℕ) (curve : List Float) (k : ℕ)
+    → frameReply w h s words past floats ints curve .answer ≡ refusal k
+    → frameReply w h s words past floats ints curve ≡ framed (refusal k) s words past)
 
 -- a frame, accepted or not, leaves the framebuffer past count, the history past K times count, and the places of the station past n
 abbrev pub Untouched : Type 0
 Untouched =
-    (w h : ℕ) (s : Station) (words past : List ℕ) (floats ints : ℕ) →
-    let r : Framed = frameReply w h s words past floats ints in
+    (w h : ℕ) (s : Station) (words past : List ℕ) (floats ints : ℕ) (curve : List Float) →
+    let r : Framed = frameReply w h s words past floats ints curve in
     let count : ℕ = h * w in
     (drop count (r .words) ≡ drop count words)
     × (drop (depth (chainOf s) * count) (r .past) ≡ drop (depth (chainOf s) * count) past)

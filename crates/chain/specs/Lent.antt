@@ -7,7 +7,7 @@ use lib.ListN.{length, getD}
 use lib.Ieee.{Float}
 use Rattle.passes.specs.Rows.{Frame}
 use Rattle.chain.specs.Calls.{ofFirst}
-use Rattle.chain.specs.Chain.{depthOf}
+use Rattle.chain.specs.Chain.{depthOf, reads}
 use Rattle.cards.specs.Normal.{normalPass}
 use Rattle.cards.specs.Passes.{kindOf}
 use Rattle.cards.specs.declared.station.Pass.{Pass}
@@ -21,15 +21,16 @@ pub record Lent (w h : ℕ) (frame : List ℕ) (floats : List Float) (ints : Lis
   pub floats-room : length floats ≡ 6 * (h * w)
   pub ints-room : length ints ≡ h * w
 
--- a normalised pass, and history words enough for it
-pub record Ready (w h : ℕ) (pass : Pass) (room : ℕ) : Type 0 where
+-- a normalised pass, and words enough for it: `room` of the history, `lent` of the curve
+pub record Ready (w h : ℕ) (pass : Pass) (room lent : ℕ) : Type 0 where
   pub normal : normalPass pass ≡ true
   pub past-room : depthOf pass * (h * w) ≤ room
+  pub curve-room : reads pass ≡ true → 256 ≤ lent
 
 -- the first n records are ready
-pub record Readies (w h n : ℕ) (rs : List Record) (room : ℕ) : Type 0 where
+pub record Readies (w h n : ℕ) (rs : List Record) (room lent : ℕ) : Type 0 where
   pub few : n ≤ 10
-  pub each : (i : ℕ) (d : Record) → i < n → Ready w h (getD rs i d .pass) room
+  pub each : (i : ℕ) (d : Record) → i < n → Ready w h (getD rs i d .pass) room lent
 
 -- the first record of that kind among the first n stands at i
 pub record First (kind n : ℕ) (rs : List Record) (i : ℕ) : Type 0 where

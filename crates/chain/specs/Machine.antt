@@ -2,14 +2,15 @@
 use Prim.Native.Nat.{ℕ, _*_}
 use mathlib.Core.Bool.{Bool}
 use mathlib.Core.List.{List, [], _∷_, _++_}
+use lib.Ieee.{Float}
 use lib.ListN.{take, drop}
 use Rattle.cards.specs.Answers.{Report, refusal, acceptance, Reply}
 use Rattle.chain.specs.Calls.{resetReply, switchReply, stepReply, Framed, frameReply}
 use Rattle.cards.specs.declared.station.Station.{Station}
 
--- a frame brings its framebuffer; of the history and of both scratches, how many words are lent
+-- a frame brings its framebuffer and its curve; of the history and of both scratches, how many words are lent
 pub data Call : Type 0 where
-  frame : (w h : ℕ) (words : List ℕ) (history floats ints : ℕ) → Call
+  frame : (w h : ℕ) (words : List ℕ) (history floats ints : ℕ) (curve : List Float) → Call
   reset : Call
   switch : (kind : ℕ) (on : Bool) → Call
   step : Call
@@ -46,7 +47,8 @@ abbrev pub still : List ℕ → Reply → Done
 still history r = record { gives = seen (r .answer) (r .station) []; history = history }
 
 unfoldable pub call : Call → State → Done
-call (frame w h words lent floats ints) s = lend (h * w) lent (s .history) (frameReply w h (s .station) words (take lent (s .history)) floats ints)
+call (frame w h words lent floats ints curve) s =
+    lend (h * w) lent (s .history) (frameReply w h (s .station) words (take lent (s .history)) floats ints curve)
 call reset s = still (s .history) (resetReply (s .station))
 call (switch kind on) s = still (s .history) (switchReply kind on (s .station))
 call step s = still (s .history) (stepReply (s .station))

@@ -4,7 +4,7 @@ use Prim.Native.Nat.{ℕ}
 use mathlib.Core.Bool.{true}
 use mathlib.Core.List.{List, [], _∷_, map}
 use mathlib.Core.Path.{_≡_}
-use lib.Ieee.{binary32, ofBits, neg}
+use lib.Ieee.{Float, binary32, ofBits, neg}
 use Rattle.num.specs.Const.{c0·0, c0·5, c1·0, c2·0, c3·0}
 use Rattle.num.specs.F32.{dec}
 use Rattle.num.specs.Root.{rootOf}
@@ -18,9 +18,9 @@ use Rattle.chain.specs.Machine.{frame, saw}
 use Rattle.cards.specs.Written.{cardOf}
 use Rattle.cards.specs.declared.station.Pass.the-variants.{Curvature}
 
--- the pictures of frames of that size, one after the other, from a station that is opened from the card
+-- the pictures of frames of that size, one after the other, from a station that is opened from the card; no curve is lent
 abbrev pub shows : (card : List ℕ) (w h : ℕ) → List (List ℕ) → List (List ℕ)
-shows card w h frames = map (λ s. s .picture) (saw (opened (openOf card .station) (7 ∷ 8 ∷ [])) (map (λ words. frame w h words 2 54 9) frames))
+shows card w h frames = map (λ s. s .picture) (saw (opened (openOf card .station) (7 ∷ 8 ∷ [])) (map (λ words. frame w h words 2 54 9 []) frames))
 
 abbrev grey : List ℕ
 grey = 0xc8c8c8 ∷ 0xc8c8c8 ∷ 0xc8c8c8 ∷ 0xc8c8c8 ∷ 0xc8c8c8 ∷ 0xc8c8c8 ∷ 0xc8c8c8 ∷ 0xc8c8c8 ∷ 0xc8c8c8 ∷ []
@@ -41,7 +41,7 @@ pub record Marked : Type 0 where
   pub root-two : rootOf c2·0 ≡ ofBits binary32 0x3fb5_04f3
   -- Card 10: empty chain, picture as given
   pub empty-card : openOf (0x10 ∷ []) ≡ accepted (stationOf [])
-  pub empty-picture : (w h : ℕ) (x : Flow) → chain w h (chainOf (stationOf [])) x ≡ x
+  pub empty-picture : (w h : ℕ) (curve : List Float) (x : Flow) → chain w h curve (chainOf (stationOf [])) x ≡ x
   -- Card 11 AA 00 00 00 00 (scanlines, strength 2.0) normalises to 11 A9 FC 00 00 00
   pub limited-card : cardOf (openOf (0x11 ∷ 0xaa ∷ 0 ∷ 0 ∷ 0 ∷ 0 ∷ []) .station) ≡ 0x11 ∷ 0xa9 ∷ 0xfc ∷ 0 ∷ 0 ∷ 0 ∷ []
   -- Scanlines 1.0, 1 by 2, AA123456 twice: AA123456, 000000

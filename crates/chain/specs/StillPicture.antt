@@ -35,14 +35,14 @@ AllStill words (x ∷ xs) = (ok (x .answer) ≡ true → Still words (x .picture
 abbrev pub Stays-still : Type 0
 Stays-still =
     (s : State) (on : Bool) (amount : Float) (depth : ℕ) → chainOf (s .station) ≡ alone on amount depth
-    → (w h : ℕ) (words : List ℕ) (history floats ints : ℕ) (cs : List Call)
-    → Repeats (frame w h words history floats ints) cs
+    → (w h : ℕ) (words : List ℕ) (history floats ints : ℕ) (curve : List Float) (cs : List Call)
+    → Repeats (frame w h words history floats ints curve) cs
     → AllStill (take (h * w) words) (drop 1 (saw s (reset ∷ cs)))
 
 -- the same of calls that were made
 abbrev pub Stays-still-made : Type 0
 Stays-still-made =
     (s t : State) (on : Bool) (amount : Float) (depth : ℕ) → chainOf (s .station) ≡ alone on amount depth
-    → (w h : ℕ) (words : List ℕ) (history floats ints : ℕ) (cs : List Call)
-    → Repeats (frame w h words history floats ints) cs
+    → (w h : ℕ) (words : List ℕ) (history floats ints : ℕ) (curve : List Float) (cs : List Call)
+    → Repeats (frame w h words history floats ints curve) cs
     → (gave : List Seen) → Made s (reset ∷ cs) gave t → AllStill (take (h * w) words) (drop 1 gave)

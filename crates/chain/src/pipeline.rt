@@ -69,7 +69,7 @@ pub fn places(station: Station) -> usize
 }
 
 // A frame: the passes that are on, in the card's order, over the first count words of the framebuffer. The first 6 * count words of `floats` and the first
-// count words of `ints` are scratch.
+// count words of `ints` are scratch. The curve is read where colour has a gamma other than 1.0.
 pub fn apply(
     station: Station,
     framebuffer: &mut [u32],
@@ -78,9 +78,10 @@ pub fn apply(
     history: &mut [u32],
     floats: &mut [f32],
     ints: &mut [u32],
+    curve: &[f32],
 ) -> Applied
     ensures { λ r. ⌜ Applies width height station (now (framebuffer .entry)) (now (history .entry)) (now (floats .entry)) (now (ints .entry))
-        r (now (framebuffer .exit)) (now (history .exit)) (now (floats .exit)) (now (ints .exit)) ⌝ }
+        (now (curve .entry)) r (now (framebuffer .exit)) (now (history .exit)) (now (floats .exit)) (now (ints .exit)) ⌝ }
 {
     let refusal = stops(
         station,
@@ -90,6 +91,7 @@ pub fn apply(
         history.len(),
         floats.len(),
         ints.len(),
+        curve,
     );
     if refusal != 0 {
         return Applied {
@@ -109,6 +111,7 @@ pub fn apply(
         history,
         &mut floats[..room],
         &mut ints[..count],
+        curve,
         width,
         height,
         before,

@@ -1,8 +1,10 @@
 // What the calls refuse: a number of document 01's table, 0 for none.
 ghost use mathlib.Core.Path.{_≡_};
+ghost use mathlib.Core.Bool.{not, _&&_};
 ghost use Prim.Native.Nat.{_≤_, _*_};
 ghost use lib.ListN.{take};
-ghost use Rattle.chain.specs.Chain.{depthOf, depth as depthIn};
+ghost use Rattle.passes.specs.ColorCorrection.{goodCurve};
+ghost use Rattle.chain.specs.Chain.{depthOf, depth as depthIn, reads as readsBy, readsCurve};
 ghost use Rattle.chain.specs.Calls.{stops as stopsBy, lacks as lacksAt};
 use cards::check::is_good;
 use cards::station::Pass;
@@ -10,6 +12,8 @@ use cards::station::Record;
 use cards::station::Station;
 use cards::station::has_kind;
 use num::size::bad_side;
+use passes::color_correction::is_curved;
+use passes::color_correction::is_good_curve;
 
 // How many older frames a pass keeps.
 pub(crate) fn depth_of(pass: Pass) -> usize
@@ -37,8 +41,48 @@ pub(crate) fn depth(records: [Record; 10], n: usize) -> usize
     sum
 }
 
-// Of a frame, by the lengths of what is lent: what `apply` would refuse it by. Nothing is changed, so a caller may ask before it
-// writes the frame's words.
+// Whether a pass reads the curve: colour, at a gamma other than 1.0.
+pub(crate) fn reads(pass: Pass) -> bool
+    ensures { λ r. ⌜ r ≡ readsBy pass ⌝ }
+{
+    if let Pass::ColorCorrection {
+        brightness: _,
+        contrast: _,
+        saturation: _,
+        gamma,
+    } = pass {
+        return is_curved(gamma);
+    }
+    false
+}
+
+// Whether one of the first n records does, on or off.
+pub(crate) fn reads_curve(records: [Record; 10], n: usize) -> bool
+    requires { ⌜ n ≤ 10 ⌝ }
+    ensures { λ r. ⌜ r ≡ readsCurve (take n records) ⌝ }
+{
+    let mut i: usize = 0;
+    while i < n {
+        let r = records[i];
+        let pass = r.pass;
+        if reads(pass) {
+            return true;
+        }
+        i += 1;
+    }
+    false
+}
+
+// Whether the first n records read a curve and this one cannot be read.
+pub(crate) fn lacks_curve(records: [Record; 10], n: usize, curve: &[f32]) -> bool
+    requires { ⌜ n ≤ 10 ⌝ }
+    ensures { λ r. ⌜ r ≡ (readsCurve (take n records) && not (goodCurve (now (curve .entry)))) ⌝ }
+{
+    reads_curve(records, n) && !is_good_curve(curve)
+}
+
+// Of a frame, by the curve and the lengths of all else that is lent: what `apply` would refuse it by. Nothing is changed, so a caller
+// may ask before it writes the frame's words.
 pub fn stops(
     station: Station,
     width: usize,
@@ -47,8 +91,9 @@ pub fn stops(
     history: usize,
     floats: usize,
     ints: usize,
+    curve: &[f32],
 ) -> u8
-    ensures { λ r. ⌜ r ≡ stopsBy station width height words history floats ints ⌝ }
+    ensures { λ r. ⌜ r ≡ stopsBy station width height words history floats ints (now (curve .entry)) ⌝ }
 {
     if !is_good(station) {
         return 13;
@@ -73,6 +118,9 @@ pub fn stops(
     }
     if ints < count {
         return 11;
+    }
+    if lacks_curve(records, n, curve) {
+        return 16;
     }
     0
 }

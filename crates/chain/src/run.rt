@@ -46,13 +46,15 @@ pub(crate) fn run_pass(
     history: &mut [u32],
     floats: &mut [f32],
     ints: &mut [u32],
+    curve: &[f32],
     width: usize,
     height: usize,
     held: Size,
 ) -> Run
-    requires { ⌜ Lent width height (now frame) (now floats) (now ints) ⌝ ∗ ⌜ Ready width height pass (length (now history)) ⌝ }
+    requires { ⌜ Lent width height (now frame) (now floats) (now ints) ⌝
+        ∗ ⌜ Ready width height pass (length (now history)) (length (now curve)) ⌝ }
     ensures { λ r. ⌜ flow (painted (now (frame .exit)) (r .clipped)) (r .held) (now (history .exit))
-        ≡ over width height pass (flow (painted (now (frame .entry)) 0) held (now (history .entry))) ⌝ }
+        ≡ over width height (now (curve .entry)) pass (flow (painted (now (frame .entry)) 0) held (now (history .entry))) ⌝ }
 {
     match pass {
         Pass::Ntsc { strength, bleed } => {
@@ -109,9 +111,16 @@ pub(crate) fn run_pass(
             brightness,
             contrast,
             saturation,
-            gamma: _,
+            gamma,
         } => {
-            let clipped = color_correction::apply(frame, brightness, contrast, saturation);
+            let clipped = color_correction::apply(
+                frame,
+                curve,
+                brightness,
+                contrast,
+                saturation,
+                gamma,
+            );
             Run { held, clipped }
         }
         Pass::Crt { strength } => {
@@ -136,18 +145,30 @@ pub(crate) fn run_record(
     history: &mut [u32],
     floats: &mut [f32],
     ints: &mut [u32],
+    curve: &[f32],
     width: usize,
     height: usize,
     held: Size,
 ) -> Run
-    requires { ⌜ Lent width height (now frame) (now floats) (now ints) ⌝ ∗ ⌜ Ready width height (rec .pass) (length (now history)) ⌝ }
+    requires { ⌜ Lent width height (now frame) (now floats) (now ints) ⌝
+        ∗ ⌜ Ready width height (rec .pass) (length (now history)) (length (now curve)) ⌝ }
     ensures { λ r. ⌜ flow (painted (now (frame .exit)) (r .clipped)) (r .held) (now (history .exit))
-        ≡ turn width height (flow (painted (now (frame .entry)) 0) held (now (history .entry))) rec ⌝ }
+        ≡ turn width height (now (curve .entry)) (flow (painted (now (frame .entry)) 0) held (now (history .entry))) rec ⌝ }
 {
     let on = rec.on;
     let pass = rec.pass;
     if on {
-        return run_pass(pass, frame, history, floats, ints, width, height, held);
+        return run_pass(
+            pass,
+            frame,
+            history,
+            floats,
+            ints,
+            curve,
+            width,
+            height,
+            held,
+        );
     }
     Run { held, clipped: 0 }
 }
@@ -160,20 +181,22 @@ pub(crate) fn run_chain(
     history: &mut [u32],
     floats: &mut [f32],
     ints: &mut [u32],
+    curve: &[f32],
     width: usize,
     height: usize,
     held: Size,
 ) -> Run
-    requires { ⌜ Lent width height (now frame) (now floats) (now ints) ⌝ ∗ ⌜ Readies width height n records (length (now history)) ⌝ }
+    requires { ⌜ Lent width height (now frame) (now floats) (now ints) ⌝
+        ∗ ⌜ Readies width height n records (length (now history)) (length (now curve)) ⌝ }
     ensures { λ r. ⌜ flow (painted (now (frame .exit)) (r .clipped)) (r .held) (now (history .exit))
-        ≡ chain width height (take n records) (flow (painted (now (frame .entry)) 0) held (now (history .entry))) ⌝ }
+        ≡ chain width height (now (curve .entry)) (take n records) (flow (painted (now (frame .entry)) 0) held (now (history .entry))) ⌝ }
 {
     let mut held = held;
     let mut clipped: u32 = 0;
     let mut i: usize = 0;
     while i < n {
         let r = records[i];
-        let run = run_record(r, frame, history, floats, ints, width, height, held);
+        let run = run_record(r, frame, history, floats, ints, curve, width, height, held);
         held = run.held;
         clipped += run.clipped;
         i += 1;

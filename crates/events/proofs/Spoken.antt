@@ -66,9 +66,9 @@ said letter r q n out out′ e p =
 -- ## A frame
 
 module _ (w h : ℕ) (s : Station) (pixels words past : List ℕ) (floats : List Float) (ints out : List ℕ) (k : ℕ)
-    (asks : k ≡ stops s w h (length words) (length past) (length floats) (length ints))
+    (asks : k ≡ stops s w h (length words) (length past) (length floats) (length ints) [])
     (all : length words ≡ h * w) (few : length floats ≡ 6144) (few′ : length ints ≡ 1024) where
-  number : k ≡ stops s w h (h * w) (length past) 6144 1024
+  number : k ≡ stops s w h (h * w) (length past) 6144 1024 []
   number = rw (← all, ← few, ← few′) asks
 
   -- the station refuses it
@@ -87,11 +87,11 @@ module _ (w h : ℕ) (s : Station) (pixels words past : List ℕ) (floats : List
 
   -- the call on its words left the rest
   pub shows : (n : ℕ) (given : List ℕ) (r : Applied) (words′ past′ : List ℕ) (floats′ : List Float) (ints′ out′ : List ℕ) → k ≡ 0
-      → given ≡ unpacked (length words) pixels → Applies w h s given past floats ints r words′ past′ floats′ ints′
+      → given ≡ unpacked (length words) pixels → Applies w h s given past floats ints [] r words′ past′ floats′ ints′
       → Printed (pictured (reportedFrame (r .answer)) words′) n out out′
       → Gives (showPlayed w h s pixels words past) (played (r .station) n true) words′ past′ floats floats′ ints ints′ out out′
   shows n given r words′ past′ floats′ ints′ out′ none e a p =
-      let same : frameReply w h s given past (length floats) (length ints) ≡ frameReplied w h s pixels past = rw (e, all, few, few′) in
+      let same : frameReply w h s given past (length floats) (length ints) [] ≡ frameReplied w h s pixels past = rw (e, all, few, few′) in
       subst (λ (o : Outcome). Gives o (played (r .station) n true) words′ past′ floats floats′ ints ints′ out out′)
       (accepts k (λ j. outcome s words past (refusalLine j) true) (shown (h * w) (frameReplied w h s pixels past)) number none)
       (subst (λ (q : Framed). Gives (shown (h * w) q) (played (r .station) n true) words′ past′ floats floats′ ints ints′ out out′)
@@ -111,7 +111,7 @@ pub in-front : (bytes : List ℕ) (s : Station) (words past : List ℕ) (w h : �
     → Gives (framePlayed bytes s words past) r (words′ ++ drop (h * w) words) past′ floats floats′ ints ints′ out out′
 unfolding unless
 in-front bytes s words past w h pixels r words′ past′ floats floats′ ints ints′ out out′ ew eh ep g =
-    rw (← ew, ← eh, ← ep) (go (stops s w h (h * w) (length past) 6144 1024) g)
+    rw (← ew, ← eh, ← ep) (go (stops s w h (h * w) (length past) 6144 1024 []) g)
   where
     done : Outcome
     done = shown (h * w) (frameReplied w h s pixels past)

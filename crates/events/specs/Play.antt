@@ -63,14 +63,14 @@ shown count r = record {
   free = count;
 }
 
--- 6,144 f32 words and 1,024 u32 words are lent to each frame, and the whole history
+-- 6,144 f32 words and 1,024 u32 words are lent to each frame, the whole history, and an empty curve
 abbrev pub frameReplied : (w h : ℕ) → Station → (pixels past : List ℕ) → Framed
-frameReplied w h s pixels past = frameReply w h s (unpacked (h * w) pixels) past 6144 1024
+frameReplied w h s pixels past = frameReply w h s (unpacked (h * w) pixels) past 6144 1024 []
 
 -- a frame that the station refuses leaves all that is lent; `taken` is what else becomes of it
 abbrev pub asked : (w h : ℕ) → Station → (words past : List ℕ) → Outcome → Outcome
 asked w h s words past taken =
-    unless (stops s w h (h * w) (length past) 6144 1024) (λ k. outcome s words past (refusalLine k) true) taken
+    unless (stops s w h (h * w) (length past) 6144 1024 []) (λ k. outcome s words past (refusalLine k) true) taken
 
 abbrev pub showPlayed : (w h : ℕ) → Station → (pixels words past : List ℕ) → Outcome
 showPlayed w h s pixels words past = asked w h s words past (shown (h * w) (frameReplied w h s pixels past))

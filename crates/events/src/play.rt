@@ -115,7 +115,7 @@ fn step(station: Station, out: &mut [u8]) -> Played
     }
 }
 
-// A frame, whose words are all that is lent of the framebuffer. They are written once the station takes it.
+// A frame, whose words are all that is lent of the framebuffer. They are written once the station takes it. No curve is lent.
 fn show(
     station: Station,
     pixels: &[u8],
@@ -132,6 +132,7 @@ fn show(
         r (now (words .exit)) (now (history .exit)) (now (floats .entry)) (now (floats .exit))
         (now (ints .entry)) (now (ints .exit)) (now (out .entry)) (now (out .exit)) ⌝ }
 {
+    let curve: [f32; 0] = [];
     let refusal = stops(
         station,
         width,
@@ -140,6 +141,7 @@ fn show(
         history.len(),
         floats.len(),
         ints.len(),
+        &curve,
     );
     if refusal != 0 {
         let length = number_line(out, b'E', refusal);
@@ -150,7 +152,7 @@ fn show(
         };
     }
     unpack(words, pixels);
-    let applied = pipeline::apply(station, words, width, height, history, floats, ints);
+    let applied = pipeline::apply(station, words, width, height, history, floats, ints, &curve);
     let answer = applied.answer;
     let after = applied.station;
     let length = picture_line(answer, words, out);

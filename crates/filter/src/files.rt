@@ -1,9 +1,10 @@
-// Frames: read, looked at, and shown.
+// Frames: read, looked at, and shown. The curve.
 ghost use Rattle.io.specs.Counts.{Counts};
 use crate::says;
 use cards::station::Station;
 use cli::input;
 use frames::Outcome;
+use frames::curve::Loaded;
 use libc::STDOUT_FILENO;
 
 // How many bytes the frame that argument i names has, at the start of the buffer; 0 where it cannot be taken, and then it is said why.
@@ -68,8 +69,9 @@ pub fn show(
     history: &mut [u32; 491520],
     floats: &mut [f32; 368640],
     ints: &mut [u32; 61440],
+    curve: &[f32],
 ) -> Turn {
-    let filtered = frames::filter(station, file, words, history, floats, ints);
+    let filtered = frames::filter(station, file, words, history, floats, ints, curve);
     let outcome = filtered.outcome;
     let after = filtered.station;
     let more = write(i, outcome, tell, file);
@@ -89,6 +91,7 @@ pub fn play(
     history: &mut [u32; 491520],
     floats: &mut [f32; 368640],
     ints: &mut [u32; 61440],
+    curve: &[f32],
 ) -> Turn {
     let loaded = input::named(i, file);
     if !loaded.ok {
@@ -107,5 +110,18 @@ pub fn play(
         history,
         floats,
         ints,
+        curve,
     )
+}
+
+// The curve in the file that argument i names. Where it holds none, it is said why, and the fault is not 0.
+pub fn curve(i: usize) -> Loaded {
+    let mut file = io::buffer();
+    let named = input::named(i, &mut file);
+    let n = named.length;
+    let loaded = frames::curve::load(&file[..n]);
+    if named.ok && loaded.fault != 0 {
+        says::no_curve(i, loaded.fault);
+    }
+    loaded
 }

@@ -16,11 +16,24 @@ pub fn no_frame(i: usize, number: u8) {
     words::no_frame(STDERR_FILENO, number);
 }
 
-// A frame that the station refused. No station that a card opens refuses a frame with all that is lent here.
+// A file that holds no curve, by the numbers of frames::curve.
+pub fn no_curve(i: usize, number: u8) {
+    name(STDERR_FILENO, i);
+    if number == 1 {
+        text(b"no curve: it has not 1024 bytes, which are 256 binary32, the low byte first\n");
+        return;
+    }
+    text(b"no curve: a number in it is not from 0 to 1\n");
+}
+
+// A frame that the station refused. No station that a card opens refuses a frame with all that is lent here, but by 16 where no curve is named.
 pub fn no_picture(i: usize, number: u8) {
     name(STDERR_FILENO, i);
     text(b"refused: ");
     io::print_decimal(STDERR_FILENO, number as u64);
+    if number == 16 {
+        text(b", bad curve: the card has a gamma other than 1, so name a curve by --curve FILE");
+    }
     text(b"\n");
 }
 

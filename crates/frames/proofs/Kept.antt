@@ -2,6 +2,7 @@
 use Prim.Native.Nat.{ℕ, zero, suc, _*_}
 use mathlib.Core.Path.{_≡_, refl, sym, ap, _∙_}
 use mathlib.Core.List.{List}
+use lib.Ieee.{Float}
 use lib.ListN.{length, drop}
 use Rattle.num.specs.Refusals.{unless}
 use Rattle.num.specs.Laws.Refusals.{accepts}
@@ -21,31 +22,31 @@ unfolding unpacked
 length-unpacked zero bytes = refl
 length-unpacked (suc n) bytes = ap suc (length-unpacked n (drop 3 bytes))
 
-module _ (w h : ℕ) (s : Station) (pixels past : List ℕ) (floats ints : ℕ) where
+module _ (w h : ℕ) (s : Station) (pixels past : List ℕ) (floats ints : ℕ) (curve : List Float) where
   abbrev words : List ℕ
   words = unpacked (h * w) pixels
 
   -- a frame that is not refused is shown
-  is-shown : stops s w h (h * w) (length past) floats ints ≡ 0 → Calls.shown w h s words past ≡ replied w h s pixels past floats ints
+  is-shown : stops s w h (h * w) (length past) floats ints curve ≡ 0 → Calls.shown w h s words past curve ≡ replied w h s pixels past floats ints curve
   unfolding frameReplyBy
   is-shown e =
-      let none : 0 ≡ stops s w h (length words) (length past) floats ints =
-      sym (ap (λ (n : ℕ). stops s w h n (length past) floats ints) (length-unpacked (h * w) pixels) ∙ e) in
-      accepts 0 (refusingFrame s words past) (Calls.shown w h s words past) none refl
+      let none : 0 ≡ stops s w h (length words) (length past) floats ints curve =
+      sym (ap (λ (n : ℕ). stops s w h n (length past) floats ints curve) (length-unpacked (h * w) pixels) ∙ e) in
+      accepts 0 (refusingFrame s words past) (Calls.shown w h s words past curve) none refl
 
 pub unshown-keeps : UnshownKeeps
 unfolding filteredOf unless shownBy
-unshown-keeps s file words past floats ints = go (parseOf (length words) file)
+unshown-keeps s file words past floats ints curve = go (parseOf (length words) file)
   where
-    asks : (w h start n : ℕ) → stops s w h (h * w) (length past) floats ints ≡ n →
+    asks : (w h start n : ℕ) → stops s w h (h * w) (length past) floats ints curve ≡ n →
         let r : Result = unless n (λ k. result (Refused k) s file words past)
-        (among start (h * w) file words (shown (h * w) (replied w h s (drop start file) past floats ints))) in
+        (among start (h * w) file words (shown (h * w) (replied w h s (drop start file) past floats ints curve))) in
         ((clipped : ℕ) → r .outcome ≡ Shown clipped → ⊥) → r ≡ result (r .outcome) s file words past
-    asks w h start zero e unshown = absurd (unshown _ (ap (λ (r : Framed). outcomeOf (r .answer)) (sym (is-shown w h s (drop start file) past floats ints e))))
+    asks w h start zero e unshown = absurd (unshown _ (ap (λ (r : Framed). outcomeOf (r .answer)) (sym (is-shown w h s (drop start file) past floats ints curve e))))
     asks w h start (suc n) e unshown = refl
 
     go : (p : Parsed) →
-        let r : Result = byParsed p s file words past floats ints in
+        let r : Result = byParsed p s file words past floats ints curve in
         ((clipped : ℕ) → r .outcome ≡ Shown clipped → ⊥) → r ≡ result (r .outcome) s file words past
     go (Parsed.Refused k) unshown = refl
-    go (Parsed.Frame w h start) unshown = asks w h start (stops s w h (h * w) (length past) floats ints) refl unshown
+    go (Parsed.Frame w h start) unshown = asks w h start (stops s w h (h * w) (length past) floats ints curve) refl unshown

@@ -31,20 +31,20 @@ use Rattle.frames.specs.declared.Filtered.{Filtered}
 abbrev filtered : Outcome → Station → Filtered
 filtered o s = record { outcome = o; station = s }
 
-module _ (w h : ℕ) (s : Station) (pixels words past : List ℕ) (floats : List Float) (ints : List ℕ) (k : ℕ)
-    (asks : k ≡ stops s w h (length words) (length past) (length floats) (length ints)) (all : length words ≡ h * w) where
+module _ (w h : ℕ) (s : Station) (pixels words past : List ℕ) (floats : List Float) (ints : List ℕ) (curve : List Float) (k : ℕ)
+    (asks : k ≡ stops s w h (length words) (length past) (length floats) (length ints) curve) (all : length words ≡ h * w) where
   abbrev refused : ℕ → Result
   refused n = result (Refused n) s pixels words past
 
   abbrev taken : Result
-  taken = shown (h * w) (replied w h s pixels past (length floats) (length ints))
+  taken = shown (h * w) (replied w h s pixels past (length floats) (length ints) curve)
 
-  number : k ≡ stops s w h (h * w) (length past) (length floats) (length ints)
+  number : k ≡ stops s w h (h * w) (length past) (length floats) (length ints) curve
   number = rw (← all) asks
 
   -- the station refuses the frame
   pub unshown : (k ≡ 0 → ⊥)
-      → Filters (showsOf w h s pixels words past (length floats) (length ints)) (filtered (Refused k) s) pixels words past floats floats ints ints
+      → Filters (showsOf w h s pixels words past (length floats) (length ints) curve) (filtered (Refused k) s) pixels words past floats floats ints ints
   unshown some =
       subst (λ (x : Result). Filters x (filtered (Refused k) s) pixels words past floats floats ints ints) (refuses k refused taken number some)
       (record {
@@ -59,13 +59,13 @@ module _ (w h : ℕ) (s : Station) (pixels words past : List ℕ) (floats : List
 
   -- the call on the frame's words left r, and they were packed into all the bytes that were lent
   pub shows : (given : List ℕ) (r : Applied) (o : Outcome) (pixels′ words′ past′ : List ℕ) (floats′ : List Float) (ints′ : List ℕ) → k ≡ 0
-      → given ≡ unpacked (length words) pixels → Applies w h s given past floats ints r words′ past′ floats′ ints′
+      → given ≡ unpacked (length words) pixels → Applies w h s given past floats ints curve r words′ past′ floats′ ints′
       → o ≡ outcomeOf (reportedFrame (r .answer)) → pixels′ ≡ packedBytes words′ ++ drop (3 * length words′) pixels → length pixels ≤ 3 * length words′
-      → Filters (showsOf w h s pixels words past (length floats) (length ints)) (filtered o (r .station)) pixels′ words′ past′ floats floats′ ints ints′
+      → Filters (showsOf w h s pixels words past (length floats) (length ints) curve) (filtered o (r .station)) pixels′ words′ past′ floats floats′ ints ints′
   shows given r o pixels′ words′ past′ floats′ ints′ none e a told packed fits =
       let whole : pixels′ ≡ packedBytes words′ =
       packed ∙ ap (λ (xs : List ℕ). packedBytes words′ ++ xs) (drop-of-length-le pixels {i = 3 * length words′} fits) ∙ append-nil (packedBytes words′) in
-      let same : frameReply w h s given past (length floats) (length ints) ≡ replied w h s pixels past (length floats) (length ints) = rw (e, all) in
+      let same : frameReply w h s given past (length floats) (length ints) curve ≡ replied w h s pixels past (length floats) (length ints) curve = rw (e, all) in
       subst (λ (x : Result). Filters x (filtered o (r .station)) pixels′ words′ past′ floats floats′ ints ints′) (accepts k refused taken number none)
       (subst (λ (q : Framed). Filters (shown (h * w) q) (filtered o (r .station)) pixels′ words′ past′ floats floats′ ints ints′) (a .replies ∙ same)
       (record {
@@ -80,13 +80,13 @@ module _ (w h : ℕ) (s : Station) (pixels words past : List ℕ) (floats : List
 
 -- ## Filter
 
-module _ (s : Station) (file words past : List ℕ) (floats : List Float) (ints : List ℕ) where
+module _ (s : Station) (file words past : List ℕ) (floats : List Float) (ints : List ℕ) (curve : List Float) where
   abbrev done : Result
-  done = filteredOf s file words past (length floats) (length ints)
+  done = filteredOf s file words past (length floats) (length ints) curve
 
-  by-parsed : (p : Parsed) → p ≡ parseOf (length words) file → byParsed p s file words past (length floats) (length ints) ≡ done
+  by-parsed : (p : Parsed) → p ≡ parseOf (length words) file → byParsed p s file words past (length floats) (length ints) curve ≡ done
   unfolding filteredOf
-  by-parsed p e = ap (λ (q : Parsed). byParsed q s file words past (length floats) (length ints)) e
+  by-parsed p e = ap (λ (q : Parsed). byParsed q s file words past (length floats) (length ints) curve) e
 
   -- no frame: nothing changes
   pub no-frame : (p : Parsed) (k number : ℕ) → p ≡ parseOf (length words) file → p ≡ Parsed.Refused k → number ≡ numberOf p
@@ -118,15 +118,15 @@ module _ (s : Station) (file words past : List ℕ) (floats : List Float) (ints 
 
     pub shown-in : (p : Parsed) (pixels : List ℕ) (r : Filtered) (past′ : List ℕ) (floats′ : List Float) (ints′ : List ℕ)
         → p ≡ parseOf (length words) file → p ≡ Parsed.Frame w h start → pixels ≡ drop start file
-        → Filters (showsOf w h s pixels (take (h * w) words) past (length floats) (length ints)) r pixels′ words′ past′ floats floats′ ints ints′
+        → Filters (showsOf w h s pixels (take (h * w) words) past (length floats) (length ints) curve) r pixels′ words′ past′ floats floats′ ints ints′
         → Filters done r file′ buffer′ past′ floats floats′ ints ints′
     unfolding unless
     shown-in p pixels r past′ floats′ ints′ e is part g =
         subst (λ (x : Result). Filters x r file′ buffer′ past′ floats floats′ ints ints′) (by-parsed (Parsed.Frame w h start) (sym is ∙ e))
-        (go (stops s w h (h * w) (length past) (length floats) (length ints)) (rw part at g))
+        (go (stops s w h (h * w) (length past) (length floats) (length ints) curve) (rw part at g))
       where
         taken : Result
-        taken = shown (h * w) (replied w h s (drop start file) past (length floats) (length ints))
+        taken = shown (h * w) (replied w h s (drop start file) past (length floats) (length ints) curve)
 
         go : (n : ℕ)
             → Filters (unless n (λ k. result (Refused k) s (drop start file) (take (h * w) words) past) taken) r pixels′ words′ past′ floats floats′ ints ints′

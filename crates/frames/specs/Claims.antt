@@ -2,6 +2,7 @@
 use Prim.Native.Nat.{ℕ}
 use mathlib.Core.Path.{_≡_}
 use mathlib.Core.List.{List}
+use lib.Ieee.{Float}
 use Rattle.cards.specs.declared.station.Station.{Station}
 use Rattle.frames.specs.Frames.{Result, result, filteredOf}
 use Rattle.frames.specs.declared.Outcome.the-variants.{Shown}
@@ -9,6 +10,6 @@ use Rattle.frames.specs.declared.Outcome.the-variants.{Shown}
 -- a file that shows no picture is left as it was, and so are the station and all else that is lent
 abbrev pub UnshownKeeps : Type 0
 UnshownKeeps =
-    (s : Station) (file words past : List ℕ) (floats ints : ℕ) →
-    let r : Result = filteredOf s file words past floats ints in
+    (s : Station) (file words past : List ℕ) (floats ints : ℕ) (curve : List Float) →
+    let r : Result = filteredOf s file words past floats ints curve in
     ((clipped : ℕ) → r .outcome ≡ Shown clipped → ⊥) → r ≡ result (r .outcome) s file words past

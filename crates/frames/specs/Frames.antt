@@ -74,25 +74,25 @@ among start count file words x = record {
 -- `floats` and `ints` are the lengths of the scratches
 module _ (w h : ℕ) (s : Station) where
   -- a frame that the station refuses leaves all that is lent; `taken` is what else becomes of it
-  abbrev pub asked : (file words past : List ℕ) → (floats ints : ℕ) → Result → Result
-  asked file words past floats ints taken =
-      unless (stops s w h (h * w) (length past) floats ints) (λ k. result (Refused k) s file words past) taken
+  abbrev pub asked : (file words past : List ℕ) → (floats ints : ℕ) → List Float → Result → Result
+  asked file words past floats ints curve taken =
+      unless (stops s w h (h * w) (length past) floats ints curve) (λ k. result (Refused k) s file words past) taken
 
-  abbrev pub replied : (pixels past : List ℕ) → (floats ints : ℕ) → Framed
-  replied pixels past floats ints = frameReply w h s (unpacked (h * w) pixels) past floats ints
+  abbrev pub replied : (pixels past : List ℕ) → (floats ints : ℕ) → List Float → Framed
+  replied pixels past floats ints curve = frameReply w h s (unpacked (h * w) pixels) past floats ints curve
 
-  abbrev pub showsOf : (pixels words past : List ℕ) → (floats ints : ℕ) → Result
-  showsOf pixels words past floats ints = asked pixels words past floats ints (shown (h * w) (replied pixels past floats ints))
+  abbrev pub showsOf : (pixels words past : List ℕ) → (floats ints : ℕ) → List Float → Result
+  showsOf pixels words past floats ints curve = asked pixels words past floats ints curve (shown (h * w) (replied pixels past floats ints curve))
 
-abbrev pub byParsed : Parsed → Station → (file words past : List ℕ) → (floats ints : ℕ) → Result
-byParsed (Parsed.Refused k) s file words past floats ints = result (NoFrame k) s file words past
-byParsed (Parsed.Frame w h start) s file words past floats ints =
-    asked w h s file words past floats ints
-    (among start (h * w) file words (shown (h * w) (replied w h s (drop start file) past floats ints)))
+abbrev pub byParsed : Parsed → Station → (file words past : List ℕ) → (floats ints : ℕ) → List Float → Result
+byParsed (Parsed.Refused k) s file words past floats ints curve = result (NoFrame k) s file words past
+byParsed (Parsed.Frame w h start) s file words past floats ints curve =
+    asked w h s file words past floats ints curve
+    (among start (h * w) file words (shown (h * w) (replied w h s (drop start file) past floats ints curve)))
 
 -- a frame may have as many pixels as the framebuffer has words
-unfoldable pub filteredOf : Station → (file words past : List ℕ) → (floats ints : ℕ) → Result
-filteredOf s file words past floats ints = byParsed (parseOf (length words) file) s file words past floats ints
+unfoldable pub filteredOf : Station → (file words past : List ℕ) → (floats ints : ℕ) → List Float → Result
+filteredOf s file words past floats ints curve = byParsed (parseOf (length words) file) s file words past floats ints curve
 
 -- ## What the functions promise
 

@@ -7,6 +7,7 @@ ghost use Rattle.chain.specs.Answers.{reportedFrame};
 ghost use Rattle.frames.specs.Frames.{Room, Filters, showsOf, filteredOf, outcomeOf, numberOf, faultOf};
 
 pub mod area; // a rectangle in words
+pub mod curve; // the curve that a file holds
 pub mod judge; // the totals of rectangles of the frame that a file holds
 
 use cards::station::Station;
@@ -51,10 +52,11 @@ fn show(
     history: &mut [u32],
     floats: &mut [f32],
     ints: &mut [u32],
+    curve: &[f32],
 ) -> Filtered
     requires { ⌜ Room (height * width) (now words) (now pixels) ⌝ }
     ensures { λ r. ⌜ Filters (showsOf width height station (now (pixels .entry)) (now (words .entry)) (now (history .entry))
-        (length (now (floats .entry))) (length (now (ints .entry))))
+        (length (now (floats .entry))) (length (now (ints .entry))) (now (curve .entry)))
         r (now (pixels .exit)) (now (words .exit)) (now (history .exit)) (now (floats .entry)) (now (floats .exit)) (now (ints .entry)) (now (ints .exit)) ⌝ }
 {
     let refusal = stops(
@@ -65,6 +67,7 @@ fn show(
         history.len(),
         floats.len(),
         ints.len(),
+        curve,
     );
     if refusal != 0 {
         return Filtered {
@@ -73,7 +76,7 @@ fn show(
         };
     }
     pixels::unpack(words, pixels);
-    let applied = pipeline::apply(station, words, width, height, history, floats, ints);
+    let applied = pipeline::apply(station, words, width, height, history, floats, ints, curve);
     pixels::pack(pixels, words);
     let answer = applied.answer;
     let after = applied.station;
@@ -119,9 +122,10 @@ pub fn filter(
     history: &mut [u32],
     floats: &mut [f32],
     ints: &mut [u32],
+    curve: &[f32],
 ) -> Filtered
     ensures { λ r. ⌜ Filters (filteredOf station (now (file .entry)) (now (words .entry)) (now (history .entry))
-        (length (now (floats .entry))) (length (now (ints .entry))))
+        (length (now (floats .entry))) (length (now (ints .entry))) (now (curve .entry)))
         r (now (file .exit)) (now (words .exit)) (now (history .exit)) (now (floats .entry)) (now (floats .exit)) (now (ints .entry)) (now (ints .exit)) ⌝ }
 {
     let r = ppm::parse(file, words.len());
@@ -141,5 +145,6 @@ pub fn filter(
         history,
         floats,
         ints,
+        curve,
     )
 }

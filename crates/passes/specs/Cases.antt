@@ -1,16 +1,19 @@
 -- The cases of the passes: those that document 01 marks (●), one for each treatment that it leaves to the Rust, and those of requests.
 -- Each list pairs what a definition gives with what it should give, and one proof by computation holds the whole list.
 -- Assumes nothing.
+use mathlib.Core.Bool.{Bool, true, false}
 use mathlib.Core.List.{List, [], _∷_}
 use mathlib.Core.Path.{refl}
 use Prim.Native.Nat.{ℕ, zero, suc, _+_, _*_}
-use lib.Ieee.{ofBits, ofInt, add, sub, mul, div, neg, lt, le}
+use lib.Ieee.{Float, nan, inf, binary32, ofBits, ofInt, add, sub, mul, div, neg, lt, le, eq, ne}
 use Rattle.num.specs.Cases.{Hold}
-use Rattle.num.specs.Const.{c0·0, c0·30, c0·5, c1·0}
+use Rattle.num.specs.Const.{c0·0, c0·30, c0·5, c1·0, c2·0, c255·0}
+use Rattle.num.specs.F32.{whole, _⊘_}
 use Rattle.num.specs.Held.{nothing, sized, sameHeld}
 use Rattle.num.specs.Root.{rootOf}
 use Rattle.num.specs.Steps.{clampOf, minOf, maxOf, absOf, cutOf, roundOf}
 use Rattle.passes.specs as Text
+use Rattle.passes.specs.ColorCorrection.{inUnit, allInUnit, goodCurve}
 use Rattle.passes.specs.Fold.{fold}
 use Rattle.num.specs.Rewrite.{rewrite}
 use Rattle.num.specs.Sums.{sum}
@@ -61,7 +64,7 @@ marked =
     ∷ (second .frame .words, 0x555555 ∷ [])
     ∷ (third .frame .words, 0 ∷ [])
     ∷ (third .past, 0 ∷ 8 ∷ [])
-    ∷ (ColorCorrection.colorCorrection c1·0 c1·0 c1·0 (0 ∷ []) .words, 0xffffff ∷ [])
+    ∷ (ColorCorrection.colorCorrection [] c1·0 c1·0 c1·0 c1·0 (0 ∷ []) .words, 0xffffff ∷ [])
     ∷ []
 
 pub marked-hold : Hold marked
@@ -74,7 +77,8 @@ unfolding ofBits ofInt add sub mul div neg lt le clampOf minOf maxOf absOf cutOf
     Text.AutoGradient.addLuma Text.AutoGradient.warm Text.AutoGradient.fall Text.AutoGradient.brightness Text.AutoGradient.shade sameHeld
     Text.Persistence.persistence Text.Persistence.decay Text.Persistence.total Text.Persistence.add Text.Persistence.mix
     converted Text.Persistence.blend Persistence.copies Persistence.refilled
-    Persistence.shifted Text.ColorCorrection.colorCorrection Text.ColorCorrection.colour
+    Persistence.shifted Text.ColorCorrection.colorCorrection Text.ColorCorrection.curved Text.ColorCorrection.start
+    Text.ColorCorrection.colour eq ne
 marked-hold = refl
 
 -- a word for each three channels: together, and with the last word, all 256 of them
@@ -99,8 +103,8 @@ equals-hold = refl
 abbrev pub clipped : List (Painted × Painted)
 clipped =
     -- colour, brightness 1: black comes to lie at 1 exactly, 010101 above it; brightness -1: white at 0 exactly, a green of FE below it
-    (ColorCorrection.colorCorrection c1·0 c1·0 c1·0 (0 ∷ 0x010101 ∷ []), painted (0xffffff ∷ 0xffffff ∷ []) 3)
-    ∷ (ColorCorrection.colorCorrection (neg c1·0) c1·0 c1·0 (0xffffff ∷ 0xfffeff ∷ []), painted (0 ∷ 0 ∷ []) 1)
+    (ColorCorrection.colorCorrection [] c1·0 c1·0 c1·0 c1·0 (0 ∷ 0x010101 ∷ []), painted (0xffffff ∷ 0xffffff ∷ []) 3)
+    ∷ (ColorCorrection.colorCorrection [] (neg c1·0) c1·0 c1·0 c1·0 (0xffffff ∷ 0xfffeff ∷ []), painted (0 ∷ 0 ∷ []) 1)
     -- LUT, high contrast: red 10
     ∷ (Lut.lut 6 c1·0 (0xff102030 ∷ 0x406080 ∷ []), painted (0x00081c ∷ 0x305880 ∷ []) 1)
     -- gradient on one black pixel: blue
@@ -122,13 +126,62 @@ pub clipped-hold : Hold clipped
 unfolding ofBits ofInt add sub mul div neg lt le clampOf absOf cutOf rewrite fold sum converted sameHeld
     Text.Pixel.unpack Text.Pixel.unit Text.Pixel.pack Text.Pixel.packClamped Text.Pixel.packUnit Text.Pixel.clip Text.Pixel.clips
     Text.Pixel.channel Text.Pixel.luma601 Text.Pixel.luma709 Text.Position.position Text.ColorCorrection.colorCorrection
-    Text.ColorCorrection.colour Text.Lut.lut Text.Lut.colour Text.Lut.transform Text.AutoGradient.autoGradient
+    Text.ColorCorrection.curved Text.ColorCorrection.start Text.ColorCorrection.colour eq ne
+    Text.Lut.lut Text.Lut.colour Text.Lut.transform Text.AutoGradient.autoGradient
     Text.AutoGradient.shaded Text.AutoGradient.adaptive Text.AutoGradient.addLuma Text.AutoGradient.warm Text.AutoGradient.fall
     Text.AutoGradient.brightness Text.AutoGradient.shade Text.Blur.weight Text.Blur.total Text.Bloom.bloom Text.Bloom.bright
     Text.Bloom.composite Text.Ntsc.ntsc Text.Ntsc.pixel Text.Ntsc.chroma Text.Persistence.persistence Text.Persistence.decay
     Text.Persistence.total Text.Persistence.add Text.Persistence.mix Text.Persistence.blend
     Persistence.copies Persistence.refilled Persistence.shifted
 clipped-hold = refl
+
+-- The curve (request P3). Word k of `falling` is (255 - k)/255.
+unfoldable pub falling : ℕ → List Float
+falling zero = []
+falling (suc n) = (whole n ⊘ c255·0) ∷ falling n
+
+-- that word n times, before others
+unfoldable pub times : ℕ → Float → List Float → List Float
+times zero x rest = rest
+times (suc n) x rest = x ∷ times n x rest
+
+-- red, green and blue each by its own word; the top byte is ignored. Black and white by curves of zeros and of ones. At gamma 1.0 the curve has no say
+abbrev pub curves : List (Painted × Painted)
+curves =
+    (ColorCorrection.colorCorrection (falling 256) c0·0 c1·0 c1·0 c2·0 (0xff00407f ∷ 0x102030 ∷ []), painted (0xffbf80 ∷ 0xefdfcf ∷ []) 0)
+    ∷ (ColorCorrection.colorCorrection (times 256 c0·0 []) c0·0 c1·0 c1·0 c2·0 (0xffffff ∷ []), painted (0 ∷ []) 0)
+    ∷ (ColorCorrection.colorCorrection (times 256 c1·0 []) c0·0 c1·0 c1·0 c2·0 (0 ∷ []), painted (0xffffff ∷ []) 0)
+    ∷ (ColorCorrection.colorCorrection (times 256 c0·0 []) c0·0 c1·0 c1·0 c1·0 (0xffffff ∷ []), painted (0xffffff ∷ []) 0)
+    ∷ []
+
+pub curves-hold : Hold curves
+unfolding falling times ofBits ofInt add sub mul div lt eq ne clampOf cutOf rewrite sum converted Text.Pixel.pack Text.Pixel.packUnit
+    Text.Pixel.clip Text.Pixel.clips Text.Pixel.luma709 Text.ColorCorrection.colorCorrection Text.ColorCorrection.curved
+    Text.ColorCorrection.start Text.ColorCorrection.colour
+curves-hold = refl
+
+-- Which can be read: 256 words and no fewer; 1, -0 and the smallest number above 0 as the last of them, and no number above 1 or below 0 by one
+-- step, no infinity and no NaN; past them any word
+abbrev pub readable : List (Bool × Bool)
+readable =
+    (goodCurve [], false)
+    ∷ (goodCurve (times 255 c0·0 []), false)
+    ∷ (goodCurve (times 256 c0·0 []), true)
+    ∷ (goodCurve (times 255 c0·0 (c1·0 ∷ [])), true)
+    ∷ (goodCurve (times 255 c0·0 (neg c0·0 ∷ [])), true)
+    ∷ (goodCurve (times 255 c0·0 (ofBits binary32 1 ∷ [])), true)
+    ∷ (goodCurve (times 255 c0·0 (ofBits binary32 0x3f80_0001 ∷ [])), false)
+    ∷ (goodCurve (times 255 c0·0 (ofBits binary32 0x8000_0001 ∷ [])), false)
+    ∷ (goodCurve (times 255 c0·0 (inf false ∷ [])), false)
+    ∷ (goodCurve (times 255 c0·0 (inf true ∷ [])), false)
+    ∷ (goodCurve (times 255 c0·0 (nan ∷ [])), false)
+    ∷ (goodCurve (nan ∷ times 255 c0·0 []), false)
+    ∷ (goodCurve (times 256 c0·0 (nan ∷ [])), true)
+    ∷ []
+
+pub readable-hold : Hold readable
+unfolding times goodCurve allInUnit inUnit le lt eq neg ofBits
+readable-hold = refl
 
 -- three colours under each preset at strength 1.0, the first with its top byte set: Identity's steps run too
 abbrev colours : List ℕ

@@ -25,9 +25,13 @@ module _ (A : Arith) where
   channel (suc zero) c = green c
   channel (suc (suc n)) c = blue c
 
-  -- the channels of a word, 0 to 255; the top byte is ignored
+  -- one rule at the number of each channel of a word, 0 to 255; the top byte is ignored
+  abbrev pub byNumber : (ℕ → F) → ℕ → Rgb
+  byNumber f p = rgb (f (p / 65536 % 256)) (f (p / 256 % 256)) (f (p % 256))
+
+  -- the channels of a word, 0 to 255
   unfoldable pub unpack : ℕ → Rgb
-  unpack p = rgb (whole (p / 65536 % 256)) (whole (p / 256 % 256)) (whole (p % 256))
+  unpack p = byNumber whole p
 
   -- the channels as 0..1
   unfoldable pub unit : ℕ → Rgb

@@ -1,5 +1,5 @@
--- What private functions of src/marks.rt, src/lut.rt, src/blur.rt, src/ntsc.rt, src/bloom.rt and src/persistence.rt promise one
--- another. No public contract of a pass cites these. Definitions only.
+-- What private functions of src/marks.rt, src/color_correction.rt, src/lut.rt, src/blur.rt, src/ntsc.rt, src/bloom.rt and
+-- src/persistence.rt promise one another. No public contract of a pass cites these. Definitions only.
 use mathlib.Core.Path.{_≡_}
 use mathlib.Core.Bool.{false}
 use Prim.Native.Nat.{ℕ, zero, suc, _+_, _*_, _/_, _%_, _^_, _<_}
@@ -19,10 +19,11 @@ use Rattle.passes.specs.Painted.{Painted, painted}
 use Rattle.passes.specs.Plain.Bloom as Bloom
 use Rattle.passes.specs.Plain.AutoGradient.{warm, brightness, shade}
 use Rattle.passes.specs.Plain.Blur.{distance, weight, step, weighted, quotient}
+use Rattle.passes.specs.Plain.ColorCorrection.{level, saturate}
 use Rattle.passes.specs.Plain.Lut.{colour}
 use Rattle.passes.specs.Plain.Ntsc as Ntsc
 use Rattle.passes.specs.Plain.Persistence.{mix}
-use Rattle.passes.specs.Plain.Pixel.{channel, unpack, packClamped, packUnit, clip, clips, luma601}
+use Rattle.passes.specs.Plain.Pixel.{channel, channels, unpack, packClamped, packUnit, clip, clips, luma601}
 
 -- ---- words that are marked: the number of its clipped channels stands above each, in its top byte
 
@@ -42,6 +43,12 @@ everyUnit colour words = every (λ i p. markUnit (colour i p)) words
 -- the marks cleared, and added up
 unfoldable pub unmarked : List ℕ → Painted
 unmarked words = painted (every (λ i q. q % 16777216) words) (sum (length words) (λ i. getD words i 0 / 16777216))
+
+-- ---- colour correction
+
+-- what becomes of a colour once its channels have started
+abbrev pub toned : Float → Float → Float → Rgb → Rgb
+toned brightness contrast saturation c = saturate saturation (channels (level brightness contrast) c)
 
 -- ---- LUT
 

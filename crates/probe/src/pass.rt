@@ -5,6 +5,7 @@ ghost use lib.ListN.{length, getD, drop};
 ghost use Rattle.passes.specs.Plain.Bloom as Bloom;
 ghost use Rattle.passes.specs.Plain.Crt as Crt;
 ghost use Rattle.passes.specs.Plain.Curvature as Curvature;
+ghost use Rattle.passes.specs.ColorCorrection.{Enough};
 ghost use Rattle.passes.specs.Flow.{flow};
 ghost use Rattle.passes.specs.Painted.{painted};
 ghost use Rattle.passes.specs.Plain.Ntsc as Ntsc;
@@ -53,14 +54,17 @@ pub extern "C" fn probe_bloom(
 #[no_mangle]
 pub extern "C" fn probe_color_correction(
     frame: &mut [u32],
+    curve: &[f32],
     brightness: f32,
     contrast: f32,
     saturation: f32,
+    gamma: f32,
 ) -> u32
-    requires { ⌜ length (now frame) ≤ 1048576 ⌝ }
-    ensures { λ r. ⌜ painted (now (frame .exit)) r ≡ ColorCorrection.colorCorrection brightness contrast saturation (now (frame .entry)) ⌝ }
+    requires { ⌜ length (now frame) ≤ 1048576 ⌝ ∗ ⌜ Enough gamma (now curve) ⌝ }
+    ensures { λ r. ⌜ painted (now (frame .exit)) r
+        ≡ ColorCorrection.colorCorrection (now (curve .entry)) brightness contrast saturation gamma (now (frame .entry)) ⌝ }
 {
-    passes::color_correction::apply(frame, brightness, contrast, saturation)
+    passes::color_correction::apply(frame, curve, brightness, contrast, saturation, gamma)
 }
 
 #[no_mangle]

@@ -4,12 +4,15 @@ use super::paper::{fields, put, Field};
 use crate::random::Random;
 
 /// Floats where the paper's rules change, or a reader may slip.
-const FLOATS: [u32; 22] = [
+const FLOATS: [u32; 26] = [
     0x0000_0000, // 0
     0x8000_0000, // -0
     0x0000_0001, // the smallest above 0
     0x8000_0001, // the largest below 0
     0x007f_ffff, // the largest subnormal
+    0x3c23_d709,
+    0x3c23_d70a, // 0.01
+    0x3c23_d70b,
     0x3f00_0000, // 0.5
     0x3f00_0001,
     0x3f73_3333, // 0.95
@@ -20,6 +23,7 @@ const FLOATS: [u32; 22] = [
     0xbf80_0000, // -1
     0xbf80_0001,
     0x4000_0000, // 2
+    0x407f_ffff,
     0x4080_0000, // 4
     0x4080_0001,
     0x7f7f_ffff, // the largest
@@ -28,6 +32,9 @@ const FLOATS: [u32; 22] = [
     0x7f80_0001, // a NaN
     0xffc0_0000,
 ];
+
+/// How many of them are finite.
+const FINITE: usize = 22;
 
 /// Bytes where a count is limited or refused.
 const BYTES: [u32; 9] = [0, 1, 2, 7, 8, 9, 64, 65, 255];
@@ -145,22 +152,26 @@ fn setting(field: Field, bits: &mut Vec<bool>, random: &mut Random, odd: bool) {
             let value = random.choose(&BYTES).min(most);
             put(bits, value, 8);
         }
-        Field::Limited(_) | Field::Within(..) | Field::Gain(_) if odd => {
+        Field::Limited(_) | Field::Within(..) | Field::Raised(..) if odd => {
             let patterns = [random.word(), random.choose(&FLOATS)];
             put(bits, random.choose(&patterns), 32);
         }
         Field::Limited(_) => {
             let wide = (random.unit() - 0.25) * 2.0;
-            let edge = f32::from_bits(random.choose(&FLOATS[..18]));
+            let edge = f32::from_bits(random.choose(&FLOATS[..FINITE]));
             put(bits, random.choose(&[wide, edge]).to_bits(), 32);
         }
         Field::Within(low, high) => {
             let inside = low + (high - low) * random.unit();
             put(bits, random.choose(&[inside, low, high]).to_bits(), 32);
         }
-        Field::Gain(high) => {
+        Field::Raised(low, high) => {
             let value = (random.unit() - 0.25) * high;
-            put(bits, random.choose(&[value, high, -0.0]).to_bits(), 32);
+            let edge = f32::from_bits(random.choose(&FLOATS[..FINITE])).min(high);
+            // A gamma is mostly 1: program `station` refuses each frame at any other.
+            let mostly = if low > 0.0 { 1.0 } else { value };
+            let values = [mostly, mostly, mostly, mostly, mostly, value, edge, edge];
+            put(bits, random.choose(&values).to_bits(), 32);
         }
     }
 }

@@ -1,5 +1,5 @@
-//! The card: what opening and writing give, held to a reading of document 01, and of document 02's P2, that was written from
-//! the papers alone.
+//! The card: what opening and writing give, held to a reading of document 01, and of document 02's P2 and P3, that was written
+//! from the papers alone.
 
 mod cases;
 pub mod compare;

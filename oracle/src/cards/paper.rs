@@ -1,4 +1,5 @@
-//! Document 01's card, with the order of document 02's P2, read and written as the papers say it, with nothing of the library.
+//! Document 01's card, with the order of document 02's P2 and the gamma of its P3, read and written as the papers say it, with
+//! nothing of the library.
 
 /// A refusal's number.
 pub type Number = u32;
@@ -56,8 +57,8 @@ pub enum Field {
     Limited(f32),
     /// Refused outside.
     Within(f32, f32),
-    /// Refused above, and 0 below 0.
-    Gain(f32),
+    /// Raised to the low end, and refused above the high one.
+    Raised(f32, f32),
     /// Any byte.
     Byte,
     /// Refused above, and 1 for 0.
@@ -76,7 +77,12 @@ pub fn fields(kind: u32) -> Option<&'static [Field]> {
         4 => &[Limited(0.95), Count(8)],
         5 => &[Preset, Limited(1.0)],
         6 => &[Limited(0.5)],
-        7 => &[Within(-1.0, 1.0), Gain(4.0), Gain(4.0), Within(1.0, 1.0)],
+        7 => &[
+            Within(-1.0, 1.0),
+            Raised(0.0, 4.0),
+            Raised(0.0, 4.0),
+            Raised(0.01, 4.0),
+        ],
         8..=10 => &[Limited(1.0)],
         _ => return None,
     })
@@ -118,7 +124,7 @@ impl Field {
                 7 => Err(bad),
                 preset => Ok(Value::Whole(preset, 3)),
             },
-            Field::Limited(_) | Field::Within(..) | Field::Gain(_) => {
+            Field::Limited(_) | Field::Within(..) | Field::Raised(..) => {
                 let x = f32::from_bits(bits.take(32, place)?);
                 if !x.is_finite() {
                     return Err(bad);
@@ -126,8 +132,9 @@ impl Field {
                 let x = match self {
                     Field::Limited(high) if x > high => high,
                     Field::Within(low, high) if x < low || x > high => return Err(bad),
-                    Field::Gain(high) if x > high => return Err(bad),
-                    Field::Limited(_) | Field::Gain(_) if x < 0.0 => 0.0,
+                    Field::Raised(_, high) if x > high => return Err(bad),
+                    Field::Limited(_) if x < 0.0 => 0.0,
+                    Field::Raised(low, _) if x < low => low,
                     _ => x,
                 };
                 // Negative zero becomes zero.
@@ -182,6 +189,15 @@ pub fn read(card: &[u8]) -> Result<Opened, Refusal> {
         return Err(refusal(7, end, Place::Rest));
     }
     Ok(Opened { records })
+}
+
+/// The gamma of a chain that reads a curve, by document 02's P3: it has colour, on or off, and the gamma is not 1.
+pub fn curved(records: &[Record]) -> Option<f32> {
+    let colour = records.iter().find(|record| record.kind == 7)?;
+    match colour.settings[3] {
+        Value::Float(gamma) if gamma != 1.0 => Some(gamma),
+        _ => None,
+    }
 }
 
 impl Opened {

@@ -38,7 +38,10 @@ fn other(field: Field, value: Value, bits: &mut Vec<bool>, random: &mut Random) 
     let far = random.unit() * random.choose(&[1.0, 1e-30, 1e30, f32::MAX]);
     let spelt = match field {
         Field::Limited(high) if x == high => random.choose(&[x, x.max(far), f32::MAX]),
-        Field::Limited(_) | Field::Gain(_) if x == 0.0 => random.choose(&[0.0, -0.0, -far]),
+        Field::Limited(_) if x == 0.0 => random.choose(&[0.0, -0.0, -far]),
+        Field::Raised(low, _) if x == low => {
+            random.choose(&[low, low.next_down(), 0.0, -0.0, -far])
+        }
         Field::Within(..) if x == 0.0 => random.choose(&[0.0, -0.0]),
         _ => x,
     };

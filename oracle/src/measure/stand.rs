@@ -1,8 +1,9 @@
 //! A card on both sides, with all that a frame of one size needs.
 
 use crate::bridge::{self, Lent, State};
-use crate::cards::paper::Opened;
-use crate::passes::effects::built;
+use crate::cards::paper::{curved, Opened};
+use crate::passes::curves;
+use crate::passes::effects::{built, effect};
 use crate::passes::frames::{Kind, Picture};
 use crate::passes::original::pipeline::PostProcessPipeline;
 
@@ -29,6 +30,7 @@ pub struct Stand {
     pub history: Vec<u32>,
     pub floats: Vec<f32>,
     pub ints: Vec<u32>,
+    curve: Vec<f32>,
 }
 
 /// The card of a case.
@@ -55,11 +57,12 @@ impl Stand {
         let count = size.0 * size.1;
         Stand {
             size,
-            pipeline: built(&case.records),
+            pipeline: built(&case.records, effect),
             state,
             history: vec![0; depth * count],
             floats: vec![0.0; 6 * count],
             ints: vec![0; count],
+            curve: curved(&case.records).map_or(Vec::new(), curves::power),
         }
     }
 
@@ -74,6 +77,7 @@ impl Stand {
                     history: &mut self.history,
                     floats: &mut self.floats,
                     ints: &mut self.ints,
+                    curve: &self.curve,
                 };
                 let answer = bridge::apply(&mut self.state, width, height, lent);
                 assert!(answer.is_ok(), "the frame was refused: {answer:?}");

@@ -3,7 +3,7 @@
 
 use super::counted::pipeline::PostProcessPipeline as Counting;
 use super::original::pipeline::PostProcessPipeline;
-use super::{counting, effects};
+use super::{counting, curves, effects};
 use crate::cards::paper::Record;
 use crate::clipped;
 
@@ -16,8 +16,8 @@ pub struct Both {
 impl Both {
     pub fn built(records: &[Record]) -> Self {
         Both {
-            original: effects::built(records),
-            counting: counting::effects::built(records),
+            original: effects::built(records, effects::with_curve),
+            counting: counting::effects::built(records, counting::effects::with_curve),
         }
     }
 
@@ -25,11 +25,13 @@ impl Both {
         &self.original
     }
 
-    /// Paints the frame, and gives how many channels were clipped.
-    pub fn apply(&self, words: &mut [u32], width: usize, height: usize) -> u32 {
+    /// Paints the frame with this curve, and gives how many channels were clipped.
+    pub fn apply(&self, words: &mut [u32], width: usize, height: usize, curve: &[f32]) -> u32 {
         let mut copy = words.to_vec();
-        self.original.apply(words, width, height);
-        let clipped = clipped::counted(|| self.counting.apply(&mut copy, width, height));
+        let clipped = curves::lent(curve, || {
+            self.original.apply(words, width, height);
+            clipped::counted(|| self.counting.apply(&mut copy, width, height))
+        });
         assert!(copy == words, "the copy that counts paints another picture");
         clipped
     }

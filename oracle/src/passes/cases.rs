@@ -1,5 +1,6 @@
-//! Which frames a pass without memory is compared on.
+//! Which frames a pass without memory is compared on, and which curves colour.
 
+use super::curves::Curve;
 use super::frames::{Picture, KINDS};
 use super::settings::{self, Setting};
 use super::table::Pass;
@@ -12,6 +13,12 @@ pub struct Case {
     pub height: usize,
     pub setting: Setting,
     pub picture: Picture,
+}
+
+/// One frame through colour with any curve. At gamma 1 the curve is not looked at, and may be none that is taken.
+pub struct Curved {
+    pub frame: Case,
+    pub curve: Curve,
 }
 
 /// Sides up to here are taken in every combination.
@@ -30,8 +37,11 @@ const LARGEST: [(usize, usize); 3] = [(1024, 1024), (1024, 1), (1, 1024)];
 struct Effort {
     /// Rounds through all small sizes, each with another setting and picture.
     rounds: usize,
-    /// Frames for each combination of boundary settings, each of another kind.
+    /// Frames for each combination of boundary settings, each of another kind; fewer where that would be more than so many together.
     frames: usize,
+    together: usize,
+    /// Frames with any curve.
+    curved: usize,
     /// Nanoseconds, as the pass's row estimates them, for frames with sides up to 1024.
     budget: usize,
 }
@@ -42,11 +52,15 @@ impl Effort {
             Mode::Quick => Effort {
                 rounds: 4 * KINDS.len(),
                 frames: KINDS.len(),
+                together: 100_000,
+                curved: 120_000,
                 budget: 2_000_000_000,
             },
             Mode::Full => Effort {
                 rounds: 40 * KINDS.len(),
                 frames: 10 * KINDS.len(),
+                together: 1_000_000,
+                curved: 2_400_000,
                 budget: 150_000_000_000,
             },
         }
@@ -82,22 +96,48 @@ fn small_sizes(pass: &Pass, effort: &Effort, random: &mut Random, cases: &mut Ve
     }
 }
 
-/// Every boundary setting. One frame for each has room for the widest blur.
+/// Every boundary setting. One frame for each has room for the widest blur, where they are few enough.
 fn boundary_settings(pass: &Pass, effort: &Effort, random: &mut Random, cases: &mut Vec<Case>) {
-    for setting in settings::boundaries(pass.fields) {
-        for round in 0..effort.frames {
-            let longest = if round == 0 { 4 * SMALL } else { SMALL };
+    let settings = settings::boundaries(pass.fields);
+    let rounds = effort.frames.min(effort.together / settings.len());
+    for (place, setting) in settings.into_iter().enumerate() {
+        for round in 0..rounds {
+            let wide = round == 0 && rounds == effort.frames;
+            let longest = if wide { 4 * SMALL } else { SMALL };
             cases.push(Case {
                 width: random.within(1, longest),
                 height: random.within(1, longest),
                 setting,
                 picture: Picture {
-                    kind: KINDS[round % KINDS.len()],
+                    kind: KINDS[(place * rounds + round) % KINDS.len()],
                     seed: random.next(),
                 },
             });
         }
     }
+}
+
+/// Small frames of colour, each with another setting and another curve.
+pub fn of_curves(pass: &Pass, mode: Mode) -> Vec<Curved> {
+    let random = &mut Random::named("curves");
+    let case = |random: &mut Random| {
+        let setting = settings::random(pass.fields, random);
+        let gamma = settings::limited(pass.fields, &setting).float(3);
+        Curved {
+            frame: Case {
+                width: random.within(1, SMALL),
+                height: random.within(1, SMALL),
+                setting,
+                picture: Picture::random(random),
+            },
+            curve: if gamma == 1.0 {
+                Curve::any(random)
+            } else {
+                Curve::good(gamma, random)
+            },
+        }
+    };
+    (0..Effort::of(mode).curved).map(|_| case(random)).collect()
 }
 
 /// The largest frames with ordinary settings, then large ones for as long as the budget lasts, with

@@ -5,6 +5,7 @@ use super::original::pipeline::PostProcessPipeline;
 /// The kinds that calls look for.
 pub const PERSISTENCE: u32 = 4;
 pub const LUT: u32 = 5;
+pub const COLOUR: u32 = 7;
 
 /// What the original calls an effect.
 pub fn name(kind: u32) -> &'static str {

@@ -14,6 +14,8 @@ use super::original::pipeline::PostProcessPipeline;
 use super::original::scanlines::Scanlines;
 use super::original::vignette::Vignette;
 use crate::cards::paper::{Record, Value};
+use crate::passes::chain::COLOUR;
+use crate::passes::curves;
 
 /// In the order of the enum: a card holds the place.
 const PRESETS: [LutPreset; 7] = [
@@ -27,11 +29,10 @@ const PRESETS: [LutPreset; 7] = [
 ];
 
 /// The effect of document 01's kind, by its `new` and switched on. The values are those of a card, in its order; whole numbers
-/// are small enough for an f32. A gamma that is not given is 1.
+/// are small enough for an f32.
 pub fn effect(kind: u32, values: &[f32]) -> Box<dyn PostProcessEffect> {
     let float = |place: usize| values[place];
     let whole = |place: usize| values[place] as usize;
-    let gamma = values.get(3).copied().unwrap_or(1.0);
     let mut effect: Box<dyn PostProcessEffect> = match kind {
         1 => Box::new(Ntsc::new(float(0), whole(1))),
         2 => Box::new(Bloom::new(whole(0) as u8, float(1), whole(2))),
@@ -39,7 +40,7 @@ pub fn effect(kind: u32, values: &[f32]) -> Box<dyn PostProcessEffect> {
         4 => Box::new(Persistence::new(float(0), whole(1))),
         5 => Box::new(Lut::new(PRESETS[whole(0)], float(1))),
         6 => Box::new(Curvature::new(float(0))),
-        7 => Box::new(ColorCorrection::new(float(0), float(1), float(2), gamma)),
+        7 => Box::new(ColorCorrection::new(float(0), float(1), float(2), float(3))),
         8 => Box::new(Crt::new(float(0))),
         9 => Box::new(Vignette::new(float(0))),
         10 => Box::new(Scanlines::new(float(0))),
@@ -49,8 +50,25 @@ pub fn effect(kind: u32, values: &[f32]) -> Box<dyn PostProcessEffect> {
     effect
 }
 
-/// The pipeline of a card's records, each effect switched as its record says.
-pub fn built(records: &[Record]) -> PostProcessPipeline {
+/// The same, but that colour takes the curve that is lent to it (curves.rs).
+pub fn with_curve(kind: u32, values: &[f32]) -> Box<dyn PostProcessEffect> {
+    match *values {
+        [brightness, contrast, saturation, gamma] if kind == COLOUR && gamma != 1.0 => {
+            Box::new(Curved {
+                original: effect(kind, values),
+                settings: [brightness, contrast, saturation],
+                powers: curves::power(gamma),
+            })
+        }
+        _ => effect(kind, values),
+    }
+}
+
+/// The pipeline of a card's records, each effect made by `make` and switched as its record says.
+pub fn built(
+    records: &[Record],
+    make: fn(u32, &[f32]) -> Box<dyn PostProcessEffect>,
+) -> PostProcessPipeline {
     let mut pipeline = PostProcessPipeline::new();
     for record in records {
         let value = |value: &Value| match *value {
@@ -58,11 +76,45 @@ pub fn built(records: &[Record]) -> PostProcessPipeline {
             Value::Whole(n, _) => n as f32,
         };
         let values: Vec<f32> = record.settings.iter().map(value).collect();
-        let mut effect = effect(record.kind, &values);
+        let mut effect = make(record.kind, &values);
         effect.set_enabled(record.on);
         pipeline.add(Boxed(effect));
     }
     pipeline
+}
+
+/// Colour with a curve: the original's where the curve holds its powers, and the second writing of the pass where it does not.
+struct Curved {
+    original: Box<dyn PostProcessEffect>,
+    settings: [f32; 3],
+    powers: Vec<f32>,
+}
+
+impl PostProcessEffect for Curved {
+    fn name(&self) -> &'static str {
+        self.original.name()
+    }
+
+    fn enabled(&self) -> bool {
+        self.original.enabled()
+    }
+
+    fn set_enabled(&mut self, enabled: bool) {
+        self.original.set_enabled(enabled);
+    }
+
+    fn apply(&self, framebuffer: &mut [u32], width: usize, height: usize) {
+        if !self.enabled() {
+            return;
+        }
+        curves::with_lent(|curve| {
+            if curves::same(&curve[..curves::READ], &self.powers) {
+                self.original.apply(framebuffer, width, height);
+            } else {
+                curves::paint(&mut framebuffer[..width * height], curve, self.settings);
+            }
+        });
+    }
 }
 
 /// An effect as a pipeline takes it.

@@ -10,6 +10,7 @@ pub mod compare;
 #[rustfmt::skip]
 pub mod counted;
 pub mod counting;
+pub mod curves;
 pub mod effects;
 pub mod frames;
 // Written by oracle/build.sh: a module for each of the original's files.

@@ -42,6 +42,7 @@ pub struct Lent<'a> {
     pub history: &'a mut [u32],
     /// The size of the frames in the history.
     pub held: &'a mut Size,
+    pub curve: &'a [f32],
 }
 
 impl Room {
@@ -68,6 +69,7 @@ impl Room {
             words: &mut self.words[..words + more],
             history: &mut self.history,
             held: &mut self.held,
+            curve: &[],
         }
     }
 

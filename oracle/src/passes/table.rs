@@ -122,13 +122,23 @@ pub static PASSES: &[Pass] = &[
                 limits: [0.0, f32::INFINITY],
                 card: [0.0, 4.0],
             },
+            Field::Gamma,
         ],
         needs: FRAME_ONLY,
         kind: 7,
-        ours: |s, f, _| probe::color_correction(f.words, s.float(0), s.float(1), s.float(2)),
+        ours: |s, f, lent| {
+            probe::color_correction(
+                f.words,
+                lent.curve,
+                s.float(0),
+                s.float(1),
+                s.float(2),
+                s.float(3),
+            )
+        },
         cost: |_| 45,
-        measured: &[&[0.05, 1.1, 1.2]],
-        limit: |_| 1.0,
+        measured: &[&[0.05, 1.1, 1.2, 1.0], &[0.05, 1.1, 1.2, 2.2]],
+        limit: |s| if s.float(3) == 1.0 { 1.0 } else { 0.5 },
     },
     Pass {
         name: "crt",

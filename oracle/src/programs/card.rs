@@ -1,4 +1,4 @@
-//! What program `card` prints: made from the reading of document 01 in cards/paper.rs alone.
+//! What program `card` prints: made from the reading of documents 01 and 02 in cards/paper.rs alone.
 
 use super::cards::Given;
 use super::cases::{OfCard, OfPair};
@@ -259,6 +259,14 @@ fn note(card: &[u8], met: &mut Met<OfCard>) {
     }
     for record in &opened.records {
         met.note(OfCard::Pass(record.kind, record.on));
+        if let (7, &[.., Value::Float(gamma)]) = (record.kind, &record.settings[..]) {
+            met.note(match gamma {
+                0.01 => OfCard::GammaLowest,
+                1.0 => OfCard::GammaOne,
+                4.0 => OfCard::GammaFour,
+                _ => OfCard::GammaOther,
+            });
+        }
         for &value in &record.settings {
             match value {
                 Value::Whole(preset, 3) => met.note(OfCard::Preset(preset)),

@@ -79,12 +79,13 @@ fn setting(field: Field, bits: &mut Vec<bool>, random: &mut Random) {
                 x
             }
         }
-        // Gamma, and brightness: from -1 to 1.
-        Field::Within(low, high) if low == high => high,
+        // Brightness: from -1 to 1.
         Field::Within(_, high) => number(high, random) * random.choose(&[1.0, -1.0]),
-        Field::Gain(high) => {
+        Field::Raised(low, high) => {
             let x = number(high, random);
-            random.choose(&[x, x, x, x, -x, -0.0, f32::MIN])
+            let edges = [low, low.next_down(), low.next_up(), -x, -0.0, f32::MIN];
+            let edge = random.choose(&edges);
+            random.choose(&[x, x, x, edge])
         }
     };
     put(bits, x.to_bits(), 32);

@@ -15,6 +15,11 @@ pub enum OfCard {
     /// A pass of this kind, off or on.
     Pass(u32, bool),
     Preset(u32),
+    /// A gamma of 0.01, of 1, of 4, and any other.
+    GammaLowest,
+    GammaOne,
+    GammaFour,
+    GammaOther,
     /// A setting below 0, one that is subnormal, and one with all the places that a setting can have.
     Negative,
     Subnormal,
@@ -74,6 +79,10 @@ impl Listed for OfCard {
         OfCard::Preset(4),
         OfCard::Preset(5),
         OfCard::Preset(6),
+        OfCard::GammaLowest,
+        OfCard::GammaOne,
+        OfCard::GammaFour,
+        OfCard::GammaOther,
         OfCard::Negative,
         OfCard::Subnormal,
         OfCard::Longest,
@@ -96,8 +105,7 @@ pub enum OfPair {
     /// Alike, with the same bytes or spelt differently.
     Same,
     Respelt,
-    /// The first difference: one chain is longer, another kind, another switch, or the setting at this place. Gamma, at
-    /// place 3, is always 1.
+    /// The first difference: one chain is longer, another kind, another switch, or the setting at this place.
     FirstLonger,
     SecondLonger,
     Kind,
@@ -123,6 +131,7 @@ impl Listed for OfPair {
         OfPair::Setting(0),
         OfPair::Setting(1),
         OfPair::Setting(2),
+        OfPair::Setting(3),
         OfPair::FirstRefused,
         OfPair::SecondRefused,
         OfPair::BothRefused,
@@ -164,8 +173,21 @@ mod of_run {
         /// The clipped channels of a picture were told: none, and some.
         Clipped(bool),
         Help,
+        /// An option stands there twice.
+        Twice,
         CardMissing,
         CardRefused,
+        /// A frame whose channels start from a curve; one of a chain that reads it while colour is off; and one of a chain that reads
+        /// none, with a curve given.
+        Curved,
+        CurveOff,
+        CurveUnread,
+        /// No curve is given to a chain that reads one, with colour on, or off.
+        NoCurve(bool),
+        /// The file of a curve is not there, has another length, or a bad word: while the chain reads it, and while it does not.
+        CurveMissing,
+        CurveLength(bool),
+        CurveWord(bool),
         /// A file is refused, at the first place of the run or at a later one.
         First,
         Later,
@@ -198,8 +220,19 @@ mod of_run {
             OfRun::Clipped(false),
             OfRun::Clipped(true),
             OfRun::Help,
+            OfRun::Twice,
             OfRun::CardMissing,
             OfRun::CardRefused,
+            OfRun::Curved,
+            OfRun::CurveOff,
+            OfRun::CurveUnread,
+            OfRun::NoCurve(true),
+            OfRun::NoCurve(false),
+            OfRun::CurveMissing,
+            OfRun::CurveLength(true),
+            OfRun::CurveLength(false),
+            OfRun::CurveWord(true),
+            OfRun::CurveWord(false),
             OfRun::First,
             OfRun::Later,
             OfRun::Refused(Fault::Empty),

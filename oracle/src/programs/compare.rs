@@ -121,10 +121,9 @@ fn text(said: &Said) -> Vec<u8> {
 #[cfg(with_original)]
 mod files {
     use std::io;
-    use std::iter;
 
     use super::super::cases::OfRun;
-    use super::super::files::{self, Run};
+    use super::super::files::{self, File, Flag, Run};
     use super::super::filter;
     use super::super::process::{Folder, Said};
     use super::{share, times};
@@ -143,39 +142,35 @@ mod files {
             tally.check(at, here.both(), asked.both(), || what(seed, &run));
             Ok(())
         };
-        let (tally, met) = share("filter", times(mode, 1_000), new, FileTally::join, compare)?;
+        let (tally, met) = share("filter", times(mode, 1_250), new, FileTally::join, compare)?;
         total.add_files(&tally);
         total.unmet += met.report();
         total.add_turned(met.count(OfRun::Turned));
+        total.add_curved(met.count(OfRun::Curved));
         Ok(())
     }
 
     /// What the program writes.
     fn written(run: &Run, folder: &Folder) -> io::Result<Said> {
-        let names = run.files.iter().map(|file| file.name.as_str());
-        let option = run.tells.then_some("--clipped");
-        let arguments: Vec<&str> = option
-            .into_iter()
-            .chain(iter::once(run.card.argument.as_str()))
-            .chain(names)
-            .collect();
-        let frames = run.files.iter().filter_map(|file| {
+        let curve = run.has(Flag::Curve).then_some(&run.curve);
+        let stored = run.files.iter().chain(curve).filter_map(|file| {
             let bytes = file.bytes.as_deref().ok()?;
             Some((file.name.as_str(), bytes))
         });
-        let files: Vec<_> = run.card.files().into_iter().chain(frames).collect();
-        folder.run("filter", &arguments, &files)
+        let files: Vec<_> = run.card.files().into_iter().chain(stored).collect();
+        folder.run("filter", &run.arguments(), &files)
     }
 
     fn what(seed: u64, run: &Run) -> String {
-        let files = run.files.iter().map(|file| match &file.bytes {
+        let shown = |file: &File| match &file.bytes {
             Ok(bytes) => format!("{:?} of {} bytes", file.name, bytes.len()),
             Err(_) => format!("{:?}", file.name),
-        });
-        let files: Vec<String> = files.collect();
-        let (card, tells) = (run.card.shown(), run.tells);
+        };
+        let files: Vec<String> = run.files.iter().map(shown).collect();
+        let (options, card) = (&run.options, run.card.shown());
         format!(
-            "seed {seed:#018x}, --clipped {tells}, card {card}, files {}",
+            "seed {seed:#018x}, {options:?}, curve {}, card {card}, files {}",
+            shown(&run.curve),
             files.join(", ")
         )
     }

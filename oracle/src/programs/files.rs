@@ -1,19 +1,50 @@
-//! Runs of program `filter`: a card, and files that hold frames of changing sizes, with headers in many spellings; and what
+//! Runs of program `filter`: options, a card, a curve, and files that hold frames of changing sizes, with headers in many spellings; and what
 //! may become of a file.
 
 use super::cards::{self, Given};
 use super::ppm::{PIXELS, ROOM};
 use super::process::{Bytes, FOLDER, MISSING, PIPE};
 use crate::cards::{damage, paper};
+use crate::passes::curves::{Curve, READ};
 use crate::passes::frames::Picture;
 use crate::random::Random;
 use crate::runs;
 
 pub struct Run {
-    /// Whether the clipped channels of each picture are told.
-    pub tells: bool,
+    /// As they stand before the card.
+    pub options: Vec<Flag>,
+    /// What `--curve` names, each time.
+    pub curve: File,
     pub card: Given,
     pub files: Vec<File>,
+}
+
+/// An option of the program.
+#[derive(Clone, Copy, PartialEq, Debug)]
+pub enum Flag {
+    /// The clipped channels of each picture are told.
+    Clipped,
+    Curve,
+}
+
+impl Run {
+    /// Whether an option stands there.
+    pub fn has(&self, option: Flag) -> bool {
+        self.options.contains(&option)
+    }
+
+    pub fn arguments(&self) -> Vec<&str> {
+        let mut arguments = Vec::new();
+        for option in &self.options {
+            match option {
+                Flag::Clipped => arguments.push("--clipped"),
+                Flag::Curve => arguments.extend(["--curve", &self.curve.name]),
+            }
+        }
+        arguments.push(&self.card.argument);
+        arguments.extend(self.files.iter().map(|file| file.name.as_str()));
+        arguments
+    }
 }
 
 /// An argument, and what the file of that name holds.
@@ -62,12 +93,80 @@ pub fn run(seed: u64) -> Run {
     } else {
         card(pixels, random)
     };
-    let card = cards::given(&card, random);
+    let gamma = paper::open(&card)
+        .ok()
+        .and_then(|opened| paper::curved(&opened.records));
     Run {
-        tells: random.one_in(2),
-        card,
+        options: options(gamma.is_some(), random),
+        curve: curve(gamma.unwrap_or(2.2), random),
+        card: cards::given(&card, random),
         files,
     }
+}
+
+/// Mostly a curve where one is read, in either order with the other option; a few with an option twice.
+fn options(read: bool, random: &mut Random) -> Vec<Flag> {
+    let mut options = Vec::new();
+    if random.one_in(2) {
+        options.push(Flag::Clipped);
+    }
+    if random.one_in(8) != read {
+        options.push(Flag::Curve);
+    }
+    if random.one_in(2) {
+        options.reverse();
+    }
+    if !options.is_empty() && random.one_in(32) {
+        let twice = random.choose(&options);
+        options.insert(random.below(options.len() + 1), twice);
+    }
+    options
+}
+
+/// A file with a curve, or with what is none in a few cases.
+fn curve(gamma: f32, random: &mut Random) -> File {
+    let mut bytes = bytes_of(&Curve {
+        len: READ,
+        ..Curve::good(gamma, random)
+    });
+    let name = random.choose(&["curve", "a curve ", "-2.2", "C0FFEE"]);
+    match random.below(32) {
+        0 => {
+            return File {
+                name: "no-such.curve".to_string(),
+                bytes: MISSING,
+            }
+        }
+        1 => {
+            return File {
+                name: ".".to_string(),
+                bytes: FOLDER,
+            }
+        }
+        // Another length.
+        2..5 => {
+            let any = random.below(3 * 4 * READ);
+            let length = random.choose(&[0, 1, 4, 1020, 1023, 1025, 1028, 5120, any]);
+            bytes.resize(length, 0);
+        }
+        // A word that is not in 0..1, mostly.
+        5..9 => {
+            let len = READ;
+            let bad = Curve::bad(random);
+            bytes = bytes_of(&Curve { len, ..bad });
+        }
+        _ => {}
+    }
+    File {
+        name: name.to_string(),
+        bytes: Ok(bytes),
+    }
+}
+
+/// Its words, the least significant byte first.
+fn bytes_of(curve: &Curve) -> Vec<u8> {
+    let words = curve.words(curve.seed);
+    words.iter().flat_map(|word| word.to_le_bytes()).collect()
 }
 
 /// A good card, of no dearer passes than these pixels allow.

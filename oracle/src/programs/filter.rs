@@ -1,19 +1,29 @@
-//! What program `filter` writes: the files as ppm.rs reads them, under the original's pipeline of the card. The frames
+//! What program `filter` writes: the files as ppm.rs reads them, under the original's pipeline of the card, with the curve that is given. The frames
 //! of a run go through one pipeline, which begins anew at a turned frame, and each picture stands in the file of its frame, with the
 //! header as it was.
 
 use super::card::refused;
 use super::cases::OfRun;
-use super::files::Run;
+use super::files::{File, Flag, Run};
 use super::ppm::{self, Frame};
 use super::process::{Said, PIPE};
-use crate::cards::paper::{self, Size};
+use crate::cards::paper::{self, Opened, Size};
 use crate::met::Met;
 use crate::passes::both::Both;
-use crate::passes::chain::PERSISTENCE;
+use crate::passes::chain::{COLOUR, PERSISTENCE};
+use crate::passes::curves;
 
-const USAGE: &str = "usage: filter [--clipped] CARD FRAME..   \
-    (a card as a file or in hexadecimal; frames as binary PPM, up to 256 by 240 pixels)";
+const USAGE: &str = "usage: filter [--clipped] [--curve FILE] CARD FRAME..   \
+    (a card as a file or in hexadecimal; frames as binary PPM, up to 61440 pixels; a curve as 256 binary32)";
+
+/// Why a file holds no curve.
+const OTHER_LENGTH: &str =
+    "no curve: it has not 1024 bytes, which are 256 binary32, the low byte first";
+const BAD_WORD: &str = "no curve: a number in it is not from 0 to 1";
+
+/// Why there is no picture, where no curve is named.
+const NO_CURVE: &str = "refused: 16, bad curve: \
+    the card has a gamma other than 1, so name a curve by --curve FILE";
 
 /// What is written, and how many pixels the frames have, each of them.
 pub fn run(run: &Run, met: &mut Met<OfRun>) -> (Said, Vec<usize>) {
@@ -24,6 +34,10 @@ pub fn run(run: &Run, met: &mut Met<OfRun>) -> (Said, Vec<usize>) {
 }
 
 fn played(run: &Run, met: &mut Met<OfRun>) -> Result<(Said, Vec<usize>), Said> {
+    if twice(&run.options) {
+        met.note(OfRun::Twice);
+        return Err(Said::error(USAGE));
+    }
     if run.card.is_option() {
         met.note(OfRun::Help);
         return Err(Said::error(USAGE));
@@ -37,6 +51,8 @@ fn played(run: &Run, met: &mut Met<OfRun>) -> Result<(Said, Vec<usize>), Said> {
         met.note(OfRun::CardRefused);
         Said::refusal(argument, &refused(refusal))
     })?;
+
+    let curve = curve(run, &opened, met)?;
 
     // Every file is looked at before anything is written.
     let mut files = Vec::new();
@@ -58,6 +74,12 @@ fn played(run: &Run, met: &mut Met<OfRun>) -> Result<(Said, Vec<usize>), Said> {
         })?;
         files.push((frame, bytes));
     }
+    let read = paper::curved(&opened.records).is_some();
+    if read && !run.has(Flag::Curve) {
+        // The station refuses the first frame.
+        met.note(OfRun::NoCurve(is_on(&opened)));
+        return Err(Said::refusal(&run.files[0].name, NO_CURVE));
+    }
 
     let remembers = |r: &paper::Record| r.kind == PERSISTENCE && r.on;
     let remembers = opened.records.iter().any(remembers);
@@ -76,8 +98,9 @@ fn played(run: &Run, met: &mut Met<OfRun>) -> Result<(Said, Vec<usize>), Said> {
         let (header, pixels) = bytes.split_at(frame.start);
         let word = |rgb: &[u8]| u32::from_be_bytes([0, rgb[0], rgb[1], rgb[2]]);
         let mut words: Vec<u32> = pixels.chunks(3).map(word).collect();
-        let clipped = pipeline.apply(&mut words, frame.width, frame.height);
-        if run.tells {
+        let clipped = pipeline.apply(&mut words, frame.width, frame.height, &curve);
+        note_curve(run, &opened, met);
+        if run.has(Flag::Clipped) {
             told.push_str(&format!("{}: {clipped} clipped channels\n", file.name));
             met.note(OfRun::Clipped(clipped > 0));
         }
@@ -96,6 +119,51 @@ fn played(run: &Run, met: &mut Met<OfRun>) -> Result<(Said, Vec<usize>), Said> {
         error: told.into_bytes(),
     };
     Ok((said, counts))
+}
+
+/// Whether an option stands there twice.
+fn twice(options: &[Flag]) -> bool {
+    let times = |flag| options.iter().filter(|&&other| other == flag).count();
+    times(Flag::Clipped) > 1 || times(Flag::Curve) > 1
+}
+
+/// The curve that is named, which is looked at also where it is not read; else none.
+fn curve(run: &Run, opened: &Opened, met: &mut Met<OfRun>) -> Result<Vec<f32>, Said> {
+    let read = paper::curved(&opened.records).is_some();
+    if !run.has(Flag::Curve) {
+        return Ok(Vec::new());
+    }
+    let File { name, bytes } = &run.curve;
+    let bytes = bytes.as_ref().map_err(|why| {
+        met.note(OfRun::CurveMissing);
+        Said::refusal(name, why)
+    })?;
+    if bytes.len() != 4 * curves::READ {
+        met.note(OfRun::CurveLength(read));
+        return Err(Said::refusal(name, OTHER_LENGTH));
+    }
+    let word = |four: &[u8]| f32::from_le_bytes([four[0], four[1], four[2], four[3]]);
+    let words: Vec<f32> = bytes.chunks(4).map(word).collect();
+    if !curves::is_good(&words) {
+        met.note(OfRun::CurveWord(read));
+        return Err(Said::refusal(name, BAD_WORD));
+    }
+    Ok(words)
+}
+
+/// Whether colour is.
+fn is_on(opened: &Opened) -> bool {
+    opened.records.iter().any(|r| r.kind == COLOUR && r.on)
+}
+
+/// What a picture has to do with the curve.
+fn note_curve(run: &Run, opened: &Opened, met: &mut Met<OfRun>) {
+    met.note(match paper::curved(&opened.records) {
+        Some(_) if is_on(opened) => OfRun::Curved,
+        Some(_) => OfRun::CurveOff,
+        None if run.has(Flag::Curve) => OfRun::CurveUnread,
+        None => return,
+    });
 }
 
 /// Which case a frame is. `held` is the size of the one before it.

@@ -11,7 +11,8 @@ use super::station::Station;
 use crate::bridge::{self, Answer, Lent, State};
 use crate::cards::spelling;
 use crate::met::Met;
-use crate::passes::chain::PERSISTENCE;
+use crate::passes::chain::{COLOUR, PERSISTENCE};
+use crate::passes::curves::{self, Curve};
 use crate::random::Random;
 use crate::tally::RunTally;
 
@@ -22,6 +23,8 @@ struct Own {
     /// What it has to be: this decides the point.
     station: Station,
     sizes: Sizes,
+    /// The curve that was lent last.
+    curve: Vec<f32>,
 }
 
 /// What a call gave. The picture is empty where there is none.
@@ -106,6 +109,7 @@ fn own(card: &[u8], station: &Station, longest: usize, random: &mut Random) -> H
         history: Noise::any(random.next()).words(words),
         station: station.clone(),
         sizes: Sizes::new(longest, &[], random),
+        curve: Vec::new(),
     })
 }
 
@@ -255,6 +259,7 @@ fn shared_list(
             if turned[0] && beside.meets(frame.size) || turned[1] && before.meets(frame.size) {
                 met.note(Point::OneTurned);
             }
+            note_curves(a, b, here.answer, course.agreed, met);
         }
         course.went(&before, &call, here.answer, met);
     }
@@ -262,6 +267,25 @@ fn shared_list(
         met.note(Point::Never);
     }
     Ok(differed)
+}
+
+/// Notes what the curves of a shared frame were, which both took or refused.
+fn note_curves(a: &Own, b: &Own, answer: Answer, agreed: bool, met: &mut Met<Point>) {
+    let same = curves::same(&a.curve, &b.curve);
+    met.note(match (answer, a.station.curved()) {
+        (Err(16), _) if agreed => Point::BadCurve,
+        (Err(16), _) => Point::BadCurveBefore,
+        (Ok(_), None) if agreed && a.curve.len() != b.curve.len() => Point::LengthsUnread,
+        (Ok(_), None) if agreed && !same => Point::CurvesUnread,
+        (Ok(_), Some(_)) if agreed && a.station.is_on(COLOUR) => {
+            if same {
+                Point::Curved
+            } else {
+                Point::CurvesPast
+            }
+        }
+        _ => return,
+    });
 }
 
 /// Frames above all: a reset or a switching-off brings the point at once.
@@ -275,12 +299,14 @@ fn shared_call(a: &mut Own, room: usize, random: &mut Random) -> Call {
 
 impl Own {
     /// Makes a call and holds the answer and the state to the paper's station. What is not the call's own, noise
-    /// in the scratch and past the picture, is another each time.
+    /// in the scratch, past the picture and past what is read of the curve, is another each time.
     fn call(&mut self, call: &Call, random: &mut Random, tally: &mut RunTally) -> Held<Seen> {
         let mut picture = Vec::new();
         let (here, asked) = match call {
             Call::Frame(frame) => {
-                let asked = self.station.frame(frame.size.0, frame.size.1, &frame.lent);
+                self.curve = self.curve_of(frame, random);
+                let (width, height) = frame.size;
+                let asked = self.station.frame(width, height, &frame.lent, &self.curve);
                 let here = self.frame(frame, random, &mut picture);
                 if asked.is_ok() {
                     self.station.take(frame.size);
@@ -315,6 +341,15 @@ impl Own {
         })
     }
 
+    /// That of the call, where the chain reads it; else any.
+    fn curve_of(&self, frame: &Frame, random: &mut Random) -> Vec<f32> {
+        let curve = match self.station.curved() {
+            Some(_) => frame.curve,
+            None => Curve::any(random),
+        };
+        curve.words(random.next())
+    }
+
     fn frame(&mut self, frame: &Frame, random: &mut Random, picture: &mut Vec<u32>) -> Answer {
         let Frame { size, lent, .. } = frame;
         let mut words = frame.words(random.next());
@@ -323,6 +358,7 @@ impl Own {
             history: &mut self.history[..lent.history],
             floats: &mut Noise::of(random.next()).floats(lent.floats),
             ints: &mut Noise::of(random.next()).words(lent.ints),
+            curve: &self.curve,
         };
         let answer = bridge::apply(&mut self.state, size.0, size.1, buffers);
         if answer.is_ok() {

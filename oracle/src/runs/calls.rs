@@ -6,6 +6,7 @@ use super::noise::Noise;
 use super::station::{Lengths, Station};
 use crate::cards::paper::Size;
 use crate::passes::chain::PERSISTENCE;
+use crate::passes::curves::Curve;
 use crate::passes::frames::Picture;
 use crate::random::Random;
 
@@ -26,6 +27,7 @@ pub struct Frame {
     pub size: (usize, usize),
     pub picture: Picture,
     pub lent: Lengths,
+    pub curve: Curve,
 }
 
 impl Frame {
@@ -48,8 +50,10 @@ impl fmt::Display for Call {
                 size,
                 lent,
                 picture,
+                curve,
             }) => {
-                write!(f, "frame {}x{} {picture}, {lent:?}", size.0, size.1)
+                let (width, height) = size;
+                write!(f, "frame {width}x{height} {picture}, {lent:?}, {curve:x?}")
             }
             Call::Reset => write!(f, "reset"),
             Call::Switch(kind, on) => write!(f, "switch {kind} {on}"),
@@ -147,6 +151,7 @@ pub fn of_size(station: &Station, size: Size, room: usize, random: &mut Random) 
         size,
         picture: Picture::random(random),
         lent: enough(station, size.0 * size.1, room, random),
+        curve: taken(station, random),
     })
 }
 
@@ -172,16 +177,25 @@ fn enough(station: &Station, count: usize, room: usize, random: &mut Random) -> 
     }
 }
 
-/// A frame with a fault or several: a bad size, or a buffer that is too short.
+/// A curve that the station takes.
+fn taken(station: &Station, random: &mut Random) -> Curve {
+    match station.curved() {
+        Some(gamma) => Curve::good(gamma, random),
+        None => Curve::any(random),
+    }
+}
+
+/// A frame with a fault or several: a bad size, a buffer that is too short, or a bad curve, which is none where the chain does not read
+/// it.
 fn faulty(station: &Station, sizes: &mut Sizes, room: usize, random: &mut Random) -> Call {
     let mut size = sizes.last;
     let count = size.0 * size.1;
     let mut lent = enough(station, count, room, random);
     // One fault in most cases; else any, to see which is told first.
-    let one = random.below(5);
+    let one = random.below(6);
     let several = random.one_in(4);
     let mut has = |fault: usize| fault == one || several && random.one_in(2);
-    let faults = [0, 1, 2, 3, 4].map(&mut has);
+    let faults = [0, 1, 2, 3, 4, 5].map(&mut has);
     let short = |needed: usize, random: &mut Random| {
         if random.one_in(4) {
             random.below(needed + 1).min(needed.saturating_sub(1))
@@ -204,10 +218,16 @@ fn faulty(station: &Station, sizes: &mut Sizes, room: usize, random: &mut Random
     if faults[4] {
         lent.ints = short(count, random);
     }
+    let curve = if faults[5] {
+        Curve::bad(random)
+    } else {
+        taken(station, random)
+    };
     Call::Frame(Frame {
         size,
         picture: Picture::random(random),
         lent,
+        curve,
     })
 }
 

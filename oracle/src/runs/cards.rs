@@ -57,9 +57,7 @@ fn record(kind: u32, random: &mut Random) -> Vec<bool> {
 /// A setting as the table of the passes has it, in the card's bits.
 fn raw(setting: &Setting, place: usize, field: Field, bits: &mut Vec<bool>) {
     match field {
-        // Gamma, which the table leaves out.
-        Field::Within(low, high) if low == high => put(bits, high.to_bits(), 32),
-        Field::Limited(_) | Field::Within(..) | Field::Gain(_) => {
+        Field::Limited(_) | Field::Within(..) | Field::Raised(..) => {
             put(bits, setting.float(place).to_bits(), 32)
         }
         Field::Byte | Field::Count(_) => put(bits, setting.whole(place) as u32, 8),

@@ -1,6 +1,7 @@
 //! What may happen in a run or in a trial.
 
 use crate::met::Listed;
+use crate::passes::curves::Odd;
 
 /// A buffer that is lent one word, or one byte, short of its limit.
 #[derive(Clone, Copy, PartialEq, Debug)]
@@ -23,6 +24,14 @@ pub enum Which {
     Step,
     Write,
     Depth,
+}
+
+/// Why a curve that is not read could not be: it has no word, too few, or a bad one.
+#[derive(Clone, Copy, PartialEq, Debug)]
+pub enum Bad {
+    Empty,
+    Short,
+    Word,
 }
 
 #[derive(Clone, Copy, PartialEq, Debug)]
@@ -86,6 +95,24 @@ pub enum Case {
     HeldOther,
     /// A state in whose card two records are exchanged, at this call: a bad one.
     OutOfOrder(Which),
+    /// An accepted frame whose channels start from a curve: that of the original's powers, and another one.
+    Curved(bool),
+    /// An accepted frame of a chain that reads a curve while colour is off.
+    CurveOff,
+    /// An accepted one with a curve of so many words; with -0 among those that are read; and with a bad word behind them.
+    CurveOf(usize),
+    CurveMinusZero,
+    CurvePast,
+    /// A frame that is refused by 16: with so few words, by a word, by a word at this place, and while colour is off.
+    CurveShort(usize),
+    CurveWord(Odd),
+    CurveWordAt(usize),
+    CurveBadOff,
+    /// An accepted frame of a chain that reads no curve, with one that could not be read: colour at gamma 1, and no colour.
+    Unread(Bad),
+    UnreadAbsent(Bad),
+    /// A frame that is refused by this number, with a curve that would be refused too.
+    CurveToo(u32),
 }
 
 impl Listed for Case {
@@ -116,6 +143,7 @@ impl Listed for Case {
         Case::Frame(10),
         Case::Frame(11),
         Case::Frame(13),
+        Case::Frame(16),
         Case::ResetRefused(12),
         Case::ResetRefused(13),
         Case::SwitchRefused(12),
@@ -172,6 +200,36 @@ impl Listed for Case {
         Case::OutOfOrder(Which::Step),
         Case::OutOfOrder(Which::Write),
         Case::OutOfOrder(Which::Depth),
+        Case::Curved(true),
+        Case::Curved(false),
+        Case::CurveOff,
+        Case::CurveOf(256),
+        Case::CurveOf(257),
+        Case::CurveMinusZero,
+        Case::CurvePast,
+        Case::CurveShort(0),
+        Case::CurveShort(255),
+        Case::CurveWord(Odd::Above),
+        Case::CurveWord(Odd::Below),
+        Case::CurveWord(Odd::Nan),
+        Case::CurveWord(Odd::NegativeNan),
+        Case::CurveWord(Odd::SignallingNan),
+        Case::CurveWord(Odd::Infinity),
+        Case::CurveWord(Odd::NegativeInfinity),
+        Case::CurveWordAt(0),
+        Case::CurveWordAt(255),
+        Case::CurveBadOff,
+        Case::Unread(Bad::Empty),
+        Case::Unread(Bad::Short),
+        Case::Unread(Bad::Word),
+        Case::UnreadAbsent(Bad::Empty),
+        Case::UnreadAbsent(Bad::Short),
+        Case::UnreadAbsent(Bad::Word),
+        Case::CurveToo(8),
+        Case::CurveToo(9),
+        Case::CurveToo(10),
+        Case::CurveToo(11),
+        Case::CurveToo(13),
     ];
 }
 
@@ -204,6 +262,16 @@ pub enum Point {
     OneTurned,
     /// Another number of clipped channels before the point.
     ClippedDiffers,
+    /// From the point on, a shared frame whose channels start from curves that are equal, and from such as differ past the words that are
+    /// read.
+    Curved,
+    CurvesPast,
+    /// From the point on, one whose chain does not read the curves, which differ: in a word, and in their length.
+    CurvesUnread,
+    LengthsUnread,
+    /// A shared frame that both refuse by 16: before the point, and from it on.
+    BadCurveBefore,
+    BadCurve,
 }
 
 impl Listed for Point {
@@ -223,5 +291,11 @@ impl Listed for Point {
         Point::TurnedBefore,
         Point::OneTurned,
         Point::ClippedDiffers,
+        Point::Curved,
+        Point::CurvesPast,
+        Point::CurvesUnread,
+        Point::LengthsUnread,
+        Point::BadCurveBefore,
+        Point::BadCurve,
     ];
 }

@@ -27,6 +27,8 @@ fn runs(mode: Mode, total: &mut Total) {
     total.add_runs(&tally);
     total.unmet += met.report();
     total.add_turned(met.count(Case::Turned));
+    let curved = [true, false].map(|powers| met.count(Case::Curved(powers)));
+    total.add_curved(curved.iter().sum());
 }
 
 fn trials(mode: Mode, total: &mut Total) {

@@ -10,6 +10,7 @@ use super::station::{Lengths, Station};
 use crate::bridge::State;
 use crate::fuzz;
 use crate::met::Met;
+use crate::passes::curves::{Curve, ODD, READ};
 use crate::passes::frames::{Picture, KINDS};
 use crate::random::Random;
 use crate::seeds::STATE;
@@ -175,5 +176,26 @@ fn frame(tape: &mut Tape, sides: &Sides) -> Frame {
             floats,
             ints,
         },
+        curve: curve(tape, sides),
+    }
+}
+
+/// Mostly one that the chain takes, of 256 words, at the end of its pages; else of another length, or with an odd word somewhere.
+fn curve(tape: &mut Tape, sides: &Sides) -> Curve {
+    let random = &mut Random::new(tape.byte().into());
+    let gamma = sides.machine.station().and_then(Station::curved);
+    let good = Curve::good(gamma.unwrap_or(1.0), random);
+    match tape.byte() {
+        0..128 => Curve { len: READ, ..good },
+        128..160 => Curve {
+            len: tape.near(READ),
+            ..good
+        },
+        160..192 => Curve {
+            odd: Some((tape.near(READ), random.choose(&ODD))),
+            ..good
+        },
+        192..224 => Curve::bad(random),
+        _ => Curve::any(random),
     }
 }

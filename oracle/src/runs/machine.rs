@@ -1,14 +1,15 @@
 //! Document 01's plain machine over the original: a station, the words of its history buffer, and the
 //! original's pipeline, which runs from call to call. The history's words are made apart from it, of the frames
 //! as the original's effects before persistence leave them. At a turned frame, which the original would mix with the frames before
-//! the turn, its effects are built anew: that is what document 02's P1 asks.
+//! the turn, its effects are built anew: that is what document 02's P1 asks. Where colour reads a curve (P3), it is the original's if
+//! the curve holds the original's powers, else a second writing of it.
 
 use super::station::{Lengths, Station};
 use crate::bridge::{Answer, State};
 use crate::cards::paper::Size;
 use crate::passes::both::Both;
 use crate::passes::chain::{name, preset, LUT, PERSISTENCE};
-use crate::passes::effects::built;
+use crate::passes::effects::{built, effect};
 
 pub struct Machine {
     /// None where the bytes are no good station's.
@@ -41,10 +42,16 @@ impl Machine {
     }
 
     /// A frame: the picture takes the place of the first words. The answer is how many channels were clipped.
-    pub fn frame(&mut self, words: &mut [u32], size: Size, lent: &Lengths) -> Answer {
+    pub fn frame(
+        &mut self,
+        words: &mut [u32],
+        size: Size,
+        lent: &Lengths,
+        curve: &[f32],
+    ) -> Answer {
         let (width, height) = size;
         let station = self.station.as_mut().ok_or(13u32)?;
-        station.frame(width, height, lent)?;
+        station.frame(width, height, lent, curve)?;
         let words = &mut words[..width * height];
         if station.remembers() {
             if station.turned(size) {
@@ -54,7 +61,7 @@ impl Machine {
             remember(station, &mut self.history, &incoming, size);
             station.take(size);
         }
-        Ok(self.pipeline.apply(words, width, height))
+        Ok(self.pipeline.apply(words, width, height, curve))
     }
 
     /// The original's pipeline cannot reach a reset: its effects are built anew.
@@ -109,7 +116,7 @@ impl Machine {
 fn before_persistence(station: &Station, words: &[u32], (width, height): Size) -> Vec<u32> {
     let place = station.place(PERSISTENCE).unwrap_or_default();
     let mut words = words.to_vec();
-    built(&station.records()[..place]).apply(&mut words, width, height);
+    built(&station.records()[..place], effect).apply(&mut words, width, height);
     words
 }
 
@@ -143,7 +150,7 @@ fn refilled(station: &Station, history: &[u32]) -> Both {
         pipeline.set_enabled(name(record.kind), false);
     }
     for place in history[..depth * count].chunks_exact(count).rev() {
-        pipeline.apply(&mut place.to_vec(), width, height);
+        pipeline.apply(&mut place.to_vec(), width, height, &[]);
     }
     for record in others() {
         pipeline.set_enabled(name(record.kind), record.on);

@@ -1,14 +1,15 @@
 //! One station on both sides, from call to call: the library's 80 bytes and lent buffers, and the machine.
 
 use super::calls::{Call, Frame};
-use super::cases::{Case, Short};
+use super::cases::{Bad, Case, Short};
 use super::machine::Machine;
 use super::noise::Noise;
 use super::station::{Lengths, Station};
 use crate::bridge::{self, Answer, Lent, State};
 use crate::cards::paper::Size;
 use crate::met::Met;
-use crate::passes::chain::{LUT, PERSISTENCE};
+use crate::passes::chain::{COLOUR, LUT, PERSISTENCE};
+use crate::passes::curves::{self, Odd, ODD};
 use crate::random::Random;
 use crate::tally::RunTally;
 
@@ -59,7 +60,7 @@ impl Sides {
     ) -> Held {
         let before = self.machine.station().cloned();
         let asked = match call {
-            Call::Frame(frame) => self.frame(frame, random, tally)?,
+            Call::Frame(frame) => self.frame(frame, random, tally, met)?,
             Call::Reset => {
                 let asked = self.machine.reset();
                 answered(bridge::reset(&mut self.state), asked)?
@@ -122,11 +123,19 @@ impl Sides {
         Ok(given)
     }
 
-    fn frame(&mut self, frame: &Frame, random: &mut Random, tally: &mut RunTally) -> Held<Answer> {
+    fn frame(
+        &mut self,
+        frame: &Frame,
+        random: &mut Random,
+        tally: &mut RunTally,
+        met: &mut Met<Case>,
+    ) -> Held<Answer> {
         let Frame { size, lent, .. } = frame;
         let mut here = frame.words(random.next());
         let mut asked = here.clone();
-        let answer = self.machine.frame(&mut asked, *size, lent);
+        let curve = frame.curve.words(random.next());
+        let answer = self.machine.frame(&mut asked, *size, lent, &curve);
+        note_curve(&curve, self.machine.station(), answer, met);
 
         let mut scratch = Scratch::new(lent, random);
         let buffers = Lent {
@@ -134,6 +143,7 @@ impl Sides {
             history: &mut self.history[..lent.history],
             floats: &mut scratch.floats,
             ints: &mut scratch.ints,
+            curve: &curve,
         };
         let given = bridge::apply(&mut self.state, size.0, size.1, buffers);
         let answer = answered(given, answer)?;
@@ -190,13 +200,87 @@ fn note(call: &Call, before: Option<&Station>, asked: Answer, met: &mut Met<Case
 
 fn note_taken(frame: &Frame, before: &Station, met: &mut Met<Case>) {
     met.note(taken(frame.size, before));
-    if frame.lent == needed(before, frame.size) {
+    let curve = before.curved().map_or(0, |_| curves::READ);
+    if (frame.lent, frame.curve.len) == (needed(before, frame.size), curve) {
         met.note(Case::Exact);
     }
     let size = Case::Size(frame.size.0, frame.size.1);
     if met.listed(size) {
         met.note(size);
     }
+}
+
+/// Tells the list of cases what a frame was with this curve. A frame changes no setting and no switch, so the station may be that of
+/// before or of after it.
+fn note_curve(curve: &[f32], station: Option<&Station>, answer: Answer, met: &mut Met<Case>) {
+    let Some(station) = station else {
+        if !curves::is_good(curve) {
+            met.note(Case::CurveToo(13));
+        }
+        return;
+    };
+    match (answer, station.curved()) {
+        (Ok(_), Some(gamma)) => note_read(curve, gamma, station, met),
+        (Ok(_), None) => note_unread(curve, station, met),
+        (Err(16), _) => note_refused(curve, station, met),
+        (Err(number), Some(_)) if !curves::is_good(curve) => met.note(Case::CurveToo(number)),
+        _ => {}
+    }
+}
+
+fn note_read(curve: &[f32], gamma: f32, station: &Station, met: &mut Met<Case>) {
+    let (read, past) = curve.split_at(curves::READ);
+    met.note(if station.is_on(COLOUR) {
+        Case::Curved(curves::same(read, &curves::power(gamma)))
+    } else {
+        Case::CurveOff
+    });
+    if met.listed(Case::CurveOf(curve.len())) {
+        met.note(Case::CurveOf(curve.len()));
+    }
+    if curves::has(read, Odd::MinusZero) {
+        met.note(Case::CurveMinusZero);
+    }
+    if past.first().is_some_and(|word| !curves::is_taken(word)) {
+        met.note(Case::CurvePast);
+    }
+}
+
+fn note_refused(curve: &[f32], station: &Station, met: &mut Met<Case>) {
+    if !station.is_on(COLOUR) {
+        met.note(Case::CurveBadOff);
+    }
+    let Some(read) = curve.get(..curves::READ) else {
+        let short = Case::CurveShort(curve.len());
+        return if met.listed(short) {
+            met.note(short)
+        };
+    };
+    let mut bad = (0..).zip(read).filter(|(_, word)| !curves::is_taken(word));
+    let (Some((place, &word)), None) = (bad.next(), bad.next()) else {
+        return;
+    };
+    let odd = ODD.into_iter().find(|&odd| curves::has(&[word], odd));
+    let cases = [odd.map(Case::CurveWord), Some(Case::CurveWordAt(place))];
+    for case in cases.into_iter().flatten() {
+        if met.listed(case) {
+            met.note(case);
+        }
+    }
+}
+
+fn note_unread(curve: &[f32], station: &Station, met: &mut Met<Case>) {
+    let bad = match curve.len() {
+        0 => Bad::Empty,
+        1..curves::READ => Bad::Short,
+        _ if curves::is_good(curve) => return,
+        _ => Bad::Word,
+    };
+    met.note(if station.has(COLOUR) {
+        Case::Unread(bad)
+    } else {
+        Case::UnreadAbsent(bad)
+    });
 }
 
 /// Which case an accepted frame is.

@@ -4,6 +4,7 @@
 use crate::bridge::{Answer, State};
 use crate::cards::paper::{self, Opened, Record, Size, Value, NOTHING};
 use crate::passes::chain::{LUT, PERSISTENCE};
+use crate::passes::curves;
 
 /// Where the parts of the 80 bytes end: a length, the card's room, the remembered width, the height.
 const CARD_END: usize = 73;
@@ -17,7 +18,7 @@ pub struct Station {
     pub held: Size,
 }
 
-/// The words that are lent to a frame.
+/// The words that are lent to a frame beside the curve.
 #[derive(Clone, Copy, PartialEq, Debug)]
 pub struct Lengths {
     pub framebuffer: usize,
@@ -96,8 +97,19 @@ impl Station {
         }
     }
 
-    /// Why a frame is refused, by the paper's table. What an accepted one reports is no station's to say.
-    pub fn frame(&self, width: usize, height: usize, lent: &Lengths) -> Result<(), u32> {
+    /// The gamma at which the chain reads a curve, where it does.
+    pub fn curved(&self) -> Option<f32> {
+        paper::curved(self.records())
+    }
+
+    /// Why a frame is refused, by the papers' table. What an accepted one reports is no station's to say.
+    pub fn frame(
+        &self,
+        width: usize,
+        height: usize,
+        lent: &Lengths,
+        curve: &[f32],
+    ) -> Result<(), u32> {
         let fine = |side: usize| (1..=1024).contains(&side);
         if !fine(width) || !fine(height) {
             return Err(8);
@@ -112,6 +124,8 @@ impl Station {
             Err(10)
         } else if lent.floats < 6 * count || lent.ints < count {
             Err(11)
+        } else if self.curved().is_some() && !curves::is_good(curve) {
+            Err(16)
         } else {
             Ok(())
         }

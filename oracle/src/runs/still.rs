@@ -72,6 +72,7 @@ impl Stand {
             history: &mut self.history,
             floats: &mut self.floats,
             ints: &mut self.ints,
+            curve: &[],
         };
         accepted(bridge::apply(&mut self.state, SIDE, SIDE, lent), tally)?;
         tally.frame(COUNT);

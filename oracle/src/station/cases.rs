@@ -23,6 +23,8 @@ pub enum Case {
     /// A width or height of 0, or above 32.
     BadSize,
     SwitchByte,
+    /// A frame through a chain that reads a curve, of which the program lends none: with colour on, and with it off.
+    BadCurve(bool),
     /// A frame through a chain without persistence, or with persistence off.
     Frame,
     /// A frame that fills the history, one that meets it, and one that fills it since it has the same count in another shape.
@@ -70,6 +72,8 @@ impl Listed for Case {
         Case::CutSwitch,
         Case::BadSize,
         Case::SwitchByte,
+        Case::BadCurve(true),
+        Case::BadCurve(false),
         Case::Frame,
         Case::Refill,
         Case::Blend,

@@ -7,8 +7,8 @@
 use super::cases::Case;
 use crate::cards::paper::{self, Record, Size, Value};
 use crate::met::Met;
-use crate::passes::chain::{name, preset, LUT, PERSISTENCE};
-use crate::passes::effects::built;
+use crate::passes::chain::{name, preset, COLOUR, LUT, PERSISTENCE};
+use crate::passes::effects::{built, effect};
 use crate::passes::original::pipeline::PostProcessPipeline;
 
 /// What is printed for an input. `met` is told what happened.
@@ -103,7 +103,7 @@ struct Station {
 
 impl Station {
     fn new(records: Vec<Record>) -> Self {
-        let pipeline = built(&records);
+        let pipeline = built(&records, effect);
         Station {
             records,
             pipeline,
@@ -139,10 +139,17 @@ impl Station {
             met.note(Case::CutPixels);
             return Err(1);
         };
+        if paper::curved(&self.records).is_some() {
+            // The program lends an empty curve. The next event is read.
+            let on = self.records.iter().any(|r| r.kind == COLOUR && r.on);
+            met.note(Case::BadCurve(on));
+            printed.refusal(16);
+            return Ok(rest);
+        }
         let case = self.taken(width, height);
         met.note(case);
         if case == Case::Turned {
-            self.pipeline = built(&self.records);
+            self.pipeline = built(&self.records, effect);
         }
         let word = |rgb: &[u8]| u32::from_be_bytes([0, rgb[0], rgb[1], rgb[2]]);
         let mut words: Vec<u32> = pixels.chunks(3).map(word).collect();
@@ -181,7 +188,7 @@ impl Station {
         } else {
             Case::Reset
         });
-        self.pipeline = built(&self.records);
+        self.pipeline = built(&self.records, effect);
         printed.line("R");
     }
 

@@ -7,10 +7,10 @@ use Rattle.filter.proofs.show_all.Statement.{statement}
 use Rattle.filter.proofs.show_all.Tie as tie
 
 abbrev Inv-loop : tie.InvT-loop
-Inv-loop first count tell file₀ words₀ history₀ floats₀ ints₀ now₀ more₀ i₀ file words history floats ints now more i = length file ≡ length file₀
+Inv-loop first count tell curve file₀ words₀ history₀ floats₀ ints₀ now₀ more₀ i₀ file words history floats ints now more i = length file ≡ length file₀
 
 abbrev μ-loop : tie.MeasureT-loop
-μ-loop first count tell file₀ words₀ history₀ floats₀ ints₀ now₀ more₀ i₀ file words history floats ints now more i = count - i
+μ-loop first count tell curve file₀ words₀ history₀ floats₀ ints₀ now₀ more₀ i₀ file words history floats ints now more i = count - i
 
 loop-again : tie.Need-loop-again Inv-loop μ-loop
 loop-again c =

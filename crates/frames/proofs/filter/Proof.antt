@@ -13,7 +13,7 @@ use Rattle.frames.proofs.filter.Tie as tie
 
 -- the file was parsed
 abbrev begun : tie.After-parse → tie.Start
-begun c = c .before .before .before .before .before .before .before
+begun c = c .before .before .before .before .before .before .before .before
 
 -- a frame was taken
 module _ (c : tie.After-known-told) where
@@ -35,7 +35,7 @@ module _ (c : tie.After-known-told) where
 returns : tie.Need-returns
 returns c =
     let p = c .before .before .before in
-    no-frame _ _ _ _ (begun p .args .floats .now) (begun p .args .ints .now) _ _ _ (p .parse .ensures) (c .before .enum-told .given .1) (c .number .ensures)
+    no-frame _ _ _ _ (begun p .args .floats .now) (begun p .args .ints .now) (begun p .args .curve .now) _ _ _ (p .parse .ensures) (c .before .enum-told .given .1) (c .number .ensures)
 
 show-requires : tie.Need-show-requires
 show-requires c κs =
@@ -46,7 +46,7 @@ returns-2 : tie.Need-returns-2
 returns-2 c =
     let g = c .before .before .before .before .before .before .before .before .before .before in
     let t = g .before .before .before .before .before .before in
-    shown-in (start t .args .station) (start t .args .file .now) (start t .args .words .now) (start t .args .history .now) (start t .args .floats .now) (start t .args .ints .now)
+    shown-in (start t .args .station) (start t .args .file .now) (start t .args .words .now) (start t .args .history .now) (start t .args .floats .now) (start t .args .ints .now) (start t .args .curve .now)
     (width t) (height t) (from t) _ _ _ _ _ _ _ _ (t .before .before .before .parse .ensures) (t .before .r .given .1) (pixels (start t .args .words .now) _ (whole t)) (g .show .ensures)
 
 pub filter-spec : {M : Type 1} → statement M

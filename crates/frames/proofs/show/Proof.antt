@@ -10,7 +10,7 @@ use Rattle.frames.proofs.show.Tie as tie
 
 -- the places that the code leads by
 abbrev start : tie.After-stops → tie.Start
-start c = c .before .before .before .before .before .before
+start c = c .before .before .before .before .before .before .before
 
 module _ (c : tie.After-apply) where
   abbrev unpacking : tie.After-unpack
@@ -29,7 +29,7 @@ returns : tie.Need-returns
 returns c =
     let s = start (c .before) in
     let a = s .args in
-    unshown (a .width) (a .height) (a .station) (a .pixels .now) (a .words .now) (a .history .now) (a .floats .now) (a .ints .now)
+    unshown (a .width) (a .height) (a .station) (a .pixels .now) (a .words .now) (a .history .now) (a .floats .now) (a .ints .now) (a .curve .now)
     _ (c .before .stops .ensures) (s .pre .words-room) (c .if1 .taken)
 
 pack-requires : tie.Need-pack-requires
@@ -44,7 +44,7 @@ returns-2 c =
     let e = else l in
     let s = begun l in
     let a = s .args in
-    shows (a .width) (a .height) (a .station) (a .pixels .now) (a .words .now) (a .history .now) (a .floats .now) (a .ints .now)
+    shows (a .width) (a .height) (a .station) (a .pixels .now) (a .words .now) (a .history .now) (a .floats .now) (a .ints .now) (a .curve .now)
     _ (e .before .stops .ensures) (s .pre .words-room) _ (l .apply .result) _ _ _ _ _ _ (e .if1 .left)
     (unpacking l .unpack .ensures) (l .apply .ensures) (c .answered .ensures) (p .pack .ensures) (omega (arith, words-kept l, s .pre .pixels-room))
 

@@ -51,9 +51,10 @@ module _ (w h : ℕ) (s : Float) (frame : List ℕ) where
   unfolding Text.Lut.lut
   lut-paints preset = unit-paints plain _ frame
 
-  pub color-correction-paints : (contrast saturation : Float) → Paints frame (colorCorrection s contrast saturation frame)
+  pub color-correction-paints : (curve : List Float) (contrast saturation gamma : Float)
+      → Paints frame (colorCorrection curve s contrast saturation gamma frame)
   unfolding Text.ColorCorrection.colorCorrection
-  color-correction-paints contrast saturation = unit-paints plain _ frame
+  color-correction-paints curve contrast saturation gamma = unit-paints plain _ frame
 
   pub ntsc-paints : (bleed : ℕ) → Paints frame (ntsc w s bleed frame)
   unfolding Text.Ntsc.ntsc

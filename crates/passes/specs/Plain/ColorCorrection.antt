@@ -7,11 +7,23 @@ use Rattle.passes.specs.Arith.{plain}
 use Rattle.passes.specs.Painted.{Painted}
 use Rattle.passes.specs.declared.pixel.Rgb.{Rgb}
 
+abbrev pub power : List Float → ℕ → Float
+power = Text.ColorCorrection.power plain
+
+abbrev pub share : ℕ → Float
+share = Text.ColorCorrection.share plain
+
+abbrev pub start : List Float → Float → ℕ → Float
+start = Text.ColorCorrection.start plain
+
 abbrev pub level : Float → Float → Float → Float
 level = Text.ColorCorrection.level plain
 
-abbrev pub colour : Float → Float → Float → ℕ → Rgb
+abbrev pub saturate : Float → Rgb → Rgb
+saturate = Text.ColorCorrection.saturate plain
+
+abbrev pub colour : (ℕ → Float) → Float → Float → Float → ℕ → Rgb
 colour = Text.ColorCorrection.colour plain
 
-abbrev pub colorCorrection : Float → Float → Float → List ℕ → Painted
+abbrev pub colorCorrection : List Float → Float → Float → Float → Float → List ℕ → Painted
 colorCorrection = Text.ColorCorrection.colorCorrection plain

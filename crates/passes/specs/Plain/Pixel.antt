@@ -8,11 +8,17 @@ use Rattle.passes.specs.declared.pixel.Rgb.{Rgb}
 abbrev pub rgb : Float → Float → Float → Rgb
 rgb x y z = record { r = x; g = y; b = z }
 
+abbrev pub channels : (Float → Float) → Rgb → Rgb
+channels = Text.Pixel.channels plain
+
 abbrev pub scaled : Float → Rgb → Rgb
 scaled = Text.Pixel.scaled plain
 
 abbrev pub channel : ℕ → Rgb → Float
 channel = Text.Pixel.channel plain
+
+abbrev pub byNumber : (ℕ → Float) → ℕ → Rgb
+byNumber = Text.Pixel.byNumber plain
 
 abbrev pub unpack : ℕ → Rgb
 unpack = Text.Pixel.unpack plain

@@ -7,14 +7,14 @@ use Rattle.bridge.proofs.calls.hedgemallow_apply.Tie as tie
 returns : tie.Need-returns
 returns c =
     let a = c .before .before in
-    frame-none _ _ _ _ _ _ _ _ _ _ (unread _ _ (a .before .before .before .decode .ensures) _ (a .answer .given .1)) (c .refusal .ensures)
+    frame-none _ _ _ _ _ _ _ _ _ _ _ (unread _ _ (a .before .before .before .decode .ensures) _ (a .answer .given .1)) (c .refusal .ensures)
 
 returns-2 : tie.Need-returns-2
 returns-2 c =
     let m = c .before .before .before in
     let r = m .before .before .before .before .before .before .before .before .before .before .before in
     let t = r .before .before .before .before .before in
-    frame-some _ _ _ _ _ _ _ _ _ (r .apply .result) _ _ _ _ _ _ _ (read _ _ (t .before .before .before .decode .ensures) (t .enum-told .given .1)) (r .apply .ensures)
+    frame-some _ _ _ _ _ _ _ _ _ _ (r .apply .result) _ _ _ _ _ _ _ (read _ _ (t .before .before .before .decode .ensures) (t .enum-told .given .1)) (r .apply .ensures)
     (shows _ _ _ _ (r .apply .result) _ _ (m .told .given .1) (c .before .encode .ensures))
 
 returns-3 : tie.Need-returns-3
@@ -22,7 +22,7 @@ returns-3 c =
     let m = c .before .before in
     let r = m .before .before .before .before .before .before .before .before .before .before .before in
     let t = r .before .before .before .before .before in
-    frame-some _ _ _ _ _ _ _ _ _ (r .apply .result) _ _ _ _ _ _ _ (read _ _ (t .before .before .before .decode .ensures) (t .enum-told .given .1)) (r .apply .ensures)
+    frame-some _ _ _ _ _ _ _ _ _ _ (r .apply .result) _ _ _ _ _ _ _ (read _ _ (t .before .before .before .decode .ensures) (t .enum-told .given .1)) (r .apply .ensures)
     (shows-none _ _ _ _ (r .apply .result) _ _ (m .told2 .given .1) (c .refusal2 .ensures))
 
 pub hedgemallow-apply-spec : {M : Type 1} → statement M

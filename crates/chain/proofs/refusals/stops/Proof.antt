@@ -19,16 +19,16 @@ deep : (history count : ℕ) {k d : ℕ} {b : Bool} → k ≡ d → ltb history 
 deep history count {k} {d} {b} e t = subst (λ (n : ℕ). ltb history (n * count) ≡ b) e t
 
 -- what has gone by: a good station, then two fine sides
-good-by : (c : tie.Else1) → goodStation (c .before .before .args .station) ≡ true
+good-by : (c : tie.Else1) → goodStation (c .before .before .before .args .station) ≡ true
 good-by c = sym (c .before .is-good .ensures) ∙ not-false _ (c .if1 .left)
 
-wide-by : (c : tie.Else2) → badSide (c .before .before .before .before .args .width) ≡ false
+wide-by : (c : tie.Else2) → badSide (c .before .before .before .before .before .args .width) ≡ false
 wide-by c = sym (c .before .bad-side .ensures) ∙ c .if2 .left
 
-high-by : (c : tie.Else3) → badSide (c .before .before .before .before .before .before .args .height) ≡ false
+high-by : (c : tie.Else3) → badSide (c .before .before .before .before .before .before .before .args .height) ≡ false
 high-by c = sym (c .before .bad-side2 .ensures) ∙ c .if3 .left
 
-area-by : (c : tie.Else3) → let a = c .before .before .before .before .before .before .args in a .height * a .width ≤ 1048576
+area-by : (c : tie.Else3) → let a = c .before .before .before .before .before .before .before .args in a .height * a .width ≤ 1048576
 area-by c = area-fine (side-fine _ (wide-by (c .before .before)) .1) (side-fine _ (high-by c) .1)
 
 returns : tie.Need-returns
@@ -59,7 +59,7 @@ returns-5 : tie.Need-returns-5
 unfolding stops
 returns-5 c =
     let else = c .before .before .before .before in
-    let a = else .before .before .before .before .before .before .args in
+    let a = else .before .before .before .before .before .before .before .args in
     simp (
       good-by (else .before .before .before .before),
       wide-by (else .before .before),
@@ -72,7 +72,7 @@ returns-6 : tie.Need-returns-6
 unfolding stops
 returns-6 c =
     let else = c .before .before .before .before .before in
-    let a = else .before .before .before .before .before .before .args in
+    let a = else .before .before .before .before .before .before .before .args in
     simp (
       good-by (else .before .before .before .before),
       wide-by (else .before .before),
@@ -86,7 +86,7 @@ returns-7 : tie.Need-returns-7
 unfolding stops
 returns-7 c =
     let else = c .before .before .before .before .before .before in
-    let a = else .before .before .before .before .before .before .args in
+    let a = else .before .before .before .before .before .before .before .args in
     simp (
       good-by (else .before .before .before .before),
       wide-by (else .before .before),
@@ -100,20 +100,40 @@ returns-7 c =
 returns-8 : tie.Need-returns-8
 unfolding stops
 returns-8 c =
-    let else = c .before .before .before .before .before .before in
-    let a = else .before .before .before .before .before .before .args in
+    let else = c .before .before .before .before .before .before .before .before in
+    let a = else .before .before .before .before .before .before .before .args in
     simp (
       good-by (else .before .before .before .before),
       wide-by (else .before .before),
       high-by else,
-      le-ltb _ _ (c .before .before .before .before .before .if4 .left),
-      deep (a .history) (a .height * a .width) (c .before .before .before .depth .ensures .0) (le-ltb _ _ (c .before .before .if5 .left)),
-      le-ltb _ _ (c .before .if6 .left),
-      le-ltb _ _ (c .if7 .left),
+      le-ltb _ _ (c .before .before .before .before .before .before .before .if4 .left),
+      deep (a .history) (a .height * a .width) (c .before .before .before .before .before .depth .ensures .0) (le-ltb _ _ (c .before .before .before .before .if5 .left)),
+      le-ltb _ _ (c .before .before .before .if6 .left),
+      le-ltb _ _ (c .before .before .if7 .left),
+      sym (c .before .lacks-curve .ensures) ∙ c .if8 .taken,
     )
+
+returns-9 : tie.Need-returns-9
+unfolding stops
+returns-9 c =
+    let else = c .before .before .before .before .before .before .before .before in
+    let a = else .before .before .before .before .before .before .before .args in
+    simp (
+      good-by (else .before .before .before .before),
+      wide-by (else .before .before),
+      high-by else,
+      le-ltb _ _ (c .before .before .before .before .before .before .before .if4 .left),
+      deep (a .history) (a .height * a .width) (c .before .before .before .before .before .depth .ensures .0) (le-ltb _ _ (c .before .before .before .before .if5 .left)),
+      le-ltb _ _ (c .before .before .before .if6 .left),
+      le-ltb _ _ (c .before .before .if7 .left),
+      sym (c .before .lacks-curve .ensures) ∙ c .if8 .left,
+    )
+
+lacks-curve-requires : tie.Need-lacks-curve-requires
+lacks-curve-requires c κs = good _ (good-by (c .before .before .before .before .before .before .before .before .before .before)) .few
 
 pub stops-spec : {M : Type 1} → statement M
 stops-spec =
     tie.close
     (tie.spec (λ c κs. tt) returns (λ c κs. tt) returns-2 (λ c κs. tt) returns-3 (λ c. omega (arith, area-by c)) returns-4 depth-requires mul-if5 returns-5
-    (λ c. omega (arith, area-by (c .before .before .before .before))) returns-6 returns-7 returns-8)
+    (λ c. omega (arith, area-by (c .before .before .before .before))) returns-6 returns-7 lacks-curve-requires returns-8 returns-9)

@@ -10,13 +10,13 @@ returns : tie.Need-returns
 returns c =
     let run = c .before .before .before .before .before .before .before .before in
     let if1 = run .before .before .before .before .before in
-    let a = if1 .before .before .before .before .before .args in
-    turn-on (a .width) (a .height) (flow (painted (a .frame .now) 0) (a .held) (a .history .now)) (a .rec) (if1 .if1 .taken) (run .run-pass .ensures)
+    let a = if1 .before .before .before .before .before .before .args in
+    turn-on (a .width) (a .height) (a .curve .now) (flow (painted (a .frame .now) 0) (a .held) (a .history .now)) (a .rec) (if1 .if1 .taken) (run .run-pass .ensures)
 
 returns-2 : tie.Need-returns-2
 returns-2 c =
-    let a = c .before .before .before .before .before .args in
-    turn-off (a .width) (a .height) (flow (painted (a .frame .now) 0) (a .held) (a .history .now)) (a .rec) (c .if1 .left)
+    let a = c .before .before .before .before .before .before .args in
+    turn-off (a .width) (a .height) (a .curve .now) (flow (painted (a .frame .now) 0) (a .held) (a .history .now)) (a .rec) (c .if1 .left)
 
 pub run-record-spec : {M : Type 1} → statement M
 run-record-spec =

@@ -10,11 +10,11 @@ use Rattle.events.proofs.play.show.Tie as tie
 
 -- the places that the code leads by
 abbrev start : tie.After-stops → tie.Start
-start c = c .before .before .before .before .before .before .before
+start c = c .before .before .before .before .before .before .before .before
 
 module _ (c : tie.After-apply) where
   abbrev unpacking : tie.After-unpack
-  unpacking = c .before .before .before .before .before .before .before
+  unpacking = c .before .before .before .before .before .before .before .before
 
   abbrev else : tie.Else1
   else = unpacking .before .before
@@ -58,5 +58,6 @@ unpack-requires c κs =
 pub show-spec : {M : Type 1} → statement M
 show-spec =
     tie.close
-    (tie.spec (λ c κs. tt) (λ c κs. omega (arith, start (c .before .before) .pre .out-room)) (λ c. search needs) returns unpack-requires (λ c κs. tt)
+    (tie.spec (λ c. search needs) (λ c κs. tt) (λ c κs. omega (arith, start (c .before .before) .pre .out-room)) (λ c. search needs) returns unpack-requires
+    (λ c. search needs) (λ c κs. tt)
     picture-line-requires (λ c. search needs) (λ c. search needs) (λ c. search needs) (λ c. search needs) (λ c. search needs) returns-2)

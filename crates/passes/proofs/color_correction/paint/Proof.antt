@@ -1,28 +1,27 @@
 -- `passes::color_correction::paint` meets its contract. Assumes nothing.
-use Prim.Native.Nat.{_-_}
-use native.Mathlib.Omega.{arith}
-use lib.ListN.{length}
-use Rattle.num.specs.Laws.Rewrite.{Rewritten, none, more, all}
-use Rattle.passes.specs.Private.{markUnit}
-use Rattle.passes.specs.Plain.ColorCorrection.{colour}
+use mathlib.Core.Path.{sym, _∙_}
+use borrow.Author.Needs.{needs}
+use Rattle.passes.specs as Text
 use Rattle.passes.proofs.color_correction.paint.Statement.{statement}
 use Rattle.passes.proofs.color_correction.paint.Tie as tie
 
-abbrev Inv-loop : tie.InvT-loop
-Inv-loop fb₀ b k s i₀ fb i = Rewritten i (λ _ p. markUnit (colour b k s p)) fb₀ fb
+by-curve-requires : tie.Need-by-curve-requires
+by-curve-requires c κs = let t = c .before in t .before .before .before .before .pre (sym (t .before .is-curved .ensures) ∙ t .if1 .taken)
 
-abbrev μ-loop : tie.MeasureT-loop
-μ-loop fb₀ b k s i₀ fb i = length fb₀ - i
+returns : tie.Need-returns
+unfolding Text.ColorCorrection.start
+returns c =
+    let p = c .before .before in
+    let t = p .before .before in
+    rw (sym (t .before .is-curved .ensures) ∙ t .if1 .taken) (p .by-curve .ensures)
 
-loop-again : tie.Need-loop-again Inv-loop μ-loop
-loop-again c = more (c .before .before .before .loop .inv) 0 (c .before .before .loop-test .taken) (c .pixel .ensures)
+returns-2 : tie.Need-returns-2
+unfolding Text.ColorCorrection.start
+returns-2 c =
+    let p = c .before .before in
+    let t = p .before .before in
+    rw (sym (t .before .is-curved .ensures) ∙ t .if1 .left) (p .by-share .ensures)
 
-returns : tie.Need-returns Inv-loop μ-loop
-returns c = all (c .before .loop .inv) (c .loop-test .left)
-
--- an index is below the length, and its offset in bytes fits
 pub paint-spec : {M : Type 1} → statement M
 paint-spec =
-    tie.close
-    (tie.spec Inv-loop μ-loop (λ c. none _ _) (λ c. omega arith) (λ c. omega arith) (λ c κs. tt) (λ c. omega arith) (λ c. omega arith) (λ c. omega arith)
-    (λ c. omega arith) loop-again (λ c. omega arith) returns)
+    tie.close (tie.spec (λ c κs. search needs) by-curve-requires (λ c κs. search needs) (λ c. search needs) returns (λ c. search needs) returns-2)
