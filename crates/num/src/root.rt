@@ -1,8 +1,8 @@
 // The square root, correctly rounded: the binary32 nearest the true root. A value is taken apart into whole digits and a power
 // of two, the digits are scaled by their leading zeros, their whole root is found digit by digit, and the two are put together
-// again. The roots of many values are found side by side, each pass over them finding two digits of each: the next digit of
-// one value waits for the one before, the next value does not. There is no table, and no product, quotient or remainder of
-// two variables, which `oracle/products` searches for. Definition: specs/Root.antt; that it is the nearest value:
+// again. The roots of many values are found side by side, two digits of each in a pass over all: a digit waits for the one
+// before it, and the values do not wait for one another. There is no table, and no product, quotient or remainder of two
+// variables: `oracle/products` searches for them. Definition: specs/Root.antt; that it is the nearest value:
 // specs/NearestRoot.antt.
 ghost use mathlib.Core.Path.{_≡_};
 ghost use mathlib.Core.Bool.{false};
@@ -12,7 +12,8 @@ ghost use lib.Ieee.{binary32, ofBits};
 ghost use lib.Ieee.Exact.{HasValue};
 ghost use Rattle.num.specs.Rewrite.{every, fill};
 ghost use Rattle.num.specs.Root.{wholeRoot, nearestRoot, rootOf};
-ghost use Rattle.num.specs.Private.{operand, Makes, Answers, Readied, HasDigits, Further, AllReadied, AllDigits, MoreDigits, Wholes, WholeRoots, AllAnswer};
+ghost use Rattle.num.specs.Private.{operand, Makes, Answers, Readied, HasDigits, Further};
+ghost use Rattle.num.specs.Private.{AllReadied, AllDigits, MoreDigits, Wholes, WholeRoots, AllAnswer};
 
 // A positive finite value: m * 2^(e - 150).
 struct Parts {
@@ -101,8 +102,8 @@ fn clear(line: &mut [u32])
     }
 }
 
-// Twice what is found of a root, from its first digit down to some place, and what its square leaves of the operand, in units of
-// half that place.
+// Twice what is found of a root, its digits from the first down to some place, and what their square leaves of the operand, in
+// units of half that place.
 struct Found {
     rest: u32,
     twice: u32,
@@ -148,7 +149,8 @@ fn digits(rest: &mut [u32], twice: &mut [u32], place: u32)
     }
 }
 
-// Twice the whole root of each m * 2^25, for the m in `rest`: 26 digits, from place 2^25 down, two at a time.
+// Twice the whole root of m * 2^25, for each m in `rest`: 26 digits, from place 2^25 down, two in a pass. (The first is 0: the
+// passes are whole.)
 fn whole_roots(rest: &mut [u32], twice: &mut [u32])
     requires { ⌜ Wholes (now rest) (now twice) ⌝ }
     ensures { λ _. ⌜ WholeRoots (now (rest .entry)) (now (twice .exit)) ⌝ }

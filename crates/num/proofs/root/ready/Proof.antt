@@ -42,11 +42,14 @@ returns c =
     let k : e - 1 + 149 ≡ e + 148 = omega arith in
     let units : m * 2 ^ (e - 1) * 2 ^ 149 ≡ m * 2 ^ (e + 148) = mul-assoc m (2 ^ (e - 1)) (2 ^ 149) ∙ ap (λ (y : ℕ). m * y) (sym (pow-add 2 (e - 1) 149)) ∙ ap (λ (y : ℕ). m * 2 ^ y) k in (
       s .0,
-      (s .1 .0, λ above below.
-      let same : az .above-zero .result ≡ x = az .above-zero .ensures ∙ operand-is x above in
-      let own : ofBits binary32 (fi .finite .result) ≡ x =
-      ap (ofBits binary32) (fi .finite .ensures .2 (subst (λ (y : Float). toBits binary32 y < 0x7f80_0000) (sym same) below) ∙ ap (toBits binary32) same) ∙ ofBits-toBits binary32 x (held (az .before)) in
-      s .1 .1 ∙ ap nearestRoot (sym units) ∙ sym (root-of-units (ofBits binary32 (fi .finite .result)) (m * 2 ^ (e - 1)) (v .4)) ∙ ap rootOf own),
+      (
+        s .1 .0,
+        λ above below.
+            let same : az .above-zero .result ≡ x = az .above-zero .ensures ∙ operand-is x above in
+            let own : ofBits binary32 (fi .finite .result) ≡ x =
+            ap (ofBits binary32) (fi .finite .ensures .2 (subst (λ (y : Float). toBits binary32 y < 0x7f80_0000) (sym same) below) ∙ ap (toBits binary32) same) ∙ ofBits-toBits binary32 x (held (az .before)) in
+            s .1 .1 ∙ ap nearestRoot (sym units) ∙ sym (root-of-units (ofBits binary32 (fi .finite .result)) (m * 2 ^ (e - 1)) (v .4)) ∙ ap rootOf own,
+      ),
     )
 
 pub ready-spec : {M : Type 1} → statement M

@@ -35,7 +35,7 @@ starts ms twice w = record {
   first = refl;
   second = length-rewrite (length twice) (λ i x. 0) twice ∙ w .0;
   digits = λ k l.
-  subst (λ (t : ℕ). Digits (getD ms k 0 * 2 ^ 25) (getD ms k 0) t (2 ^ 26)) (sym (getD-fill (λ i. 0) twice k 0 (omega (arith, w .0)))) (none (getD ms k 0) (w .1 k l));
+      subst (λ (t : ℕ). Digits (getD ms k 0 * 2 ^ 25) (getD ms k 0) t (2 ^ 26)) (sym (getD-fill (λ i. 0) twice k 0 (omega (arith, w .0)))) (none (getD ms k 0) (w .1 k l));
 }
 
 quarter : (l : ℕ) → 0 < l → 4 ^ l ≡ 4 * 4 ^ (l - 1)
@@ -61,7 +61,7 @@ module _ {ms rest twice : List ℕ} {place : ℕ} (left : ℕ) (some : 0 < left)
     first = m .0 ∙ f .first;
     second = m .1 ∙ f .second;
     digits = λ k l.
-    m .2 k (omega (arith, f .first)) (getD ms k 0 * 2 ^ 25) (subst (Digits (getD ms k 0 * 2 ^ 25) (getD rest k 0) (getD twice k 0)) four (f .digits k l));
+        m .2 k (omega (arith, f .first)) (getD ms k 0 * 2 ^ 25) (subst (Digits (getD ms k 0 * 2 ^ 25) (getD rest k 0) (getD twice k 0)) four (f .digits k l));
   }
 
 ends : (ms rest twice : List ℕ) (place left : ℕ) → left ≤ 0 → place ≡ 4 ^ left → Found ms place rest twice → WholeRoots ms twice
