@@ -1,8 +1,8 @@
 -- One digit more of a root, set or not; and the last one. With p for the place, r for the rest and t for twice what is found, 2 * r * p and the
 -- square of t are four times the operand. A digit that is set adds 2 * p to t, and so 4 * t * p + 4 * p * p to its square; as much is taken
 -- from 4 * r * p. Assumes nothing.
-use mathlib.Core.Path.{_≡_, refl, sym, ap, _∙_, subst, subst₂}
-use Prim.Native.Nat.{ℕ, _+_, _-_, _*_, _/_, _%_, _^_, _≤_, _<_}
+use mathlib.Core.Path.{_≡_, refl, ap, _∙_, subst, subst₂}
+use Prim.Native.Nat.{ℕ, _+_, _-_, _*_, _/_, _≤_, _<_}
 use native.Mathlib.Nat.{mul-add, add-mul, mul-comm, mul-one, one-mul, add-assoc, add-comm, add-left-comm, add-sub-of-le}
 use native.Mathlib.Omega.{arith}
 use Rattle.num.specs.Root.{wholeRoot}

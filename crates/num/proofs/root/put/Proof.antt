@@ -2,14 +2,14 @@
 use mathlib.Core.Path.{_≡_, sym, ap, _∙_, subst}
 use mathlib.Core.Logic.{⊎-elim}
 use mathlib.Core.Bool.{not}
-use Prim.Native.Nat.{ℕ, _≤_, _<_}
+use Prim.Native.Nat.{_≤_, _<_}
 use borrow.Author.Needs.{needs}
 use borrow.Author.Tests.{ltb-true, ltb-false}
 use lib.Dec.{T}
 use lib.Ieee.{Float, binary32, toBits, fits, isNan}
 use lib.Ieee.Bits.{ofBits-toBits}
 use Rattle.num.specs.Root.{rootOf}
-use Rattle.num.specs.Private.{operand, pattern}
+use Rattle.num.specs.Private.{operand}
 use Rattle.num.proofs.Patterns.{no-nan}
 use Rattle.num.proofs.RootOperand.{operand-is, operand-above, root-beyond, root-not-above, number-above}
 use Rattle.num.proofs.root.put.Statement.{statement}

@@ -1,5 +1,5 @@
 -- `num::root::root` meets its contract: the root of a line of one value. Assumes nothing.
-use mathlib.Core.Path.{ap, _∙_, refl}
+use mathlib.Core.Path.{ap}
 use mathlib.Core.List.{List}
 use borrow.Author.Needs.{needs}
 use lib.ListN.{getD}

@@ -1,10 +1,9 @@
 -- `num::root::scale` meets its contract, by `ScaledRoot.antt`. Assumes nothing.
-use mathlib.Core.Path.{_≡_, sym, ap, _∙_, subst}
+use mathlib.Core.Path.{_≡_, sym, subst}
 use Prim.Native.Nat.{ℕ, _+_, _*_, _/_, _%_, _^_, _≤_, _<_}
 use native.Mathlib.Omega.{arith}
 use borrow.Author.Needs.{needs}
 use lib.Count.{leadingZeros}
-use lib.Ieee.{binary32, ofBits}
 use Rattle.num.specs.Root.{wholeRoot, nearestRoot}
 use Rattle.num.specs.Private.{Makes}
 use Rattle.num.proofs.ScaledRoot.{power, shift, zeros-lo, zeros-hi, shift-lt, scaled-hi, scaled-is, whole-hi, bits-are}

@@ -2,7 +2,7 @@
 use mathlib.Core.Path.{_≡_, sym, ap, _∙_, subst₂}
 use mathlib.Core.Logic.{⊎-elim}
 use mathlib.Core.Bool.{Bool, true, false}
-use Prim.Native.Nat.{ℕ, _+_, _-_, _*_, _^_, _≤_, _<_}
+use Prim.Native.Nat.{ℕ, _+_, _-_, _^_, _≤_, _<_}
 use native.Mathlib.Omega.{arith}
 use borrow.Author.Needs.{needs}
 use lib.Dec.{leb}
@@ -16,8 +16,6 @@ use Rattle.num.specs.Private.{Digits}
 use Rattle.num.proofs.FoundDigits.{skip, take}
 use Rattle.num.proofs.root.turn.Statement.{statement}
 use Rattle.num.proofs.root.turn.Tie as tie
-use Rattle.num.proofs.root.turn.Reads as reads
-use Rattle.num.proofs.root.turn.Lts as lts
 
 -- the comparison as `i32` is that of the numbers
 signed-le : (a b : ℕ) → a < 2 ^ 31 → b < 2 ^ 31 → leZ (toZ w32 a) (toZ w32 b) ≡ leb a b
