@@ -184,16 +184,17 @@ impl Single {
     }
 
     /// Compares all steps on `xs` in pieces of each length from 0 to 67, since a loop over a slice
-    /// may treat its last few values in another way than those before them. In turn there is as
-    /// much room as values, or three places more, or three values more: a step goes as far as the
-    /// shorter.
+    /// may treat its last few values in another way than those before them, and of lengths about
+    /// 132 and 264, since the root takes 132 values at a time. In turn there is as much room as
+    /// values, or three places more, or three values more: a step goes as far as the shorter.
     fn pieces(&mut self, xs: &[f32]) {
+        let lengths = (0..=67).chain(131..=133).chain(263..=265);
         let mut rest = xs;
-        for turn in 0.. {
+        for (turn, length) in lengths.cycle().enumerate() {
             if rest.is_empty() {
                 break;
             }
-            let len = rest.len().min(turn % 68);
+            let len = rest.len().min(length);
             match turn % 3 {
                 0 => self.block(&rest[..len], len),
                 1 => self.block(&rest[..len], len + 3),

@@ -4,6 +4,8 @@ mod NearWhole
 mod WholePart
 mod Clamped
 mod WholeRoot
+mod FoundDigits
+mod PairedLines
 mod RoundedRoot
 mod ScaledRoot
 mod RootOperand
