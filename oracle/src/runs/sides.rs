@@ -149,7 +149,7 @@ impl Sides {
         let answer = answered(given, answer)?;
         same_words("framebuffer", &here, &asked)?;
         // Only the first words of the scratch are free, and only after an accepted frame.
-        scratch.unchanged_past(answer.map_or((0, 0), |_| size))?;
+        scratch.unchanged_past(answer.map_or((0, 0), |_| *size))?;
         if answer.is_ok() {
             tally.frame(size.0 * size.1);
         }
