@@ -54,7 +54,7 @@
  * subnormal numbers are flushed, a card's subnormal setting opens as 0, which normalises to another
  * card, and a state with such a setting may be refused by 13.
  *
- * Stack. hedgemallow_apply was measured at 45,208 bytes (2026-11-16), whatever the card and the size of the
+ * Stack. hedgemallow_apply was measured at 45,320 bytes (2026-11-16), whatever the card and the size of the
  * frame. A thread that is made with a small stack should have 64 KiB left for it.
  *
  * No function keeps a pointer, allocates, or has state of its own, so calls on different buffers
