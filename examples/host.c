@@ -14,7 +14,7 @@ static const uint16_t middle[] = {16, 12, 32, 24};
 static const char *const names[] = {"", "NTSC", "bloom", "gradient", "persistence", "LUT", "curvature", "colour", "CRT", "vignette",
                                     "scanlines"};
 static uint32_t frame[COUNT], history[DEPTH * COUNT], ints[COUNT];
-static float floats[6 * COUNT];
+static float floats[HEDGEMALLOW_FLOATS(WIDTH, HEIGHT)];
 /* The card has no colour, so no word of a curve is read: its length is 0. */
 static const float curve[1];
 
@@ -58,7 +58,7 @@ int main(void) {
         if (number == 3) preset = hedgemallow_cycle_lut(state);
         if (number == 4) hedgemallow_set_enabled(state, HEDGEMALLOW_SCANLINES, 0);
         answer = hedgemallow_apply(state, frame, COUNT, WIDTH, HEIGHT, history, hedgemallow_depth(state) * (size_t)COUNT,
-                                   floats, 6 * COUNT, ints, COUNT, curve, 0, clipped);
+                                   floats, HEDGEMALLOW_FLOATS(WIDTH, HEIGHT), ints, COUNT, curve, 0, clipped);
         if (answer >= HEDGEMALLOW_REFUSED) {
             printf("the frame is refused: %u\n", (unsigned)(answer - HEDGEMALLOW_REFUSED));
             return 1;

@@ -25,7 +25,7 @@
  *                  under scanlines, for one)
  *     history      hedgemallow_depth(state) * count words: the same ones at each frame, at first with
  *                  anything in them
- *     floats       6 * count words of scratch, whatever they hold
+ *     floats       3 * count + 3 * width words of scratch, whatever they hold (HEDGEMALLOW_FLOATS)
  *     ints         count words of scratch, whatever they hold
  *     curve        HEDGEMALLOW_CURVE words, each in 0..1, where the card has colour with a gamma other
  *                  than 1, on or off; with every other card no word of it is read, and its length may
@@ -54,7 +54,7 @@
  * subnormal numbers are flushed, a card's subnormal setting opens as 0, which normalises to another
  * card, and a state with such a setting may be refused by 13.
  *
- * Stack. hedgemallow_apply was measured at 45,208 bytes (2026-11-16), whatever the card and the size of the
+ * Stack. hedgemallow_apply was measured at 45,320 bytes (2026-11-16), whatever the card and the size of the
  * frame. A thread that is made with a small stack should have 64 KiB left for it.
  *
  * No function keeps a pointer, allocates, or has state of its own, so calls on different buffers
@@ -85,6 +85,9 @@ extern "C" {
 /* The words of a curve: one for each number that a channel may be. */
 #define HEDGEMALLOW_CURVE 256
 
+/* The words of `floats` that a frame takes. */
+#define HEDGEMALLOW_FLOATS(width, height) (3 * (size_t)(width) * (size_t)(height) + 3 * (size_t)(width))
+
 /* The answer of a refusal is this and the refusal's number. */
 #define HEDGEMALLOW_REFUSED 256
 
@@ -100,7 +103,7 @@ enum hedgemallow_refusal {
     HEDGEMALLOW_BAD_SIZE = 264,          /* 8, bad size: width or height 0 or above 1024 */
     HEDGEMALLOW_SHORT_FRAME = 265,       /* 9, short frame: framebuffer below count */
     HEDGEMALLOW_SHORT_HISTORY = 266,     /* 10, short history: history below depth * count, persistence on or off */
-    HEDGEMALLOW_SHORT_SCRATCH = 267,     /* 11, short scratch: floats below 6 * count, or ints below count */
+    HEDGEMALLOW_SHORT_SCRATCH = 267,     /* 11, short scratch: floats below 3 * count + 3 * width, or ints below count */
     HEDGEMALLOW_NOT_IN_CHAIN = 268,      /* 12, not in chain: the pass of the call is not in the chain */
     HEDGEMALLOW_BAD_STATION = 269,       /* 13, bad station: the bytes are no state */
     HEDGEMALLOW_SHORT_CARD_BUFFER = 270, /* 14, short card buffer: fewer bytes than the card */

@@ -56,7 +56,7 @@ struct frame {
 };
 
 static uint32_t apply(const struct frame *f, const float *curve, size_t length) {
-    return hedgemallow_apply(state, f->picture, f->words, f->width, f->height, history, f->places, f->floats, 6 * f->words, f->ints, f->words, curve, length,
+    return hedgemallow_apply(state, f->picture, f->words, f->width, f->height, history, f->places, f->floats, 3 * (f->words + f->width), f->ints, f->words, curve, length,
                              f->clipped);
 }
 
@@ -102,7 +102,7 @@ static int frame(void) {
         history = room(places * sizeof *history);
         count = words;
     }
-    struct frame f = {width, height, words, places, room(words * 4), room(words * 4), room(4), room(6 * words * 4)};
+    struct frame f = {width, height, words, places, room(words * 4), room(words * 4), room(4), room(3 * (words + width) * 4)};
     for (size_t i = 0; i < words; i++)
         f.picture[i] = (uint32_t)pixels[3 * i] << 16 | (uint32_t)pixels[3 * i + 1] << 8 | pixels[3 * i + 2];
     tell(&f);

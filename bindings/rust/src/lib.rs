@@ -3,7 +3,7 @@
 //!
 //! The types see to pointers, lengths and threads. Two things are left to the caller, as the header
 //! says: the thread's control word for floats (MXCSR) rounds to nearest, keeps subnormal numbers and
-//! masks all exceptions, as Rust itself takes for granted; and a frame takes 45,208 bytes of stack
+//! masks all exceptions, as Rust itself takes for granted; and a frame takes 45,320 bytes of stack
 //! (measured on 2026-11-16).
 //!
 //! ```
@@ -449,7 +449,7 @@ pub struct Scratch {
 /// The words of scratch for a frame of that size, whatever the card.
 pub fn scratch_words(width: usize, height: usize) -> Result<Scratch, Refusal> {
     let ints = count(width, height)?;
-    Ok(Scratch { floats: 6 * ints, ints })
+    Ok(Scratch { floats: 3 * ints + 3 * width, ints })
 }
 
 /// A curve as it is handed out, in the 1,024 bytes of the file that `filter --curve` takes: word after word, the least significant
@@ -552,6 +552,7 @@ mod tests {
         assert_eq!(history_words(&CARD, 1024, 1024), Ok(3 << 20));
         assert_eq!(history_words(&CARD[..16], 1024, 1024), Err(TornCard));
         assert_eq!(scratch_words(1024, 1), Ok(Scratch { floats: 6144, ints: 1024 }));
+        assert_eq!(scratch_words(256, 240), Ok(Scratch { floats: 185_088, ints: 61_440 }));
         for (width, height) in [(0, 1), (1, 0), (1025, 1), (1, 1025), (usize::MAX, usize::MAX)] {
             assert_eq!(station.history_words(width, height), Err(BadSize));
             assert_eq!(history_words(&CARD, width, height), Err(BadSize));

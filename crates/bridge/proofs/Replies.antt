@@ -10,7 +10,7 @@ use lib.ListN.{length, drop}
 use Rattle.cards.specs.Answers.{reported, Reply, reply, refusal, reportedWriting, opened, written, told}
 use Rattle.cards.specs.Laws.Answers.{accepted-not}
 use Rattle.chain.specs.Answers.{reportedFrame, reportedStep, cycled, free, Applies}
-use Rattle.chain.specs.Calls.{framed, frameReply}
+use Rattle.chain.specs.Calls.{floatRoom, framed, frameReply}
 use Rattle.cards.specs.Card.{accepted, openOf}
 use Rattle.cards.specs.Write.{writeReply, writeInto}
 use Rattle.chain.specs.declared.pipeline.Applied.{Applied}
@@ -157,6 +157,6 @@ module _ (w h : ℕ) (b words past : List ℕ) (floats : List Float) (ints : Lis
         replies =
             rw (t .sound)
             (e ∙ ap (framedShown b old) (a .replies ∙ ap (λ (q : Station). frameReply w h q words past (length floats) (length ints) curve) (t .station)));
-        floats-stay = subst (λ (j : ℕ). drop j floats′ ≡ drop j floats) (sym (same (6 * (h * w)))) (a .floats-stay);
+        floats-stay = subst (λ (j : ℕ). drop j floats′ ≡ drop j floats) (sym (same (floatRoom w h))) (a .floats-stay);
         ints-stay = subst (λ (j : ℕ). drop j ints′ ≡ drop j ints) (sym (same (h * w))) (a .ints-stay);
       }

@@ -10,7 +10,7 @@ use lib.Ieee.{Float}
 use lib.ListN.{length, drop}
 use Rattle.cards.specs.Alike.{chainOf}
 use Rattle.cards.specs.Answers.{Report, refusal, acceptance, Reply, told, left}
-use Rattle.chain.specs.Calls.{Framed, frameReply, enabledReport, presetReport}
+use Rattle.chain.specs.Calls.{floatRoom, Framed, frameReply, enabledReport, presetReport}
 use Rattle.cards.specs.Card.{openOf}
 use Rattle.chain.specs.Chain.{depth}
 use Rattle.cards.specs.Write.{writeReply, writeInto}
@@ -100,5 +100,5 @@ freed number k = cond (eqb number 0) k 0
 pub record Frames (w h : ℕ) (b words past : List ℕ) (floats : List Float) (ints : List ℕ) (curve : List Float) (clipped : List ℕ) (number : ℕ)
     (b′ words′ past′ : List ℕ) (floats′ : List Float) (ints′ clipped′ : List ℕ) : Type 0 where
   pub replies : shown number b′ words′ past′ clipped′ ≡ frameShown w h b words past (length floats) (length ints) curve clipped
-  pub floats-stay : drop (freed number (6 * (h * w))) floats′ ≡ drop (freed number (6 * (h * w))) floats
+  pub floats-stay : drop (freed number (floatRoom w h)) floats′ ≡ drop (freed number (floatRoom w h)) floats
   pub ints-stay : drop (freed number (h * w)) ints′ ≡ drop (freed number (h * w)) ints

@@ -17,7 +17,7 @@ use Rattle.passes.specs.Flow.{Flow, flow}
 use Rattle.passes.specs.Painted.{painted}
 use Rattle.cards.specs.Alike.{chainOf}
 use Rattle.cards.specs.Answers.{refusal, acceptance}
-use Rattle.chain.specs.Calls.{hold, stops, framed, refusingFrame, shown, shownBy}
+use Rattle.chain.specs.Calls.{floatRoom, hold, stops, framed, refusingFrame, shown, shownBy}
 use Rattle.chain.specs.Calls.{frameReply, frameReplyBy}
 use Rattle.chain.specs.Chain.{chain, depth, readsCurve}
 use Rattle.cards.specs.Normal.{goodStation}
@@ -29,7 +29,7 @@ pub record Goes (s : Station) (w h words history floats ints : ℕ) (curve : Lis
   pub high : (0 < h) × (h ≤ 1024)
   pub frame-room : h * w ≤ words
   pub past-room : depth (chainOf s) * (h * w) ≤ history
-  pub floats-room : 6 * (h * w) ≤ floats
+  pub floats-room : floatRoom w h ≤ floats
   pub ints-room : h * w ≤ ints
   pub curve-good : readsCurve (chainOf s) ≡ true → goodCurve curve ≡ true
 
@@ -41,17 +41,17 @@ goes s w h words history floats ints curve e =
     let b = by (badSide w || badSide h) 8 _ (omega arith) (a .1) in
     let c = by (ltb words (h * w)) 9 _ (omega arith) (b .1) in
     let d = by (ltb history (depth (chainOf s) * (h * w))) 10 _ (omega arith) (c .1) in
-    let f = by (ltb floats (6 * (h * w)) || ltb ints (h * w)) 11 _ (omega arith) (d .1) in
+    let f = by (ltb floats (floatRoom w h) || ltb ints (h * w)) 11 _ (omega arith) (d .1) in
     let k = by (readsCurve (chainOf s) && not (goodCurve curve)) 16 0 (omega arith) (f .1) in
     let sides = neither (badSide w) (badSide h) (b .0) in
-    let scratch = neither (ltb floats (6 * (h * w))) (ltb ints (h * w)) (f .0) in
+    let scratch = neither (ltb floats (floatRoom w h)) (ltb ints (h * w)) (f .0) in
     record {
       good = not-false _ (a .0);
       wide = side-fine w (sides .0);
       high = side-fine h (sides .1);
       frame-room = ltb-false words (h * w) (c .0);
       past-room = ltb-false history (depth (chainOf s) * (h * w)) (d .0);
-      floats-room = ltb-false floats (6 * (h * w)) (scratch .0);
+      floats-room = ltb-false floats (floatRoom w h) (scratch .0);
       ints-room = ltb-false ints (h * w) (scratch .1);
       curve-good = λ r. not-false _ (sym (ap (λ (b : Bool). b && not (goodCurve curve)) r) ∙ k .0);
     }

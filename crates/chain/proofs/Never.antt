@@ -13,7 +13,7 @@ use Rattle.chain.specs.Agree.{opened}
 use Rattle.cards.specs.Alike.{chainOf}
 use Rattle.cards.specs.Answers.{Report, refusal}
 use Rattle.cards.specs.Laws.Answers.{accepted-not}
-use Rattle.chain.specs.Calls.{stops, lacks}
+use Rattle.chain.specs.Calls.{floatRoom, stops, lacks}
 use Rattle.chain.specs.Calls.{shownBy, frameReplyBy}
 use Rattle.cards.specs.Card.{accepted, openOf}
 use Rattle.chain.specs.Chain.{depth, readsCurve}
@@ -39,7 +39,7 @@ stops-not s w h u v m i curve e =
     (cond-not (badSide w || badSide h) 8 _ (omega arith)
     (cond-not (ltb u (h * w)) 9 _ (omega arith)
     (cond-not (ltb v (depth (chainOf s) * (h * w))) 10 _ (omega arith)
-    (cond-not (ltb m (6 * (h * w)) || ltb i (h * w)) 11 _ (omega arith)
+    (cond-not (ltb m (floatRoom w h) || ltb i (h * w)) 11 _ (omega arith)
     (cond-not (readsCurve (chainOf s) && not (goodCurve curve)) 16 0 (omega arith) (omega arith))))))
 
 refusal-not : (k : ℕ) → (k ≡ 13 → ⊥) → Path Report (refusal k) (refusal 13) → ⊥

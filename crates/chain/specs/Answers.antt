@@ -5,7 +5,7 @@ use mathlib.Core.List.{List, [], _∷_}
 use lib.ListN.{length, drop}
 use lib.Ieee.{Float}
 use Rattle.cards.specs.Answers.{Report, refusal, acceptance, Reply, reply, reported}
-use Rattle.chain.specs.Calls.{framed, frameReply}
+use Rattle.chain.specs.Calls.{floatRoom, framed, frameReply}
 use Rattle.chain.specs.declared.pipeline.Applied.{Applied}
 use Rattle.chain.specs.declared.pipeline.Asked.{Asked}
 use Rattle.chain.specs.declared.pipeline.Asked.the-variants as Asked
@@ -49,7 +49,7 @@ pub record Applies (w h : ℕ) (s : Station) (words past : List ℕ) (floats : L
     (r : Applied) (words′ past′ : List ℕ) (floats′ : List Float) (ints′ : List ℕ) : Type 0 where
   -- the answer, the station, and every word of the framebuffer and of the history
   pub replies : framed (reportedFrame (r .answer)) (r .station) words′ past′ ≡ frameReply w h s words past (length floats) (length ints) curve
-  -- the f32 words past 6 * count stay, and all of them where the frame is refused
-  pub floats-stay : drop (free (r .answer) (6 * (h * w))) floats′ ≡ drop (free (r .answer) (6 * (h * w))) floats
+  -- the f32 words past those that it asks for stay, and all of them where the frame is refused
+  pub floats-stay : drop (free (r .answer) (floatRoom w h)) floats′ ≡ drop (free (r .answer) (floatRoom w h)) floats
   -- the u32 words past count stay, and all of them where the frame is refused
   pub ints-stay : drop (free (r .answer) (h * w)) ints′ ≡ drop (free (r .answer) (h * w)) ints

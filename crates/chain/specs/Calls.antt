@@ -34,6 +34,10 @@ rechain rs s = record { records = rs ++ drop (s .n) (s .records); n = s .n; held
 
 -- ## Refusals: a number of document 01's table, 0 for none
 
+-- the f32 words of scratch that a frame asks for: three for each of its words, and three for each of a row's
+abbrev pub floatRoom : (w h : ℕ) → ℕ
+floatRoom w h = 3 * (h * w) + 3 * w
+
 -- of a frame, by the curve and the lengths of all else that is lent
 unfoldable pub stops : Station → (w h words history floats ints : ℕ) → (curve : List Float) → ℕ
 stops s w h words history floats ints curve =
@@ -41,7 +45,7 @@ stops s w h words history floats ints curve =
     (cond (badSide w || badSide h) 8
     (cond (ltb words (h * w)) 9
     (cond (ltb history (depth (chainOf s) * (h * w))) 10
-    (cond (ltb floats (6 * (h * w)) || ltb ints (h * w)) 11
+    (cond (ltb floats (floatRoom w h) || ltb ints (h * w)) 11
     (cond (readsCurve (chainOf s) && not (goodCurve curve)) 16 0)))))
 
 -- of a call on the pass of that kind

@@ -1,6 +1,6 @@
 -- The cases of the refusals of the calls, of what a frame reports, of frames with a curve, and of turned frames. Each list pairs what a definition gives with
 -- what it should give, and one proof by computation holds the whole list. Assumes nothing.
-use Prim.Native.Nat.{ℕ}
+use Prim.Native.Nat.{ℕ, _+_, _*_}
 use mathlib.Core.Bool.{Bool, true, false}
 use mathlib.Core.List.{List, [], _∷_, map}
 use mathlib.Core.Path.{refl}
@@ -20,7 +20,7 @@ use Rattle.passes.specs.Plain.Persistence as Persistence
 use Rattle.cards.specs.Answers.{Report, refusal, acceptance}
 use Rattle.cards.specs.Card.{stationOf}
 use Rattle.cards.specs.Normal.{settled, normalPass, normalChain, persists, goodStation}
-use Rattle.chain.specs.Calls.{hold, stops, lacks, shownBy, frameReply, frameReplyBy}
+use Rattle.chain.specs.Calls.{floatRoom, hold, stops, lacks, shownBy, frameReply, frameReplyBy}
 use Rattle.chain.specs.Agree.{opened}
 use Rattle.chain.specs.Chain.{wash, overBy, turnBy, depth, readsCurve}
 use Rattle.chain.specs.Machine.{Call, frame, State, call, after, run, saw}
@@ -54,9 +54,9 @@ stopped =
     ∷ (stops (kept true) 3 2 5 0 0 0 [], 9)
     ∷ (stops (kept true) 3 2 6 47 0 0 [], 10)
     ∷ (stops (kept false) 3 2 6 47 0 0 [], 10)
-    ∷ (stops (kept true) 3 2 6 48 35 6 [], 11)
-    ∷ (stops (kept true) 3 2 6 48 36 5 [], 11)
-    ∷ (stops (kept true) 3 2 6 48 36 6 [], 0)
+    ∷ (stops (kept true) 3 2 6 48 26 6 [], 11)
+    ∷ (stops (kept true) 3 2 6 48 27 5 [], 11)
+    ∷ (stops (kept true) 3 2 6 48 27 6 [], 0)
     ∷ (lacks (hold (sized 1 1) (kept false)) 4, 13)
     ∷ (lacks (kept false) 5, 12)
     ∷ (lacks (kept false) 11, 12)
@@ -66,6 +66,14 @@ stopped =
 pub stopped-hold : Hold stopped
 unfolding stops lacks badSide goodStation fineHeld sameHeld normalChain normalPass settled persists depth readsCurve ofBits lt
 stopped-hold = refl
+
+-- How many f32 words of scratch a frame asks for (request P6): six for a frame of one word; at height 1 six for each word; at 256 by 240 half of
+-- that and a row's; at most 3,148,800.
+abbrev pub rooms : List (ℕ × ℕ)
+rooms = (floatRoom 1 1, 6) ∷ (floatRoom 1024 1, 6 * 1024) ∷ (floatRoom 1 1024, 3 * 1024 + 3) ∷ (floatRoom 256 240, 185088) ∷ (floatRoom 1024 1024, 3148800) ∷ []
+
+pub rooms-hold : Hold rooms
+rooms-hold = refl
 
 -- What a frame of two words and one row reports: the channels that the passes that are on clipped (request P5).
 -- LUT, high contrast, clips the three channels of black and those of white; colour, brightness 1, then clips those of white and none of

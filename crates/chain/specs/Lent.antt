@@ -6,19 +6,19 @@ use mathlib.Core.List.{List}
 use lib.ListN.{length, getD}
 use lib.Ieee.{Float}
 use Rattle.passes.specs.Rows.{Frame}
-use Rattle.chain.specs.Calls.{ofFirst}
+use Rattle.chain.specs.Calls.{floatRoom, ofFirst}
 use Rattle.chain.specs.Chain.{depthOf, reads}
 use Rattle.cards.specs.Normal.{normalPass}
 use Rattle.cards.specs.Passes.{kindOf}
 use Rattle.cards.specs.declared.station.Pass.{Pass}
 use Rattle.cards.specs.declared.station.Record.{Record}
 
--- a frame, six f32 words and one u32 word of scratch for each of its words
+-- a frame, and scratch for it: one u32 word for each of its words
 pub record Lent (w h : ℕ) (frame : List ℕ) (floats : List Float) (ints : List ℕ) : Type 0 where
   pub shape : Frame w h frame
   pub some-wide : 0 < w
   pub some-high : 0 < h
-  pub floats-room : length floats ≡ 6 * (h * w)
+  pub floats-room : length floats ≡ floatRoom w h
   pub ints-room : length ints ≡ h * w
 
 -- a normalised pass, and words enough for it: `room` of the history, `lent` of the curve

@@ -68,8 +68,8 @@ pub fn places(station: Station) -> usize
     depth(records, few(station.n))
 }
 
-// A frame: the passes that are on, in the card's order, over the first count words of the framebuffer. The first 6 * count words of `floats` and the first
-// count words of `ints` are scratch. The curve is read where colour has a gamma other than 1.0.
+// A frame: the passes that are on, in the card's order, over the first count words of the framebuffer. The first
+// 3 * count + 3 * width words of `floats` and the first count words of `ints` are scratch. The curve is read where colour has a gamma other than 1.0.
 pub fn apply(
     station: Station,
     framebuffer: &mut [u32],
@@ -100,7 +100,7 @@ pub fn apply(
         };
     }
     let count = height * width;
-    let room = 6 * count;
+    let room = 3 * count + 3 * width;
     let n = station.n;
     let records = station.records;
     let before = station.held;

@@ -113,7 +113,7 @@ pub fn stops(
     if history < depth(records, n) * count {
         return 10;
     }
-    if floats < 6 * count {
+    if floats < 3 * count + 3 * width {
         return 11;
     }
     if ints < count {

@@ -10,7 +10,7 @@ use Rattle.num.specs.Laws.Refusals.{refuses, accepts}
 use Rattle.cards.specs.Answers.{ok, Reply, reported, opened}
 use Rattle.chain.specs.Answers.{reportedFrame, reportedStep, Applies}
 use Rattle.chain.specs.Laws.Answers.{stay}
-use Rattle.chain.specs.Calls.{Framed, framed, stops, frameReply}
+use Rattle.chain.specs.Calls.{Framed, framed, floatRoom, stops, frameReply}
 use Rattle.chain.specs.declared.pipeline.Applied.{Applied}
 use Rattle.chain.specs.declared.pipeline.Cycle.{Cycle}
 use Rattle.chain.specs.declared.pipeline.Cycle.the-variants as Cycle
@@ -76,7 +76,7 @@ module _ (w h : ℕ) (s : Station) (pixels words past : List ℕ) (floats : List
       → Gives (showPlayed w h s pixels words past) (played s n true) words past floats floats ints ints out out′
   unshown n out′ some p =
       subst (λ (o : Outcome). Gives o (played s n true) words past floats floats ints ints out out′)
-      (refuses k (λ j. outcome s words past (refusalLine j) true) (shown (h * w) (frameReplied w h s pixels past)) number some)
+      (refuses k (λ j. outcome s words past (refusalLine j) true) (shown w h (frameReplied w h s pixels past)) number some)
       (record {
         words = refl;
         past = refl;
@@ -93,13 +93,13 @@ module _ (w h : ℕ) (s : Station) (pixels words past : List ℕ) (floats : List
   shows n given r words′ past′ floats′ ints′ out′ none e a p =
       let same : frameReply w h s given past (length floats) (length ints) [] ≡ frameReplied w h s pixels past = rw (e, all, few, few′) in
       subst (λ (o : Outcome). Gives o (played (r .station) n true) words′ past′ floats floats′ ints ints′ out out′)
-      (accepts k (λ j. outcome s words past (refusalLine j) true) (shown (h * w) (frameReplied w h s pixels past)) number none)
-      (subst (λ (q : Framed). Gives (shown (h * w) q) (played (r .station) n true) words′ past′ floats floats′ ints ints′ out out′)
+      (accepts k (λ j. outcome s words past (refusalLine j) true) (shown w h (frameReplied w h s pixels past)) number none)
+      (subst (λ (q : Framed). Gives (shown w h q) (played (r .station) n true) words′ past′ floats floats′ ints ints′ out out′)
       (a .replies ∙ same)
       (record {
         words = refl;
         past = refl;
-        floats-stay = stay (r .answer) (6 * (h * w)) floats floats′ (a .floats-stay);
+        floats-stay = stay (r .answer) (floatRoom w h) floats floats′ (a .floats-stay);
         ints-stay = stay (r .answer) (h * w) ints ints′ (a .ints-stay);
         says = record { station = refl; goes-on = refl; prints = p };
       }))
@@ -114,7 +114,7 @@ in-front bytes s words past w h pixels r words′ past′ floats floats′ ints 
     rw (← ew, ← eh, ← ep) (go (stops s w h (h * w) (length past) 6144 1024 []) g)
   where
     done : Outcome
-    done = shown (h * w) (frameReplied w h s pixels past)
+    done = shown w h (frameReplied w h s pixels past)
 
     go : (n : ℕ) → Gives (unless n (λ k. outcome s (take (h * w) words) past (refusalLine k) true) done) r words′ past′ floats floats′ ints ints′ out out′
         → Gives (unless n (λ k. outcome s words past (refusalLine k) true) (among (h * w) words done))

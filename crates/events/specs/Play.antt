@@ -6,7 +6,7 @@ use lib.Dec.{eqb}
 use lib.ListN.{length, drop}
 use Rattle.num.specs.Refusals.{unless}
 use Rattle.cards.specs.Answers.{Report, refusal, acceptance, Reply}
-use Rattle.chain.specs.Calls.{Framed, stops, resetReply, switchReply, stepReply, frameReply}
+use Rattle.chain.specs.Calls.{Framed, floatRoom, stops, resetReply, switchReply, stepReply, frameReply}
 use Rattle.cards.specs.declared.station.Station.{Station}
 use Rattle.raster.specs.Pixels.{unpacked}
 use Rattle.events.specs.Events.{letterIn, widthIn, heightIn, countIn, kindIn, positionIn, eventFault}
@@ -35,32 +35,34 @@ openText (acceptance ns) = []
 
 -- ## Events
 
--- the station after an event, the words of the framebuffer and of the history, what is printed, whether the next event is read, and of how
--- many pixels the scratch may have changed
+-- the station after an event, the words of the framebuffer and of the history, what is printed, whether the next event is read, and how
+-- many f32 and u32 words of scratch may have changed
 pub record Outcome : Type 0 where
   pub station : Station
   pub words : List ℕ
   pub past : List ℕ
   pub text : List ℕ
   pub more : Bool
-  pub free : ℕ
+  pub freeFloats : ℕ
+  pub freeInts : ℕ
 
 -- of all but an accepted frame: no scratch is changed
 abbrev pub outcome : Station → (words past text : List ℕ) → Bool → Outcome
-outcome s words past text more = record { station = s; words = words; past = past; text = text; more = more; free = 0 }
+outcome s words past text more = record { station = s; words = words; past = past; text = text; more = more; freeFloats = 0; freeInts = 0 }
 
 abbrev pub answered : ℕ → Reply → (words past : List ℕ) → Outcome
 answered letter r words past = outcome (r .station) words past (spoken letter (r .answer)) true
 
--- an accepted frame of count words, which are all that is lent of the framebuffer
-abbrev pub shown : ℕ → Framed → Outcome
-shown count r = record {
+-- an accepted frame, whose words are all that is lent of the framebuffer
+abbrev pub shown : (w h : ℕ) → Framed → Outcome
+shown w h r = record {
   station = r .station;
   words = r .words;
   past = r .past;
   text = pictured (r .answer) (r .words);
   more = true;
-  free = count;
+  freeFloats = floatRoom w h;
+  freeInts = h * w;
 }
 
 -- 6,144 f32 words and 1,024 u32 words are lent to each frame, the whole history, and an empty curve
@@ -73,7 +75,7 @@ asked w h s words past taken =
     unless (stops s w h (h * w) (length past) 6144 1024 []) (λ k. outcome s words past (refusalLine k) true) taken
 
 abbrev pub showPlayed : (w h : ℕ) → Station → (pixels words past : List ℕ) → Outcome
-showPlayed w h s pixels words past = asked w h s words past (shown (h * w) (frameReplied w h s pixels past))
+showPlayed w h s pixels words past = asked w h s words past (shown w h (frameReplied w h s pixels past))
 
 -- the other words of the framebuffer stay
 abbrev pub among : ℕ → List ℕ → Outcome → Outcome
@@ -83,13 +85,14 @@ among count words o = record {
   past = o .past;
   text = o .text;
   more = o .more;
-  free = o .free;
+  freeFloats = o .freeFloats;
+  freeInts = o .freeInts;
 }
 
 abbrev pub framePlayed : List ℕ → Station → (words past : List ℕ) → Outcome
 framePlayed bytes s words past =
     asked (widthIn bytes) (heightIn bytes) s words past
-    (among (countIn bytes) words (shown (countIn bytes) (frameReplied (widthIn bytes) (heightIn bytes) s (drop 3 bytes) past)))
+    (among (countIn bytes) words (shown (widthIn bytes) (heightIn bytes) (frameReplied (widthIn bytes) (heightIn bytes) s (drop 3 bytes) past)))
 
 -- an event without fault, by its letter
 unfoldable pub called : List ℕ → Station → (words past : List ℕ) → Outcome

@@ -31,10 +31,10 @@ pub record Lent (words : List ℕ) (floats : List Float) (ints out : List ℕ) :
   pub ints-room : length ints ≡ 1024
   pub out-room : length out ≡ 7170
 
--- the framebuffer and the history too, and the scratch words that stay: past the free ones, six f32 words and one u32 word for each pixel
+-- the framebuffer and the history too, and the scratch words that stay: past the free ones
 pub record Gives (o : Outcome) (r : Played) (words′ past′ : List ℕ) (floats floats′ : List Float) (ints ints′ out out′ : List ℕ) : Type 0 where
   pub words : words′ ≡ o .words
   pub past : past′ ≡ o .past
-  pub floats-stay : drop (6 * o .free) floats′ ≡ drop (6 * o .free) floats
-  pub ints-stay : drop (o .free) ints′ ≡ drop (o .free) ints
+  pub floats-stay : drop (o .freeFloats) floats′ ≡ drop (o .freeFloats) floats
+  pub ints-stay : drop (o .freeInts) ints′ ≡ drop (o .freeInts) ints
   pub says : Says (o .station) (o .text) (o .more) r out out′

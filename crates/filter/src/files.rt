@@ -67,7 +67,7 @@ pub fn show(
     file: &mut [u8],
     words: &mut [u32; 61440],
     history: &mut [u32; 491520],
-    floats: &mut [f32; 368640],
+    floats: &mut [f32; 187392],
     ints: &mut [u32; 61440],
     curve: &[f32],
 ) -> Turn {
@@ -89,7 +89,7 @@ pub fn play(
     file: &mut [u8],
     words: &mut [u32; 61440],
     history: &mut [u32; 491520],
-    floats: &mut [f32; 368640],
+    floats: &mut [f32; 187392],
     ints: &mut [u32; 61440],
     curve: &[f32],
 ) -> Turn {

@@ -9,10 +9,10 @@ pub fn history() -> [u32; 491520]
     [0; 491520]
 }
 
-pub fn floats() -> [f32; 368640]
-    ensures { λ r. ⌜ 368640 ≡ length r ⌝ }
+pub fn floats() -> [f32; 187392]
+    ensures { λ r. ⌜ 187392 ≡ length r ⌝ }
 {
-    [0.0; 368640]
+    [0.0; 187392]
 }
 
 pub fn ints() -> [u32; 61440]

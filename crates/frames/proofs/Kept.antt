@@ -40,7 +40,7 @@ unshown-keeps s file words past floats ints curve = go (parseOf (length words) f
   where
     asks : (w h start n : ℕ) → stops s w h (h * w) (length past) floats ints curve ≡ n →
         let r : Result = unless n (λ k. result (Refused k) s file words past)
-        (among start (h * w) file words (shown (h * w) (replied w h s (drop start file) past floats ints curve))) in
+        (among start (h * w) file words (shown w h (replied w h s (drop start file) past floats ints curve))) in
         ((clipped : ℕ) → r .outcome ≡ Shown clipped → ⊥) → r ≡ result (r .outcome) s file words past
     asks w h start zero e unshown = absurd (unshown _ (ap (λ (r : Framed). outcomeOf (r .answer)) (sym (is-shown w h s (drop start file) past floats ints curve e))))
     asks w h start (suc n) e unshown = refl

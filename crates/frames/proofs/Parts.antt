@@ -18,7 +18,7 @@ use Rattle.raster.specs.declared.ppm.Parsed.{Parsed}
 use Rattle.raster.specs.declared.ppm.Parsed.the-variants as Parsed
 use Rattle.chain.specs.Answers.{reportedFrame, Applies}
 use Rattle.chain.specs.Laws.Answers.{stay}
-use Rattle.chain.specs.Calls.{Framed, stops, frameReply}
+use Rattle.chain.specs.Calls.{Framed, floatRoom, stops, frameReply}
 use Rattle.chain.specs.declared.pipeline.Applied.{Applied}
 use Rattle.cards.specs.declared.station.Station.{Station}
 use Rattle.frames.specs.Frames.{Result, result, shown, among, replied, showsOf, byParsed, filteredOf, numberOf, outcomeOf, faultOf, Filters}
@@ -37,7 +37,7 @@ module _ (w h : ℕ) (s : Station) (pixels words past : List ℕ) (floats : List
   refused n = result (Refused n) s pixels words past
 
   abbrev taken : Result
-  taken = shown (h * w) (replied w h s pixels past (length floats) (length ints) curve)
+  taken = shown w h (replied w h s pixels past (length floats) (length ints) curve)
 
   number : k ≡ stops s w h (h * w) (length past) (length floats) (length ints) curve
   number = rw (← all) asks
@@ -67,14 +67,14 @@ module _ (w h : ℕ) (s : Station) (pixels words past : List ℕ) (floats : List
       packed ∙ ap (λ (xs : List ℕ). packedBytes words′ ++ xs) (drop-of-length-le pixels {i = 3 * length words′} fits) ∙ append-nil (packedBytes words′) in
       let same : frameReply w h s given past (length floats) (length ints) curve ≡ replied w h s pixels past (length floats) (length ints) curve = rw (e, all) in
       subst (λ (x : Result). Filters x (filtered o (r .station)) pixels′ words′ past′ floats floats′ ints ints′) (accepts k refused taken number none)
-      (subst (λ (q : Framed). Filters (shown (h * w) q) (filtered o (r .station)) pixels′ words′ past′ floats floats′ ints ints′) (a .replies ∙ same)
+      (subst (λ (q : Framed). Filters (shown w h q) (filtered o (r .station)) pixels′ words′ past′ floats floats′ ints ints′) (a .replies ∙ same)
       (record {
         outcome = told;
         station = refl;
         file = whole;
         words = refl;
         past = refl;
-        floats-stay = stay (r .answer) (6 * (h * w)) floats floats′ (a .floats-stay);
+        floats-stay = stay (r .answer) (floatRoom w h) floats floats′ (a .floats-stay);
         ints-stay = stay (r .answer) (h * w) ints ints′ (a .ints-stay);
       }))
 
@@ -126,7 +126,7 @@ module _ (s : Station) (file words past : List ℕ) (floats : List Float) (ints 
         (go (stops s w h (h * w) (length past) (length floats) (length ints) curve) (rw part at g))
       where
         taken : Result
-        taken = shown (h * w) (replied w h s (drop start file) past (length floats) (length ints) curve)
+        taken = shown w h (replied w h s (drop start file) past (length floats) (length ints) curve)
 
         go : (n : ℕ)
             → Filters (unless n (λ k. result (Refused k) s (drop start file) (take (h * w) words) past) taken) r pixels′ words′ past′ floats floats′ ints ints′

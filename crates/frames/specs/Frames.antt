@@ -12,7 +12,7 @@ use Rattle.raster.specs.Ppm.{headerCut, pixelsCut, leftOver, parseOf}
 use Rattle.raster.specs.declared.ppm.Parsed.{Parsed}
 use Rattle.raster.specs.declared.ppm.Parsed.the-variants as Parsed
 use Rattle.cards.specs.Answers.{Report, refusal, acceptance}
-use Rattle.chain.specs.Calls.{Framed, stops, frameReply}
+use Rattle.chain.specs.Calls.{Framed, floatRoom, stops, frameReply}
 use Rattle.cards.specs.declared.station.Station.{Station}
 use Rattle.frames.specs.declared.Outcome.{Outcome}
 use Rattle.frames.specs.declared.Outcome.the-variants.{Shown, NoFrame, Refused}
@@ -36,28 +36,30 @@ unread = 10
 abbrev pub faultOf : Bool → ℕ → ℕ
 faultOf more k = cond more (cond (eqb k 0) leftOver (cond (eqb k headerCut || eqb k pixelsCut) unread k)) k
 
--- what becomes of a file, of the station, of framebuffer and history, and of how many pixels the scratch may have changed
+-- what becomes of a file, of the station, of framebuffer and history, and how many f32 and u32 words of scratch may have changed
 pub record Result : Type 0 where
   pub outcome : Outcome
   pub station : Station
   pub file : List ℕ
   pub words : List ℕ
   pub past : List ℕ
-  pub free : ℕ
+  pub freeFloats : ℕ
+  pub freeInts : ℕ
 
 -- nothing is changed
 abbrev pub result : Outcome → Station → (file words past : List ℕ) → Result
-result o s file words past = record { outcome = o; station = s; file = file; words = words; past = past; free = 0 }
+result o s file words past = record { outcome = o; station = s; file = file; words = words; past = past; freeFloats = 0; freeInts = 0 }
 
--- an accepted frame of count words, which are all that is lent of the framebuffer; of the file all that is lent is its pixels
-abbrev pub shown : ℕ → Framed → Result
-shown count r = record {
+-- an accepted frame, whose words are all that is lent of the framebuffer; of the file all that is lent is its pixels
+abbrev pub shown : (w h : ℕ) → Framed → Result
+shown w h r = record {
   outcome = outcomeOf (r .answer);
   station = r .station;
   file = packedBytes (r .words);
   words = r .words;
   past = r .past;
-  free = count;
+  freeFloats = floatRoom w h;
+  freeInts = h * w;
 }
 
 -- its pixels stand in the file from `start` on; the framebuffer's words past the frame's stay
@@ -68,7 +70,8 @@ among start count file words x = record {
   file = take start file ++ x .file;
   words = x .words ++ drop count words;
   past = x .past;
-  free = x .free;
+  freeFloats = x .freeFloats;
+  freeInts = x .freeInts;
 }
 
 -- `floats` and `ints` are the lengths of the scratches
@@ -82,13 +85,13 @@ module _ (w h : ℕ) (s : Station) where
   replied pixels past floats ints curve = frameReply w h s (unpacked (h * w) pixels) past floats ints curve
 
   abbrev pub showsOf : (pixels words past : List ℕ) → (floats ints : ℕ) → List Float → Result
-  showsOf pixels words past floats ints curve = asked pixels words past floats ints curve (shown (h * w) (replied pixels past floats ints curve))
+  showsOf pixels words past floats ints curve = asked pixels words past floats ints curve (shown w h (replied pixels past floats ints curve))
 
 abbrev pub byParsed : Parsed → Station → (file words past : List ℕ) → (floats ints : ℕ) → List Float → Result
 byParsed (Parsed.Refused k) s file words past floats ints curve = result (NoFrame k) s file words past
 byParsed (Parsed.Frame w h start) s file words past floats ints curve =
     asked w h s file words past floats ints curve
-    (among start (h * w) file words (shown (h * w) (replied w h s (drop start file) past floats ints curve)))
+    (among start (h * w) file words (shown w h (replied w h s (drop start file) past floats ints curve)))
 
 -- a frame may have as many pixels as the framebuffer has words
 unfoldable pub filteredOf : Station → (file words past : List ℕ) → (floats ints : ℕ) → List Float → Result
@@ -96,15 +99,15 @@ filteredOf s file words past floats ints curve = byParsed (parseOf (length words
 
 -- ## What the functions promise
 
--- the scratch words that stay are those past the free ones, six f32 words and one u32 word for each pixel
+-- the scratch words that stay are those past the free ones
 pub record Filters (x : Result) (r : Filtered) (file′ words′ past′ : List ℕ) (floats floats′ : List Float) (ints ints′ : List ℕ) : Type 0 where
   pub outcome : r .outcome ≡ x .outcome
   pub station : r .station ≡ x .station
   pub file : file′ ≡ x .file
   pub words : words′ ≡ x .words
   pub past : past′ ≡ x .past
-  pub floats-stay : drop (6 * x .free) floats′ ≡ drop (6 * x .free) floats
-  pub ints-stay : drop (x .free) ints′ ≡ drop (x .free) ints
+  pub floats-stay : drop (x .freeFloats) floats′ ≡ drop (x .freeFloats) floats
+  pub ints-stay : drop (x .freeInts) ints′ ≡ drop (x .freeInts) ints
 
 -- a frame whose words, and the bytes of whose pixels, are all that is lent
 pub record Room (count : ℕ) (words pixels : List ℕ) : Type 0 where

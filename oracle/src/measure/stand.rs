@@ -6,6 +6,7 @@ use crate::passes::curves;
 use crate::passes::effects::{built, effect};
 use crate::passes::frames::{Kind, Picture};
 use crate::passes::original::pipeline::PostProcessPipeline;
+use crate::runs::station::float_room;
 
 use super::cases::Case;
 
@@ -60,7 +61,7 @@ impl Stand {
             pipeline: built(&case.records, effect),
             state,
             history: vec![0; depth * count],
-            floats: vec![0.0; 6 * count],
+            floats: vec![0.0; float_room(size.0, size.1)],
             ints: vec![0; count],
             curve: curved(&case.records).map_or(Vec::new(), curves::power),
         }

@@ -3,7 +3,7 @@
 use std::fmt;
 
 use super::noise::Noise;
-use super::station::{Lengths, Station};
+use super::station::{float_room, Lengths, Station};
 use crate::cards::paper::Size;
 use crate::passes::chain::PERSISTENCE;
 use crate::passes::curves::Curve;
@@ -150,13 +150,19 @@ pub fn of_size(station: &Station, size: Size, room: usize, random: &mut Random) 
     Call::Frame(Frame {
         size,
         picture: Picture::random(random),
-        lent: enough(station, size.0 * size.1, room, random),
+        lent: enough(station, size, room, random),
         curve: taken(station, random),
     })
 }
 
 /// By turns not a word more than is needed, and some more.
-fn enough(station: &Station, count: usize, room: usize, random: &mut Random) -> Lengths {
+fn enough(
+    station: &Station,
+    (width, height): (usize, usize),
+    room: usize,
+    random: &mut Random,
+) -> Lengths {
+    let count = width * height;
     let exact = random.one_in(3);
     let mut more = |needed: usize| {
         if exact {
@@ -166,7 +172,7 @@ fn enough(station: &Station, count: usize, room: usize, random: &mut Random) -> 
     };
     let framebuffer = more(count);
     let history = more(station.depth().unwrap_or_default() * count);
-    let floats = more(6 * count);
+    let floats = more(float_room(width, height));
     let ints = more(count);
     let all = !exact && random.one_in(2);
     Lengths {
@@ -190,7 +196,8 @@ fn taken(station: &Station, random: &mut Random) -> Curve {
 fn faulty(station: &Station, sizes: &mut Sizes, room: usize, random: &mut Random) -> Call {
     let mut size = sizes.last;
     let count = size.0 * size.1;
-    let mut lent = enough(station, count, room, random);
+    let mut lent = enough(station, size, room, random);
+    let floats = float_room(size.0, size.1);
     // One fault in most cases; else any, to see which is told first.
     let one = random.below(6);
     let several = random.one_in(4);
@@ -213,7 +220,7 @@ fn faulty(station: &Station, sizes: &mut Sizes, room: usize, random: &mut Random
         lent.history = short(station.depth().unwrap_or_default() * count, random).min(room);
     }
     if faults[3] {
-        lent.floats = short(6 * count, random);
+        lent.floats = short(floats, random);
     }
     if faults[4] {
         lent.ints = short(count, random);

@@ -6,7 +6,7 @@ use super::cases::Case;
 use super::noise::Noise;
 use super::run::open_both;
 use super::sides::{Held, Sides};
-use super::station::{Lengths, Station};
+use super::station::{float_room, Lengths, Station};
 use crate::bridge::State;
 use crate::fuzz;
 use crate::met::Met;
@@ -160,7 +160,8 @@ fn frame(tape: &mut Tape, sides: &Sides) -> Frame {
     let size = tape.size;
     let count = size.0.saturating_mul(size.1).min(FRAME);
     let depth = sides.machine.station().and_then(Station::depth);
-    let needed = [count, depth.unwrap_or_default() * count, 6 * count, count];
+    let floats = float_room(size.0.min(FRAME), 0) + 3 * count;
+    let needed = [count, depth.unwrap_or_default() * count, floats, count];
     let exact = tape.byte() % 2 == 0;
     let [framebuffer, history, floats, ints] =
         needed.map(|needed| if exact { needed } else { tape.near(needed) });

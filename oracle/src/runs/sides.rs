@@ -4,7 +4,7 @@ use super::calls::{Call, Frame};
 use super::cases::{Bad, Case, Short};
 use super::machine::Machine;
 use super::noise::Noise;
-use super::station::{Lengths, Station};
+use super::station::{float_room, Lengths, Station};
 use crate::bridge::{self, Answer, Lent, State};
 use crate::cards::paper::Size;
 use crate::met::Met;
@@ -149,10 +149,9 @@ impl Sides {
         let answer = answered(given, answer)?;
         same_words("framebuffer", &here, &asked)?;
         // Only the first words of the scratch are free, and only after an accepted frame.
-        let free = answer.map_or(0, |_| size.0 * size.1);
-        scratch.unchanged_past(free)?;
+        scratch.unchanged_past(answer.map_or((0, 0), |_| *size))?;
         if answer.is_ok() {
-            tally.frame(free);
+            tally.frame(size.0 * size.1);
         }
         Ok(answer)
     }
@@ -325,7 +324,7 @@ fn needed(station: &Station, (width, height): (usize, usize)) -> Lengths {
     Lengths {
         framebuffer: count,
         history: station.depth().unwrap_or_default() * count,
-        floats: 6 * count,
+        floats: float_room(width, height),
         ints: count,
     }
 }
@@ -382,11 +381,12 @@ impl Scratch {
         }
     }
 
-    /// That no word past those that a frame of `count` words may use was written.
-    fn unchanged_past(&self, count: usize) -> Held {
-        let floats = self.floats[6 * count..].iter().map(|x| x.to_bits());
+    /// That no word past those that a frame of that size may use was written.
+    fn unchanged_past(&self, (width, height): (usize, usize)) -> Held {
+        let (free, count) = (float_room(width, height), width * height);
+        let floats = self.floats[free..].iter().map(|x| x.to_bits());
         let ints = self.ints[count..].iter().copied();
-        if let Some(place) = self.noise[0].changed(6 * count, floats) {
+        if let Some(place) = self.noise[0].changed(free, floats) {
             return Err(format!("f32 word {place} of the scratch written"));
         }
         if let Some(place) = self.noise[1].changed(count, ints) {

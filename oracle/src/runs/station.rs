@@ -18,6 +18,11 @@ pub struct Station {
     pub held: Size,
 }
 
+/// The f32 words of scratch that a frame takes.
+pub fn float_room(width: usize, height: usize) -> usize {
+    3 * width * height + 3 * width
+}
+
 /// The words that are lent to a frame beside the curve.
 #[derive(Clone, Copy, PartialEq, Debug)]
 pub struct Lengths {
@@ -122,7 +127,7 @@ impl Station {
             .is_some_and(|depth| lent.history < depth * count)
         {
             Err(10)
-        } else if lent.floats < 6 * count || lent.ints < count {
+        } else if lent.floats < float_room(width, height) || lent.ints < count {
             Err(11)
         } else if self.curved().is_some() && !curves::is_good(curve) {
             Err(16)

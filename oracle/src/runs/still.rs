@@ -10,6 +10,8 @@ use crate::random::Random;
 use crate::steps::Mode;
 use crate::tally::RunTally;
 
+use super::station::float_room;
+
 /// What a picture shows beside its frame.
 #[derive(Clone, Copy, PartialEq, Debug)]
 pub enum Shown {
@@ -89,7 +91,7 @@ fn stands(
     let mut stand = Stand {
         state: [0; 80],
         history: vec![0x55aa_33cc; DEEPEST * COUNT],
-        floats: vec![f32::NAN; 6 * COUNT],
+        floats: vec![f32::NAN; float_room(SIDE, SIDE)],
         ints: vec![u32::MAX; COUNT],
     };
     accepted(bridge::open(&card(amount, depth), &mut stand.state), tally)?;

@@ -36,6 +36,12 @@ mul-count c = omega (arith, area-fine (none c .wide .1) (none c .high .1))
 mul-room : tie.Need-mul-room
 mul-room c = omega (arith, area-fine (none c .wide .1) (none c .high .1))
 
+mul-room-2 : tie.Need-mul-room-2
+mul-room-2 c = omega (arith, none c .wide .1)
+
+add-room : tie.Need-add-room
+add-room c = omega (arith, area-fine (none c .wide .1) (none c .high .1), none c .wide .1)
+
 run-chain-requires : tie.Need-run-chain-requires
 run-chain-requires c κs =
     let else = c .before .before .before .before .before .before in
@@ -69,7 +75,7 @@ returns-2 c =
 pub apply-spec : {M : Type 1} → statement M
 apply-spec =
     tie.close
-    (tie.spec (λ c κs. tt) returns mul-count mul-room
+    (tie.spec (λ c κs. tt) returns mul-count mul-room mul-room-2 add-room
     (λ c. none (c .before .before) .frame-room) (λ c. sym (length-take-le _ _ (none (c .before .before .before) .frame-room)))
     (λ c. none (c .before .before .before .before) .floats-room) (λ c. sym (length-take-le _ _ (none (c .before .before .before .before .before) .floats-room)))
     (λ c. none (c .before .before .before .before .before) .ints-room) (λ c. sym (length-take-le _ _ (none (c .before .before .before .before .before .before) .ints-room)))

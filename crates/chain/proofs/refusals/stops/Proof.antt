@@ -31,6 +31,9 @@ high-by c = sym (c .before .bad-side2 .ensures) ∙ c .if3 .left
 area-by : (c : tie.Else3) → let a = c .before .before .before .before .before .before .before .args in a .height * a .width ≤ 1048576
 area-by c = area-fine (side-fine _ (wide-by (c .before .before)) .1) (side-fine _ (high-by c) .1)
 
+width-by : (c : tie.Else3) → c .before .before .before .before .before .before .before .args .width ≤ 1024
+width-by c = side-fine _ (wide-by (c .before .before)) .1
+
 returns : tie.Need-returns
 unfolding stops
 returns c = simp (sym (c .before .is-good .ensures) ∙ not-true _ (c .if1 .taken))
@@ -136,4 +139,5 @@ pub stops-spec : {M : Type 1} → statement M
 stops-spec =
     tie.close
     (tie.spec (λ c κs. tt) returns (λ c κs. tt) returns-2 (λ c κs. tt) returns-3 (λ c. omega (arith, area-by c)) returns-4 depth-requires mul-if5 returns-5
-    (λ c. omega (arith, area-by (c .before .before .before .before))) returns-6 returns-7 lacks-curve-requires returns-8 returns-9)
+    (λ c. omega (arith, area-by (c .before .before .before .before))) (λ c. omega (arith, width-by (c .before .before .before .before)))
+    (λ c. omega (arith, area-by (c .before .before .before .before), width-by (c .before .before .before .before))) returns-6 returns-7 lacks-curve-requires returns-8 returns-9)
