@@ -33,6 +33,6 @@ curveIn file = fill (wordAt file) empty
 unfoldable pub curveFault : List ℕ → ℕ
 curveFault file = cond (not (eqb (length file) 1024)) 1 (cond (not (goodCurve (curveIn file))) 2 0)
 
--- with the words as far as they were read: none of a file of another length
+-- with the words of the file; zeros where it has another length
 unfoldable pub loadedOf : List ℕ → Loaded
 loadedOf file = record { fault = curveFault file; words = cond (eqb (length file) 1024) (curveIn file) empty }
