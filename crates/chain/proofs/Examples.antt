@@ -147,7 +147,7 @@ unfolding point before saw run after call frameReplyBy unless shownBy stops lack
     Text.Persistence.decay Text.Persistence.total Text.Persistence.add Text.Persistence.mix converted sum
     Text.Pixel.clip Text.Pixel.clips Text.Persistence.blend Persistence.copies Persistence.refilled Persistence.shifted
 agree =
-    machines-agree card other station station opens opens-other refl (90 ∷ 91 ∷ 92 ∷ []) (5 ∷ 6 ∷ []) own [] (record { same-switches = refl; same-presets = refl })
+    machines-agree card other station station opens opens-other refl (90 ∷ 91 ∷ 92 ∷ []) (5 ∷ 6 ∷ []) own [] (record { same-switches = refl; same-presets = refl; same-pending = refl })
     (shared 7) (shared 8) (more (same 0) (more (same 0x404040) (more (same 0x808080) (more (same 0xffffff) none))))
     (omega arith, (omega arith, (omega arith, (omega arith, tt))))
     (omega arith, (omega arith, (omega arith, (omega arith, tt))))
