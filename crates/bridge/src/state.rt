@@ -120,7 +120,12 @@ pub(crate) fn decode(state: [u8; 80]) -> Opened
     let n = inside.n;
     let held = held_in(state);
     let pending = pending_of(state[77], state[78]);
-    let station = Station { records, n, held, pending };
+    let station = Station {
+        records,
+        n,
+        held,
+        pending,
+    };
     let damaged = Opened {
         answer: Answer::Refused(13),
         station,

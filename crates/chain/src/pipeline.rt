@@ -203,7 +203,12 @@ pub fn set_enabled(station: Station, kind: u8, on: bool) -> Called
     let pass = r.pass;
     records[at] = Record { on, pass };
     let pending = station.pending;
-    let after = Station { records, n, held, pending };
+    let after = Station {
+        records,
+        n,
+        held,
+        pending,
+    };
     Called {
         answer: Answer::Accepted,
         station: after,
@@ -217,7 +222,12 @@ pub(crate) fn pend(station: Station, pending: Pending) -> Station
     let n = station.n;
     let records = station.records;
     let held = station.held;
-    Station { records, n, held, pending }
+    Station {
+        records,
+        n,
+        held,
+        pending,
+    }
 }
 
 // Asks for a switch of the pass of that kind: it is recorded, and made by `commit`.
@@ -325,7 +335,12 @@ pub fn cycle_lut(station: Station) -> Cycled
     let pass = step_pass(old);
     records[at] = Record { on, pass };
     let pending = station.pending;
-    let after = Station { records, n, held, pending };
+    let after = Station {
+        records,
+        n,
+        held,
+        pending,
+    };
     Cycled {
         answer: Cycle::Preset(preset_of(pass)),
         station: after,
