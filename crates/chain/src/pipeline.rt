@@ -1,5 +1,5 @@
-// The calls on a station: a frame, a reset, a switch, at once or asked for and committed, a preset step, and two questions. None has a condition: what it cannot do it refuses, by a number of
-// document 01's table, and a refusal changes nothing.
+// The calls on a station: a frame, a reset, a switch, at once or asked for and committed, a preset step, and two questions. None has a condition: what it
+// cannot do it refuses, by a number of document 01's table, and a refusal changes nothing.
 ghost use mathlib.Core.Path.{_≡_};
 ghost use Prim.Native.Nat.{_≤_, _<_};
 ghost use mathlib.Core.Bool.{true};
@@ -140,12 +140,18 @@ pub fn reset(station: Station) -> Called
             station,
         };
     }
-    let nothing = Size {
-        width: 0,
-        height: 0,
+    let n = station.n;
+    let records = station.records;
+    let pending = station.pending;
+    let after = Station {
+        records,
+        n,
+        held: Size {
+            width: 0,
+            height: 0,
+        },
+        pending,
     };
-    let mut after = station;
-    after.held = nothing;
     Called {
         answer: Answer::Accepted,
         station: after,

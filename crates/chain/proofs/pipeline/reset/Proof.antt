@@ -8,7 +8,7 @@ returns : tie.Need-returns
 returns c = refuses _ _ _ (c .before .lacks .ensures) (c .if1 .taken)
 
 returns-2 : tie.Need-returns-2
-returns-2 c = accepts _ _ _ (c .before .lacks .ensures) (c .if1 .left)
+returns-2 c = accepts _ _ _ (c .before .before .lacks .ensures) (c .before .if1 .left)
 
 pub reset-spec : {M : Type 1} → statement M
 reset-spec = tie.close (tie.spec (λ c κs. tt) returns returns-2)
