@@ -161,7 +161,7 @@ fn turn(a: &Own, b: &mut Own, random: &mut Random, tally: &mut RunTally) -> Held
 /// Makes the switches of `b`, one kind after another, the preset and the pending switch those of `a`.
 fn equalise(a: &Own, b: &mut Own, random: &mut Random, tally: &mut RunTally) -> Held {
     let asked = a.station.pending;
-    // A commit alone takes the place of another record: what it switches is seen to with the others.
+    // A commit alone clears another record. What it switches is made equal with the others.
     let another = b.station.pending != asked;
     if another && b.station.pending.is_some() {
         b.call(&Call::Commit, random, tally)?;

@@ -3,7 +3,7 @@
 
 use super::cards;
 use super::sides::Held;
-use super::station::{float_room, HEIGHT_END};
+use super::station::HEIGHT_END;
 use super::still;
 use crate::bridge::{self, Answer, Lent, State};
 use crate::cards::paper::{self, Size};
@@ -62,7 +62,7 @@ pub fn compare(card: &Vec<u8>, at: usize, tally: &mut RunTally, met: &mut Met<To
 const LISTS: [(&str, fn(&mut Desk) -> Held); 7] = [
     ("asked once", once),
     ("asked for what is not there", absent),
-    ("asked for what is", present),
+    ("asked for as it stands", present),
     ("switched in between", between),
     ("kept by every other call", kept),
     ("shown until the commit", shown),
@@ -208,9 +208,9 @@ const OTHERS: [(&str, Call); 17] = [
     ("turned frame", |state, lent| lent.frame(state, (SIZE.1, SIZE.0))),
     ("frame without a column", |state, lent| lent.frame(state, (0, 1))),
     ("frame past its words", |state, lent| lent.frame(state, (7, 7))),
-    ("frame without history", |state, lent| lent.cut(state, [0, 99, READ])),
-    ("frame without scratch", |state, lent| lent.cut(state, [99, 0, READ])),
-    ("frame without a curve", |state, lent| lent.cut(state, [99, 99, 0])),
+    ("frame without history", |state, lent| lent.lend(state, SIZE, [0, ENOUGH, READ])),
+    ("frame without scratch", |state, lent| lent.lend(state, SIZE, [ENOUGH, 0, READ])),
+    ("frame without a curve", |state, lent| lent.lend(state, SIZE, [ENOUGH, ENOUGH, 0])),
     ("reset", |state, _| bridge::reset(state)),
     ("step", |state, _| bridge::cycle_lut(state)),
     ("switch on", |state, _| bridge::set_enabled(state, PERSISTENCE as u8, 1)),
@@ -226,11 +226,14 @@ const OTHERS: [(&str, Call); 17] = [
 const SIZE: Size = (3, 2);
 const COUNT: usize = SIZE.0 * SIZE.1;
 
+/// Words that are enough for the deepest history, and for either scratch.
+const ENOUGH: usize = 8 * COUNT;
+
 /// What is lent to the calls, and is looked at after them.
 #[derive(Clone, PartialEq)]
 struct Buffers {
     framebuffer: [u32; COUNT],
-    history: [u32; 8 * COUNT],
+    history: [u32; ENOUGH],
     card: [u8; 72],
 }
 
@@ -238,32 +241,27 @@ impl Buffers {
     fn new() -> Self {
         Buffers {
             framebuffer: [0x12_3456, 0xff_ffff, 0, 0x80_4020, 0xff_00ff, 0x01_0203],
-            history: [0x55_aa33; 8 * COUNT],
+            history: [0x55_aa33; ENOUGH],
             card: [0xa5; 72],
         }
     }
 
     fn frame(&mut self, state: &mut State, size: Size) -> Answer {
-        self.lend(state, size, [99, 99, READ])
+        self.lend(state, size, [ENOUGH, ENOUGH, READ])
     }
 
-    /// A frame that is lent at most so many words of history, of scratch and of its curve.
-    fn cut(&mut self, state: &mut State, most: [usize; 3]) -> Answer {
-        self.lend(state, SIZE, most)
-    }
-
-    fn lend(&mut self, state: &mut State, (width, height): Size, most: [usize; 3]) -> Answer {
-        let [history, scratch, curve] = most;
-        let powers: Vec<f32> = (0..READ).map(|k| k as f32 / 255.0).collect();
-        let history = history.min(self.history.len());
+    /// A frame that is lent so many words of history, of either scratch and of a curve.
+    fn lend(&mut self, state: &mut State, size: Size, words: [usize; 3]) -> Answer {
+        let [history, scratch, curve] = words;
+        let curve: Vec<f32> = (0..curve).map(|k| k as f32 / 255.0).collect();
         let lent = Lent {
             framebuffer: &mut self.framebuffer,
             history: &mut self.history[..history],
-            floats: &mut vec![f32::NAN; scratch.min(float_room(7, 7))],
-            ints: &mut vec![u32::MAX; scratch.min(7 * 7)],
-            curve: &powers[..curve],
+            floats: &mut vec![f32::NAN; scratch],
+            ints: &mut vec![u32::MAX; scratch],
+            curve: &curve,
         };
-        bridge::apply(state, width, height, lent)
+        bridge::apply(state, size.0, size.1, lent)
     }
 }
 
@@ -318,13 +316,16 @@ impl<'a> Desk<'a> {
         asked: Answer,
         call: impl FnOnce(&mut State, &mut Buffers) -> Answer,
     ) -> Held {
-        let before = (self.state, self.lent.clone());
+        let (state, lent) = (self.state, self.lent.clone());
         let here = call(&mut self.state, &mut self.lent);
-        self.tally.called(asked, 0);
-        self.met
-            .note(asked.map_or_else(Told::Refused, |_| Told::Accepted));
         same(what, here, asked)?;
-        if asked.is_err() && (self.state != before.0 || self.lent != before.1) {
+        let told = asked.map_or_else(Told::Refused, |_| Told::Accepted);
+        if !self.met.listed(told) {
+            return Err(format!("{what}: {told:?}"));
+        }
+        self.met.note(told);
+        self.tally.called(asked, 0);
+        if asked.is_err() && (self.state != state || self.lent != lent) {
             return Err(format!("{what}: refused, and something is another"));
         }
         Ok(())

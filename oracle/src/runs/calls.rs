@@ -285,7 +285,7 @@ fn bad_size((width, height): (usize, usize), random: &mut Random) -> (usize, usi
 /// Mostly of a kind in the chain. Persistence is switched on more often than off, so that a history is met.
 fn switch(station: &Station, random: &mut Random) -> (u8, u8) {
     let any = random.word() as u8;
-    let kinds: Vec<u8> = station.records().iter().map(|r| r.kind as u8).collect();
+    let kinds = station.kinds();
     let known = random.within(1, 10) as u8;
     let kind = match random.below(16) {
         0 => random.choose(&[0, 11, 15, 16, 255, any]),

@@ -88,12 +88,12 @@ pub enum Case {
     Forget,
     /// A kind byte that is no kind.
     SwitchUnknown,
-    /// A switch that is asked for while it stands in one position: to another.
+    /// A switch that is asked for: where it stands, and where it is to stand.
     Asked(bool, bool),
-    /// A kind byte that is no kind; and a kind that is not in the chain, asked for while a switch is pending: 12 and not 17.
+    /// A kind byte that is no kind, and any kind that is not in the chain while a switch is pending: 12, and not 17.
     AskUnknown,
     AskAbsentPending,
-    /// A commit that switches from one position to another.
+    /// A commit: where the switch stood, and where it stands then.
     Committed(bool, bool),
     /// Persistence that is committed to off while something is held.
     CommitForgets,

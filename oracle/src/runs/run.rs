@@ -289,23 +289,27 @@ fn another(state: &State, random: &mut Random) -> (u16, u16) {
     ])
 }
 
-/// What no station has for a pending switch, in its three bytes; or a good one.
+/// The bytes of another pending switch: such as no station has, or good ones.
 fn other_pending(station: &Station, random: &mut Random) -> ([u8; 3], Case) {
-    let any = random.within(1, 255) as u8;
-    let absent: Vec<u8> = (1..=11).filter(|&kind| !station.has(kind.into())).collect();
-    let kinds: Vec<u8> = (1..=10).filter(|&kind| station.has(kind.into())).collect();
+    let kinds = station.kinds();
+    let absent: Vec<u8> = (1..=11).filter(|kind| !kinds.contains(kind)).collect();
+    // An empty chain has no kind to be switched.
+    let kind = if kinds.is_empty() {
+        0
+    } else {
+        random.choose(&kinds)
+    };
     let on = random.below(2) as u8;
-    let broken = |broken| Case::PendingBroken(broken);
-    match (random.below(8), &kinds[..]) {
-        (0..2, _) => ([random.choose(&absent), on, 0], broken(Broken::Kind)),
-        (2, _) => ([0, 1, 0], broken(Broken::NoKind)),
-        (3, [_, ..]) => (
-            [random.choose(&kinds), any.max(2), 0],
-            broken(Broken::Position),
-        ),
-        (4..7, [_, ..]) => ([random.choose(&kinds), on, 0], Case::PendingOther),
-        (_, [_, ..]) if on == 1 => ([random.choose(&kinds), on, any], broken(Broken::Behind)),
-        _ => ([0, 0, any], broken(Broken::Behind)),
+    let any = random.within(2, 255) as u8;
+    let any = random.choose(&[2, any]);
+    let broken = Case::PendingBroken;
+    match random.below(8) {
+        0 | 1 => ([random.choose(&absent), on, 0], broken(Broken::Kind)),
+        2 => ([0, 1, 0], broken(Broken::NoKind)),
+        3 => ([kind, any, 0], broken(Broken::Position)),
+        4 => ([kind, on, any], broken(Broken::Behind)),
+        _ if kind == 0 => ([0, 0, 0], Case::PendingOther),
+        _ => ([kind, on, 0], Case::PendingOther),
     }
 }
 

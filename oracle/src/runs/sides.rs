@@ -199,7 +199,8 @@ fn note(call: &Call, before: Option<&Station>, asked: Answer, met: &mut Met<Case
                 met.note(Case::AskUnknown);
             }
         }
-        (Call::Commit, Ok(_), Some(_)) => {} // noted as what was pending
+        // Noted with what was pending.
+        (Call::Commit, Ok(_), Some(_)) => {}
         (Call::Commit, Err(number), _) => met.note(Case::CommitRefused(number)),
         (Call::Reset, Ok(_), Some(before)) if before.holds() => met.note(Case::ResetHeld),
         (Call::Reset, Ok(_), _) => met.note(Case::Reset),

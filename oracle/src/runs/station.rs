@@ -1,4 +1,4 @@
-//! Document 01's station, with the asked switch of document 02's P7, as the library lends it, in 80 bytes, with nothing of the
+//! Document 01's station, with the pending switch of document 02's P7, as the library lends it, in 80 bytes, with nothing of the
 //! library: what it says, and what each call on it answers.
 
 use crate::bridge::{Answer, State};
@@ -101,6 +101,10 @@ impl Station {
 
     pub fn records(&self) -> &[Record] {
         &self.opened.records
+    }
+
+    pub fn kinds(&self) -> Vec<u8> {
+        self.records().iter().map(|r| r.kind as u8).collect()
     }
 
     pub fn place(&self, kind: u32) -> Option<usize> {
