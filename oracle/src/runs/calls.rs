@@ -157,14 +157,14 @@ pub fn next(station: &Station, sizes: &mut Sizes, room: usize, random: &mut Rand
             let (kind, on) = switch(station, random);
             Call::Switch(kind, on)
         }
-        66..70 => {
+        66..70 => Call::Step,
+        70..73 => write(station, random),
+        73 => Call::Depth,
+        74..78 => {
             let (kind, on) = switch(station, random);
             Call::Ask(kind, on)
         }
-        70..72 => Call::Commit,
-        72..76 => Call::Step,
-        76..79 => write(station, random),
-        _ => Call::Depth,
+        _ => Call::Commit,
     }
 }
 
