@@ -1,5 +1,5 @@
--- The cases of the refusals of the calls, of what a frame reports, of frames with a curve, of turned frames, and of switches that are asked for. Each list pairs
--- what a definition gives with what it should give, and one proof by computation holds the whole list. Assumes nothing.
+-- The cases of the refusals of the calls, of what a frame reports, of frames with a curve, of turned frames, and of switches that are asked for. Each list
+-- pairs what a definition gives with what it should give, and one proof by computation holds the whole list. Assumes nothing.
 use Prim.Native.Nat.{ℕ, _+_, _*_}
 use mathlib.Core.Bool.{Bool, true, false}
 use mathlib.Core.List.{List, [], _∷_, map}
@@ -209,11 +209,15 @@ answers s cs = map (λ g. g .answer) (saw s cs)
 abbrev done : Report
 done = acceptance []
 
+-- of which a switch of LUT is asked, which it has not
+abbrev absent : State
+absent = opened (pend (Switch 5 true) (half .station)) []
+
 abbrev pub asks : List (List Report × List Report)
 asks =
     (answers half (ask 4 false ∷ ask 4 true ∷ commit ∷ commit ∷ ask 4 true ∷ []), done ∷ refusal 17 ∷ done ∷ refusal 18 ∷ done ∷ [])
     ∷ (answers half (ask 5 true ∷ ask 4 true ∷ ask 5 true ∷ commit ∷ []), refusal 12 ∷ done ∷ refusal 12 ∷ done ∷ [])
-    ∷ (answers (opened (pend (Switch 5 true) (half .station)) []) (ask 5 true ∷ ask 4 true ∷ commit ∷ reset ∷ []), refusal 13 ∷ refusal 13 ∷ refusal 13 ∷ refusal 13 ∷ [])
+    ∷ (answers absent (ask 5 true ∷ ask 4 true ∷ commit ∷ reset ∷ []), refusal 13 ∷ refusal 13 ∷ refusal 13 ∷ refusal 13 ∷ [])
     ∷ []
 
 pub asks-hold : Hold asks
