@@ -1,9 +1,10 @@
-/* A host in C: opens a card, runs frames, and prints a checksum of the last picture, the channels that were clipped on the way, the
-   totals of the picture's middle, and how the switches stand then, as a front end shows them. */
+/* A host in C: opens a card and runs two rounds of frames. In the first a referee asks for a switch, which takes hold before the second.
+   It prints a checksum of the last picture of each round and how the switches stand then, as a front end shows them, and of the whole
+   the channels that were clipped on the way and the totals of the last picture's middle. */
 #include <stdio.h>
 #include "hedgemallow.h"
 
-enum { WIDTH = 64, HEIGHT = 48, COUNT = WIDTH * HEIGHT, DEPTH = 8, FRAMES = 6 };
+enum { WIDTH = 64, HEIGHT = 48, COUNT = WIDTH * HEIGHT, DEPTH = 8, ROUND = 4, FRAMES = 6 };
 
 /* Persistence 0.5 over 3 frames, LUT preset 1 at 0.75, scanlines 0.5, all on. */
 static const uint8_t card[] = {0x13, 0x49, 0xF8, 0x00, 0x00, 0x00, 0x1A, 0xC9, 0xFA,
@@ -33,7 +34,7 @@ static uint32_t checksum(void) {
     return sum;
 }
 
-/* The passes of the chain, on or off, and the LUT's preset: asking changes nothing. */
+/* The passes of the chain, on or off, the LUT's preset, and the switch that is asked for, which stands in the state: nothing is changed. */
 static void show(const uint8_t *state) {
     printf("switches:");
     for (uint8_t kind = HEDGEMALLOW_NTSC; kind <= HEDGEMALLOW_SCANLINES; kind++) {
@@ -42,6 +43,7 @@ static void show(const uint8_t *state) {
     }
     uint32_t preset = hedgemallow_preset(state);
     if (preset < HEDGEMALLOW_REFUSED) printf(", preset %u", (unsigned)preset);
+    if (state[77] != 0) printf(", asked for: %s %s", names[state[77]], state[78] ? "on" : "off");
     printf("\n");
 }
 
@@ -54,9 +56,16 @@ int main(void) {
     }
     uint32_t preset = 0, clipped[1], sum = 0;
     for (uint32_t number = 0; number < FRAMES; number++) {
+        /* Between the rounds what was asked for takes hold. */
+        if (number == ROUND) {
+            printf("first round: frames %d, picture %08X\n", ROUND, (unsigned)checksum());
+            show(state);
+            hedgemallow_commit(state);
+        }
         paint(number);
+        /* During play: the pictures of this round keep their scanlines. */
+        if (number == 2) hedgemallow_ask(state, HEDGEMALLOW_SCANLINES, 0);
         if (number == 3) preset = hedgemallow_cycle_lut(state);
-        if (number == 4) hedgemallow_set_enabled(state, HEDGEMALLOW_SCANLINES, 0);
         answer = hedgemallow_apply(state, frame, COUNT, WIDTH, HEIGHT, history, hedgemallow_depth(state) * (size_t)COUNT,
                                    floats, HEDGEMALLOW_FLOATS(WIDTH, HEIGHT), ints, COUNT, curve, 0, clipped);
         if (answer >= HEDGEMALLOW_REFUSED) {

@@ -1,10 +1,12 @@
-//! A host in Rust: opens a card, runs frames, and prints a checksum of the last picture, the channels that were clipped on the way,
-//! the totals of the picture's middle, and how the switches stand then, as a front end shows them.
+//! A host in Rust: opens a card and runs two rounds of frames. In the first a referee asks for a switch, which takes hold before the
+//! second. It prints a checksum of the last picture of each round and how the switches stand then, as a front end shows them, and of
+//! the whole the channels that were clipped on the way and the totals of the last picture's middle.
 
 use hedgemallow::{areas, history_words, scratch_words, Kind, Preset, Refusal, Station, KINDS};
 
 const WIDTH: usize = 64;
 const HEIGHT: usize = 48;
+const ROUND: u32 = 4;
 const FRAMES: u32 = 6;
 
 /// Persistence 0.5 over 3 frames, LUT preset 1 at 0.75, scanlines 0.5, all on.
@@ -29,16 +31,20 @@ fn checksum(frame: &[u32]) -> u32 {
     bytes.fold(2166136261, |sum, byte| (sum ^ u32::from(byte)).wrapping_mul(16777619))
 }
 
-/// The passes of the chain, on or off, and the LUT's preset: asking changes nothing.
+/// The passes of the chain, on or off, the LUT's preset, and the switch that is asked for: nothing is changed.
 fn show(station: &Station) {
     print!("switches:");
+    let position = |on| if on { "on" } else { "off" };
     for kind in KINDS {
         if let Ok(on) = station.enabled(kind) {
-            print!(" {kind} {}", if on { "on" } else { "off" });
+            print!(" {kind} {}", position(on));
         }
     }
     if let Ok(preset) = station.preset() {
         print!(", preset {}", preset as u8);
+    }
+    if let Some((kind, on)) = station.pending() {
+        print!(", asked for: {kind} {}", position(on));
     }
     println!();
 }
@@ -52,10 +58,17 @@ fn run() -> Result<(), Refusal> {
     let mut frame = vec![0; WIDTH * HEIGHT];
     let (mut preset, mut clipped) = (Preset::WarmCrt, 0);
     for number in 0..FRAMES {
+        // Between the rounds what was asked for takes hold.
+        if number == ROUND {
+            println!("first round: frames {ROUND}, picture {:08X}", checksum(&frame));
+            show(&station);
+            station.commit()?;
+        }
         paint(&mut frame, number);
         match number {
+            // During play: the pictures of this round keep their scanlines.
+            2 => station.ask(Kind::Scanlines, false)?,
             3 => preset = station.cycle_lut()?,
-            4 => station.set_enabled(Kind::Scanlines, false)?,
             _ => {}
         }
         // The card has no colour, so it reads no curve.

@@ -2,19 +2,23 @@
  * Hedgemallow: a picture chain set by a card. The functions of libbridge.a, which ./install names
  * libhedgemallow.a, for C and C++.
  *
- * A station is the chain of passes of one card with their switches and settings, and the width and
- * height of the older frames in its history. It lives in 80 bytes that the caller owns, the state.
- * Copy them, store them, compare them: two stations are equal exactly when their states are.
+ * A station is the chain of passes of one card with their switches and settings, the width and
+ * height of the older frames in its history, and the pending switch: at most one, that was asked for
+ * and is not committed yet. It lives in 80 bytes that the caller owns, the state. Copy them, store
+ * them, compare them: two stations are equal exactly when their states are.
  *
  *     byte  0        L, the length of the normalised card, 1 to 72
  *     bytes 1 to 72  the card, followed by zeros
  *     bytes 73, 74   the width of the frames in the history, most significant byte first
  *     bytes 75, 76   their height, likewise; where the history holds none, both are 0
- *     bytes 77 to 79 zero
+ *     byte  77       the kind of the pending switch, 0 for none
+ *     byte  78       its position: 1 on, 0 off; 0 where none is pending
+ *     byte  79       zero
  *
- * Every state is checked on the way in. Bytes that are no state, damaged ones too and those whose
- * card does not name its passes by ascending kind, are refused by 13 and never followed. A state
- * that a call returned is never refused by 13.
+ * Every state is checked on the way in. Bytes that are no state, damaged ones too, those whose card
+ * does not name its passes by ascending kind and those whose pending switch is of a pass that the
+ * card does not name, are refused by 13 and never followed. A state that a call returned is never
+ * refused by 13.
  *
  * Answers: below 256 the call is accepted, and the number is what it reports, or 0. From 256 on it
  * is refused by the number answer - 256, and every byte and word is as it was before the call.
@@ -110,13 +114,16 @@ enum hedgemallow_refusal {
     HEDGEMALLOW_PASS_OUT_OF_ORDER = 271, /* 15, pass out of order: kind below the one before it */
     HEDGEMALLOW_BAD_CURVE = 272,         /* 16, bad curve: the card reads a curve, and it has fewer than
                                             256 words or one of the first 256 is not in 0..1 */
+    HEDGEMALLOW_ALREADY_ASKED = 273,     /* 17, already asked: a switch is asked for and not committed yet */
+    HEDGEMALLOW_NOT_ASKED = 274,         /* 18, not asked: no switch is asked for */
     HEDGEMALLOW_BAD_AREA = 275           /* 19, bad area: more than 64 areas, a list of another length than
                                             four for each, an area that leaves the picture, or too few
                                             totals */
 };
 
-/* The kinds of passes, as a card, hedgemallow_set_enabled and hedgemallow_enabled name them. On a card they ascend.
-   Beside each is the word that program `card` prints, for a front end: the library has no texts. */
+/* The kinds of passes, as a card, hedgemallow_set_enabled, hedgemallow_ask, hedgemallow_enabled and byte 77 of a state
+   name them. On a card they ascend. Beside each is the word that program `card` prints, for a front end: the library
+   has no texts. */
 enum hedgemallow_kind {
     HEDGEMALLOW_NTSC = 1,             /* NTSC */
     HEDGEMALLOW_BLOOM = 2,            /* bloom */
@@ -164,6 +171,17 @@ uint32_t hedgemallow_reset(uint8_t state[HEDGEMALLOW_STATE]);
 /* Switches the pass of that kind, 1 to 10: on 0 is off, any other number on. Persistence that is
    switched off holds nothing. Refusals 13, 12: any other kind is in no chain. */
 uint32_t hedgemallow_set_enabled(uint8_t state[HEDGEMALLOW_STATE], uint8_t kind, uint8_t on);
+
+/* Asks for a switch that is to take hold later, between rounds: kind and on, taken as above, become
+   the pending switch, to be seen in bytes 77 and 78. Nothing else changes: no switch, no picture. The
+   present position may be asked for. The pending switch outlives every other call on the state,
+   hedgemallow_set_enabled and refused calls too: hedgemallow_commit alone clears it, and a card that
+   is opened begins with none. Refusals 13, 12, 17, in that order. */
+uint32_t hedgemallow_ask(uint8_t state[HEDGEMALLOW_STATE], uint8_t kind, uint8_t on);
+
+/* Does what hedgemallow_set_enabled does with the kind and the position of the pending switch, and
+   clears it. So persistence that it switches off holds nothing. Refusals 13, 18, in that order. */
+uint32_t hedgemallow_commit(uint8_t state[HEDGEMALLOW_STATE]);
 
 /* Steps the LUT to its next preset, and reports it, 0 to 6. Refusals 13, 12. */
 uint32_t hedgemallow_cycle_lut(uint8_t state[HEDGEMALLOW_STATE]);

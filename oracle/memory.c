@@ -113,10 +113,17 @@ static int frame(void) {
     return 1;
 }
 
+/* A switch, and on a copy of the state the same one asked for and committed: it has to leave the same bytes. */
 static int change(void) {
     const uint8_t *bytes = take(2);
     if (!bytes || bytes[1] > 1) return refused(1);
-    return told('S', hedgemallow_set_enabled(state, bytes[0], bytes[1]));
+    uint8_t *copy = memcpy(room(HEDGEMALLOW_STATE), state, HEDGEMALLOW_STATE);
+    uint32_t answer = hedgemallow_set_enabled(state, bytes[0], bytes[1]);
+    if (hedgemallow_ask(copy, bytes[0], bytes[1]) != answer) printf("another answer to asking\n");
+    if (hedgemallow_commit(copy) != (answer ? HEDGEMALLOW_NOT_ASKED : 0)) printf("another answer to committing\n");
+    if (memcmp(copy, state, HEDGEMALLOW_STATE)) printf("another state after committing\n");
+    free(copy);
+    return told('S', answer);
 }
 
 /* Whether to go on after it. */

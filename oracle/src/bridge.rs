@@ -95,6 +95,16 @@ pub fn set_enabled(state: &mut State, kind: u8, on: u8) -> Answer {
     answer(unsafe { exports::hedgemallow_set_enabled(state.as_mut_ptr(), kind, on) })
 }
 
+pub fn ask(state: &mut State, kind: u8, on: u8) -> Answer {
+    // SAFETY: as above.
+    answer(unsafe { exports::hedgemallow_ask(state.as_mut_ptr(), kind, on) })
+}
+
+pub fn commit(state: &mut State) -> Answer {
+    // SAFETY: as above.
+    answer(unsafe { exports::hedgemallow_commit(state.as_mut_ptr()) })
+}
+
 pub fn cycle_lut(state: &mut State) -> Answer {
     // SAFETY: as above.
     answer(unsafe { exports::hedgemallow_cycle_lut(state.as_mut_ptr()) })

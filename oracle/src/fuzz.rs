@@ -5,7 +5,7 @@
 use crate::met::{Listed, Met};
 
 /// More than there are cases of either target.
-const CASES: usize = 128;
+const CASES: usize = 256;
 
 // A second guide beside the coverage: libFuzzer clears this section before each input and reads it after.
 #[used]

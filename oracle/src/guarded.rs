@@ -190,6 +190,14 @@ pub fn set_enabled(state: &mut State, kind: u8, on: u8) -> Answer {
     on_state(state, |state| plain::set_enabled(state, kind, on))
 }
 
+pub fn ask(state: &mut State, kind: u8, on: u8) -> Answer {
+    on_state(state, |state| plain::ask(state, kind, on))
+}
+
+pub fn commit(state: &mut State) -> Answer {
+    on_state(state, plain::commit)
+}
+
 pub fn cycle_lut(state: &mut State) -> Answer {
     on_state(state, plain::cycle_lut)
 }

@@ -38,6 +38,8 @@ fn calls(random: &mut Random) -> Vec<u8> {
     if random.one_in(4) {
         let mut station = Station::open(&card).expect("the card is a good one");
         station.take((random.within(1, 16), random.within(1, 16)));
+        // Of a kind that may be absent: then nothing is pending.
+        let _ = station.ask(random.within(1, 10) as u8, random.one_in(2));
         bytes.push(STATE);
         bytes.extend(station.state());
     } else {

@@ -617,7 +617,7 @@ pub struct RunTally {
     words: u64,
     history: u64,
     /// By the refusal's number.
-    refused: [u64; 17],
+    refused: [u64; 19],
     different: u64,
     /// The first few differences, each with the place of its run.
     shown: Vec<(usize, String)>,
@@ -632,7 +632,7 @@ impl RunTally {
             frames: 0,
             words: 0,
             history: 0,
-            refused: [0; 17],
+            refused: [0; 19],
             different: 0,
             shown: Vec::new(),
         }

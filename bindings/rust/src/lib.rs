@@ -53,6 +53,8 @@ pub(crate) mod exports {
         ) -> u32;
         pub fn hedgemallow_reset(state: *mut u8) -> u32;
         pub fn hedgemallow_set_enabled(state: *mut u8, kind: u8, on: u8) -> u32;
+        pub fn hedgemallow_ask(state: *mut u8, kind: u8, on: u8) -> u32;
+        pub fn hedgemallow_commit(state: *mut u8) -> u32;
         pub fn hedgemallow_cycle_lut(state: *mut u8) -> u32;
         pub fn hedgemallow_depth(state: *const u8) -> u32;
         pub fn hedgemallow_enabled(state: *const u8, kind: u8) -> u32;
@@ -90,6 +92,8 @@ pub enum Refusal {
     ShortCardBuffer,
     PassOutOfOrder,
     BadCurve,
+    AlreadyAsked,
+    NotAsked,
     BadArea,
     /// A number that this library does not give: one of a later table.
     Other(u32),
@@ -98,7 +102,7 @@ pub enum Refusal {
 use Refusal::*;
 
 /// With the papers' numbers and words.
-const REFUSALS: [(u32, Refusal, &str); 17] = [
+const REFUSALS: [(u32, Refusal, &str); 19] = [
     (1, TornCard, "torn card"),
     (2, ForeignCard, "foreign card"),
     (3, OverfullCard, "overfull card"),
@@ -115,6 +119,8 @@ const REFUSALS: [(u32, Refusal, &str); 17] = [
     (14, ShortCardBuffer, "short card buffer"),
     (15, PassOutOfOrder, "pass out of order"),
     (16, BadCurve, "bad curve"),
+    (17, AlreadyAsked, "already asked"),
+    (18, NotAsked, "not asked"),
     (19, BadArea, "bad area"),
 ];
 
@@ -290,7 +296,8 @@ impl Station {
         Ok(Station { state })
     }
 
-    /// The station of bytes that were stored. Lend it the history words that it had then; or reset it, and any words will do.
+    /// The station of bytes that were stored, a pending switch included. Lend it the history words that it had then; or reset it, and
+    /// any words will do.
     pub fn from_bytes(state: [u8; 80]) -> Result<Station, Refusal> {
         let station = Station { state };
         station.depth()?;
@@ -357,6 +364,55 @@ impl Station {
     pub fn set_enabled(&mut self, kind: Kind, on: bool) -> Result<(), Refusal> {
         let state = self.state.as_mut_ptr();
         report(unsafe { exports::hedgemallow_set_enabled(state, kind as u8, on as u8) }).map(|_| ())
+    }
+
+    /// Asks for a switch that is to take hold later, between rounds, by [`Station::commit`]. It is kept as the pending switch, and
+    /// nothing else changes: no switch, no picture. The present position may be asked for. `AlreadyAsked` tells that one is pending:
+    /// every other call, a refused one too, leaves it, and a commit alone clears it.
+    ///
+    /// ```
+    /// # use hedgemallow::{Kind, Refusal, Station};
+    /// // Scanlines at full strength, on.
+    /// let mut station = Station::open(&[0x11, 0xA9, 0xFC, 0x00, 0x00, 0x00])?;
+    /// // During play.
+    /// station.ask(Kind::Scanlines, false)?;
+    /// assert_eq!(station.enabled(Kind::Scanlines), Ok(true));
+    /// assert_eq!(station.ask(Kind::Scanlines, true), Err(Refusal::AlreadyAsked));
+    ///
+    /// // Between rounds.
+    /// station.commit()?;
+    /// assert_eq!(station.enabled(Kind::Scanlines), Ok(false));
+    /// # Ok::<(), Refusal>(())
+    /// ```
+    pub fn ask(&mut self, kind: Kind, on: bool) -> Result<(), Refusal> {
+        let state = self.state.as_mut_ptr();
+        report(unsafe { exports::hedgemallow_ask(state, kind as u8, on as u8) }).map(|_| ())
+    }
+
+    /// Does what [`Station::set_enabled`] does with the pending switch, and clears it. `NotAsked` tells that none is pending.
+    pub fn commit(&mut self) -> Result<(), Refusal> {
+        report(unsafe { exports::hedgemallow_commit(self.state.as_mut_ptr()) }).map(|_| ())
+    }
+
+    /// The pending switch, if there is one: a kind and a position that were asked for and are not committed yet. The state shows
+    /// them, so nothing can be refused.
+    ///
+    /// ```
+    /// # use hedgemallow::{Kind, Refusal, Station};
+    /// // Scanlines at full strength, on.
+    /// let mut station = Station::open(&[0x11, 0xA9, 0xFC, 0x00, 0x00, 0x00])?;
+    /// assert_eq!(station.pending(), None);
+    ///
+    /// station.ask(Kind::Scanlines, false)?;
+    /// assert_eq!(station.pending(), Some((Kind::Scanlines, false)));
+    ///
+    /// station.commit()?;
+    /// assert_eq!(station.pending(), None);
+    /// # Ok::<(), Refusal>(())
+    /// ```
+    pub fn pending(&self) -> Option<(Kind, bool)> {
+        let kind = KINDS.into_iter().find(|&kind| kind as u8 == self.state[77])?;
+        Some((kind, self.state[78] != 0))
     }
 
     /// Steps the LUT to its next preset, and reports it.
@@ -506,7 +562,7 @@ mod tests {
             assert_eq!((refusal.number(), refusal.to_string()), (number, words.to_string()));
             assert_eq!(report(256 + number), Err(refusal));
         }
-        assert_eq!(report(256 + 17), Err(Other(17)));
+        assert_eq!(report(256 + 20), Err(Other(20)));
         assert_eq!(report(256), Err(Other(0)));
         assert_eq!(report(u32::MAX), Err(Other(u32::MAX - 256)));
         assert_eq!(report(255), Ok(255));
@@ -524,6 +580,12 @@ mod tests {
         assert_eq!(station.as_bytes(), &bytes);
         station.apply(&mut [0; 600], 2, 300, &mut [0; 1800], &mut [0.0; 3600], &mut [0; 600], &[]).unwrap();
         bytes[73..77].copy_from_slice(&[0, 2, 1, 44]);
+        assert_eq!(station.as_bytes(), &bytes);
+        station.ask(Kind::Scanlines, true).unwrap();
+        bytes[77..79].copy_from_slice(&[10, 1]);
+        assert_eq!(station.as_bytes(), &bytes);
+        station.commit().unwrap();
+        bytes[77..79].copy_from_slice(&[0, 0]);
         assert_eq!(station.as_bytes(), &bytes);
         station.reset().unwrap();
         assert_eq!(station, opened());
@@ -677,21 +739,98 @@ mod tests {
         let mut station = opened();
         let told = |station: &Station| KINDS.map(|kind| station.enabled(kind).ok());
         let on = |kind: Kind| KINDS.iter().position(|&other| other == kind).unwrap();
-        let mut asked = [None; 10];
+        let mut expected = [None; 10];
         for kind in [Kind::Persistence, Kind::Lut, Kind::Scanlines] {
-            asked[on(kind)] = Some(true);
+            expected[on(kind)] = Some(true);
         }
-        assert_eq!((told(&station), station.preset()), (asked, Ok(Preset::WarmCrt)));
+        assert_eq!((told(&station), station.preset()), (expected, Ok(Preset::WarmCrt)));
         station.set_enabled(Kind::Lut, false).unwrap();
-        asked[on(Kind::Lut)] = Some(false);
-        assert_eq!((told(&station), station.preset()), (asked, Ok(Preset::WarmCrt)));
+        expected[on(Kind::Lut)] = Some(false);
+        assert_eq!((told(&station), station.preset()), (expected, Ok(Preset::WarmCrt)));
         for preset in [2, 3, 4, 5, 6, 0, 1] {
             assert_eq!(station.cycle_lut(), Ok(PRESETS[preset]));
-            assert_eq!((told(&station), station.preset()), (asked, Ok(PRESETS[preset])));
+            assert_eq!((told(&station), station.preset()), (expected, Ok(PRESETS[preset])));
         }
         let empty = Station::open(&[0x10]).unwrap();
         assert_eq!(KINDS.map(|kind| empty.enabled(kind)), [Err(NotInChain); 10]);
         assert_eq!(empty.preset(), Err(NotInChain));
+    }
+
+    /// Every pass of the card, to either position: nothing changes but the pending switch; then a commit leaves what a switch does.
+    #[test]
+    fn an_asked_switch_takes_hold_when_it_is_committed() {
+        let mut before = opened();
+        before.apply(&mut [0; 6], 3, 2, &mut [0; 18], &mut [0.0; 27], &mut [0; 6], &[]).unwrap();
+        for kind in [Kind::Persistence, Kind::Lut, Kind::Scanlines] {
+            for on in [false, true] {
+                let (mut station, mut switched) = (before.clone(), before.clone());
+                station.ask(kind, on).unwrap();
+                let mut bytes = *before.as_bytes();
+                bytes[77..79].copy_from_slice(&[kind as u8, on as u8]);
+                assert_eq!((station.pending(), station.as_bytes()), (Some((kind, on)), &bytes));
+                assert_eq!(Station::from_bytes(bytes), Ok(station.clone()));
+                station.commit().unwrap();
+                switched.set_enabled(kind, on).unwrap();
+                assert_eq!((station.pending(), &station), (None, &switched));
+            }
+        }
+    }
+
+    /// 12 comes before 17, and no refusal changes the station.
+    #[test]
+    fn one_switch_at_a_time_is_asked_for() {
+        let mut station = opened();
+        assert_eq!(station.commit(), Err(NotAsked));
+        assert_eq!(station.ask(Kind::Bloom, true), Err(NotInChain));
+        assert_eq!(station, opened());
+        station.ask(Kind::Lut, false).unwrap();
+        let asked = station.clone();
+        assert_eq!(station.ask(Kind::Bloom, true), Err(NotInChain));
+        assert_eq!(station.ask(Kind::Scanlines, false), Err(AlreadyAsked));
+        assert_eq!(station.ask(Kind::Lut, false), Err(AlreadyAsked));
+        assert_eq!(station, asked);
+    }
+
+    /// Frames, resets, switches of that pass too, preset steps, writing and refused calls.
+    #[test]
+    fn nothing_but_a_commit_clears_what_is_pending() {
+        let (mut station, mut other) = (opened(), opened());
+        station.ask(Kind::Lut, false).unwrap();
+        let mut both = |call: &dyn Fn(&mut Station) -> Result<u32, Refusal>| {
+            assert_eq!(call(&mut station), call(&mut other));
+            assert_eq!((station.pending(), other.pending()), (Some((Kind::Lut, false)), None));
+            assert_eq!((&station.state[..77], station.state[79]), (&other.state[..77], other.state[79]));
+        };
+        let frame = |station: &mut Station| station.apply(&mut [0xFF; 2], 2, 1, &mut [0; 6], &mut [0.0; 12], &mut [0; 2], &[]);
+        both(&frame);
+        both(&|station| station.apply(&mut [], 2, 1, &mut [], &mut [], &mut [], &[]));
+        both(&|station| station.set_enabled(Kind::Lut, false).map(|_| 0));
+        both(&|station| station.set_enabled(Kind::Lut, true).map(|_| 0));
+        both(&|station| station.set_enabled(Kind::Bloom, true).map(|_| 0));
+        both(&|station| station.cycle_lut().map(|preset| preset as u32));
+        both(&|station| station.write(&mut [0; 72]).map(|length| length as u32));
+        both(&|station| station.write(&mut []).map(|length| length as u32));
+        both(&|station| station.enabled(Kind::Lut).map(u32::from));
+        both(&frame);
+        both(&|station| station.reset().map(|_| 0));
+        station.commit().unwrap();
+        other.set_enabled(Kind::Lut, false).unwrap();
+        assert_eq!(station, other);
+    }
+
+    /// Bytes 77 and 78 as all that they can be: none is pending, or a pass of the card to one of two positions.
+    #[test]
+    fn a_pending_switch_names_a_pass_of_the_card() {
+        let mut bytes = *opened().as_bytes();
+        for kind in 0..=255 {
+            for on in 0..=255 {
+                bytes[77..79].copy_from_slice(&[kind, on]);
+                let pending = KINDS.into_iter().find(|&known| known as u8 == kind).map(|known| (known, on == 1));
+                let good = (kind, on) == (0, 0) || [4, 5, 10].contains(&kind) && on < 2;
+                let told = Station::from_bytes(bytes).map(|station| station.pending());
+                assert_eq!(told, if good { Ok(pending) } else { Err(BadStation) }, "{kind} {on}");
+            }
+        }
     }
 
     #[test]
@@ -727,6 +866,8 @@ mod tests {
                         assert_eq!(station.write(&mut [0; 72]), Err(BadStation));
                         assert_eq!(station.reset(), Err(BadStation));
                         assert_eq!(station.set_enabled(Kind::Scanlines, false), Err(BadStation));
+                        assert_eq!(station.ask(Kind::Scanlines, false), Err(BadStation));
+                        assert_eq!(station.commit(), Err(BadStation));
                         assert_eq!(station.cycle_lut(), Err(BadStation));
                         assert_eq!(station.enabled(Kind::Scanlines), Err(BadStation));
                         assert_eq!(station.preset(), Err(BadStation));

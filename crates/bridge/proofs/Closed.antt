@@ -8,9 +8,9 @@ use lib.ListN.{length, replicate}
 use lib.Seq.{take-length}
 use Rattle.cards.specs.Bits.{valueAt, fieldAt}
 use Rattle.cards.specs.Answers.{Report, refusal, acceptance, ok, Reply, left}
-use Rattle.chain.specs.Calls.{resetReply, switchReply, stepReply, Framed, frameReply}
+use Rattle.chain.specs.Calls.{resetReply, switchReply, askReply, commitReply, stepReply, Framed, frameReply}
 use Rattle.cards.specs.Card.{headerAt, stationAt, accepted, openedOf, openOf}
-use Rattle.chain.specs.Machine.{frame, reset, switch, step, State, call, after}
+use Rattle.chain.specs.Machine.{frame, reset, switch, ask, commit, step, State, call, after}
 use Rattle.cards.specs.Normal.{goodStation}
 use Rattle.cards.specs.Step.{Step, took, refused, refuseIf}
 use Rattle.cards.specs.declared.station.Station.{Station}
@@ -93,6 +93,14 @@ switch-whole : (kind : ℕ) (on : Bool) (s : Station) → Whole s → Whole (swi
 unfolding after call
 switch-whole kind on s w = call-whole (switch kind on) (with-past s []) w
 
+ask-whole : (kind : ℕ) (on : Bool) (s : Station) → Whole s → Whole (askReply kind on s .station)
+unfolding after call
+ask-whole kind on s w = call-whole (ask kind on) (with-past s []) w
+
+commit-whole : (s : Station) → Whole s → Whole (commitReply s .station)
+unfolding after call
+commit-whole s w = call-whole commit (with-past s []) w
+
 step-whole : (s : Station) → Whole s → Whole (stepReply s .station)
 unfolding after call
 step-whole s w = call-whole step (with-past s []) w
@@ -119,5 +127,7 @@ closed =
       by-frame = frame-state;
       by-reset = on-state resetReply reset-whole;
       by-switch = λ kind on. on-state (switchReply kind on) (switch-whole kind on);
+      by-ask = λ kind on. on-state (askReply kind on) (ask-whole kind on);
+      by-commit = on-state commitReply commit-whole;
       by-step = on-state stepReply step-whole;
     }

@@ -17,7 +17,7 @@ use Rattle.cards.specs.declared.station.Station.{Station}
 use Rattle.cards.specs.declared.writer.Writing.the-variants.{Length, Refused}
 use Rattle.cards.specs.declared.writer.Written.{Written}
 use Rattle.cards.proofs.Longest.{station-short}
-use Rattle.bridge.specs.State.{padded, heldBytes, laid, encoded}
+use Rattle.bridge.specs.State.{padded, heldBytes, kindByte, positionByte, keptBytes, laid, encoded}
 
 drop-zeros : (k m : ℕ) → k ≤ m → drop {A = ℕ} k (replicate m 0) ≡ replicate (m - k) 0
 drop-zeros k m h =
@@ -84,16 +84,18 @@ module _ (s : Station) (r : Written) (card : List ℕ) (replied : written r ≡ 
           record { good = g; long = long; whole = good-into g; short = omega (arith, long, station-short s g) }
       go false g = accepted-not _ 13 (sym (ap reportedWriting e) ∙ bad-answer g)
 
--- the length before it and what is held after it
-pub laid-down : (s : Station) (n : ℕ) (card : List ℕ) → Wrote s n card → n ∷ sets (card ++ replicate 7 0) 72 (heldBytes (s .held)) ≡ encoded s
+-- the length before it and what is kept beside it after it
+pub laid-down : (s : Station) (n : ℕ) (card : List ℕ) → Wrote s n card → {k p : ℕ} → k ≡ kindByte (s .pending) → p ≡ positionByte (s .pending)
+    → n ∷ sets (card ++ replicate 7 0) 72 (heldBytes (s .held) ++ k ∷ p ∷ []) ≡ encoded s
 unfolding encoded
-laid-down s n card w =
+laid-down s n card w {k} {p} kind position =
     let long : length card ≡ 72 = ap length (w .whole) ∙ padded-long (cardOf s) (omega (arith, w .long, w .short)) in
-    rw (w .good)
+    ap₂ (λ (i j : ℕ). n ∷ sets (card ++ replicate 7 0) 72 (heldBytes (s .held) ++ i ∷ j ∷ [])) kind position
+    ∙ rw (w .good)
     (ap₂ (λ (k : ℕ) (l : List ℕ). k ∷ l) (w .long)
-    (sets-eq (heldBytes (s .held)) (card ++ replicate 7 0) 72 (omega (arith, length-append card (replicate 7 0), long))
-    ∙ ap₂ (λ (front back : List ℕ). front ++ heldBytes (s .held) ++ back) (take-at card (replicate 7 0) 72 long ∙ w .whole)
-    (ap (λ (k : ℕ). drop (k + 4) (card ++ replicate 7 0)) (sym long) ∙ drop-append-add card (replicate 7 0) 4)))
+    (sets-eq (keptBytes s) (card ++ replicate 7 0) 72 (omega (arith, length-append card (replicate 7 0), long))
+    ∙ ap₂ (λ (front back : List ℕ). front ++ keptBytes s ++ back) (take-at card (replicate 7 0) 72 long ∙ w .whole)
+    (ap (λ (k : ℕ). drop (k + 6) (card ++ replicate 7 0)) (sym long) ∙ drop-append-add card (replicate 7 0) 6)))
 
 -- whatever the buffer, no card that is written is long
 pub card-short : (s : Station) (buf : List ℕ) (r : Written) (n : ℕ) → written r ≡ writeReply s buf → r .answer ≡ Length n → n ≤ 72

@@ -24,7 +24,7 @@ use Rattle.cards.specs.declared.station.Answer.{Answer}
 use Rattle.cards.specs.declared.station.Answer.the-variants.{Accepted, Refused}
 use Rattle.cards.specs.declared.station.Station.{Station}
 use Rattle.cards.specs.declared.writer.Written.{Written}
-use Rattle.bridge.specs.Outcomes.{Outcome, outcome, answered, damaged, opening, onState, askedOf, writeTold, writeLeft, Shown, shown, framedNumber, framedShown, frameShown, freed, Frames}
+use Rattle.bridge.specs.Outcomes.{Outcome, outcome, answered, damaged, opening, onState, questionOf, writeTold, writeLeft, Shown, shown, framedNumber, framedShown, frameShown, freed, Frames}
 use Rattle.bridge.specs.State.{encoded, stationIn, isState, decoded}
 
 pub opens : (card b : List ℕ) (o : Opened) (x : Outcome) → opened o ≡ openOf card → x ≡ answered b (opened o) → x ≡ opening card b
@@ -99,13 +99,13 @@ module _ (f : Station → Reply) (b : List ℕ) where
 -- ## Questions
 
 module _ (f : Station → ℕ) (b : List ℕ) where
-  pub ask-none : (k n : ℕ) → Unread b k → n ≡ 256 + k → n ≡ askedOf f b
-  unfolding askedOf
-  ask-none k n u e = rw (u .broken) (e ∙ u .by-13)
+  pub question-none : (k n : ℕ) → Unread b k → n ≡ 256 + k → n ≡ questionOf f b
+  unfolding questionOf
+  question-none k n u e = rw (u .broken) (e ∙ u .by-13)
 
-  pub ask-some : (s : Station) (n : ℕ) → Read b s → n ≡ f s → n ≡ askedOf f b
-  unfolding askedOf
-  ask-some s n t e = rw (t .sound) (e ∙ ap f (t .station))
+  pub question-some : (s : Station) (n : ℕ) → Read b s → n ≡ f s → n ≡ questionOf f b
+  unfolding questionOf
+  question-some s n t e = rw (t .sound) (e ∙ ap f (t .station))
 
 -- ## Writing
 

@@ -8,7 +8,7 @@ use lib.Ieee.{Float}
 use lib.ListN.{length, drop, replicate}
 use Rattle.cards.specs.Alike.{chainOf}
 use Rattle.cards.specs.Answers.{ok}
-use Rattle.chain.specs.Calls.{resetReply, switchReply, stepReply}
+use Rattle.chain.specs.Calls.{resetReply, switchReply, askReply, commitReply, stepReply}
 use Rattle.cards.specs.Card.{unused, accepted, openOf}
 use Rattle.chain.specs.Machine.{Call, State, after}
 use Rattle.cards.specs.Normal.{goodStation}
@@ -42,4 +42,6 @@ pub record Closed : Type 0 where
       → isState (frameShown w h b words past floats ints curve old .state) ≡ true
   pub by-reset : (b : List ℕ) → isState b ≡ true → isState (onState resetReply b .state) ≡ true
   pub by-switch : (kind : ℕ) (on : Bool) (b : List ℕ) → isState b ≡ true → isState (onState (switchReply kind on) b .state) ≡ true
+  pub by-ask : (kind : ℕ) (on : Bool) (b : List ℕ) → isState b ≡ true → isState (onState (askReply kind on) b .state) ≡ true
+  pub by-commit : (b : List ℕ) → isState b ≡ true → isState (onState commitReply b .state) ≡ true
   pub by-step : (b : List ℕ) → isState b ≡ true → isState (onState stepReply b .state) ≡ true

@@ -40,18 +40,18 @@ unfoldable pub onState : (Station → Reply) → List ℕ → Outcome
 onState f b = cond (isState b) (answered b (f (stationIn b))) (outcome damaged b)
 
 -- a question of the station of the state, whose bytes are lent to be read alone
-unfoldable pub askedOf : (Station → ℕ) → List ℕ → ℕ
-askedOf f b = cond (isState b) (f (stationIn b)) damaged
+unfoldable pub questionOf : (Station → ℕ) → List ℕ → ℕ
+questionOf f b = cond (isState b) (f (stationIn b)) damaged
 
 -- document 01's K
 abbrev pub depthTold : List ℕ → ℕ
-depthTold = askedOf (λ s. depth (chainOf s))
+depthTold = questionOf (λ s. depth (chainOf s))
 
 abbrev pub enabledTold : ℕ → List ℕ → ℕ
-enabledTold kind = askedOf (λ s. told (enabledReport kind s))
+enabledTold kind = questionOf (λ s. told (enabledReport kind s))
 
 abbrev pub presetTold : List ℕ → ℕ
-presetTold = askedOf (λ s. told (presetReport s))
+presetTold = questionOf (λ s. told (presetReport s))
 
 -- ## Writing
 

@@ -1,5 +1,6 @@
 -- A station in the 80 bytes that a host lends: the length of its card, the card followed by zeros to 72 bytes, the width
--- and the height that it remembers by two bytes each, most significant first, three zeros. Assumes nothing.
+-- and the height that it remembers by two bytes each, most significant first, the kind and the position of the switch that is
+-- asked for, a zero. Assumes nothing.
 use Prim.Native.Nat.{ℕ, _+_, _-_, _*_, _/_, _%_}
 use mathlib.Core.Bool.{Bool, true, false, _&&_, cond}
 use mathlib.Core.List.{List, [], _∷_, _++_}
@@ -7,10 +8,12 @@ use lib.Dec.{eqb}
 use lib.ListN.{length, getD, take, drop, replicate}
 use Rattle.num.specs.Held.{Held, sized}
 use Rattle.cards.specs.Answers.{ok, Reply, refusing}
-use Rattle.chain.specs.Calls.{hold}
+use Rattle.chain.specs.Calls.{hold, pend}
 use Rattle.cards.specs.Card.{accepted, openOf}
 use Rattle.cards.specs.Normal.{goodStation}
 use Rattle.cards.specs.Written.{cardOf}
+use Rattle.cards.specs.declared.station.Pending.{Pending}
+use Rattle.cards.specs.declared.station.Pending.the-variants.{Nothing, Switch}
 use Rattle.cards.specs.declared.station.Station.{Station}
 
 -- ## From a station to bytes
@@ -21,8 +24,22 @@ padded card = card ++ replicate (72 - length card) 0
 abbrev pub heldBytes : Held → List ℕ
 heldBytes held = held .width / 256 ∷ held .width % 256 ∷ held .height / 256 ∷ held .height % 256 ∷ []
 
+-- the kind of the switch that is asked for, 0 for none
+abbrev pub kindByte : Pending → ℕ
+kindByte Nothing = 0
+kindByte (Switch kind on) = kind
+
+-- its position: on is 1, off is 0, as none is
+abbrev pub positionByte : Pending → ℕ
+positionByte Nothing = 0
+positionByte (Switch kind on) = cond on 1 0
+
+-- what a station keeps beside its card
+abbrev pub keptBytes : Station → List ℕ
+keptBytes s = heldBytes (s .held) ++ kindByte (s .pending) ∷ positionByte (s .pending) ∷ []
+
 abbrev pub laid : Station → List ℕ
-laid s = length (cardOf s) ∷ padded (cardOf s) ++ heldBytes (s .held) ++ replicate 3 0
+laid s = length (cardOf s) ∷ padded (cardOf s) ++ keptBytes s ++ replicate 1 0
 
 -- a bad station is all zeros, which are no state: no card is empty
 unfoldable pub encoded : Station → List ℕ
@@ -36,8 +53,15 @@ cardIn b = take (getD b 0 0) (drop 1 b)
 abbrev pub heldIn : List ℕ → Held
 heldIn b = sized (getD b 73 0 * 256 + getD b 74 0) (getD b 75 0 * 256 + getD b 76 0)
 
+-- no pass has kind 0
+abbrev pub pendingOf : (kind position : ℕ) → Pending
+pendingOf kind position = cond (eqb kind 0) Nothing (Switch kind (eqb position 1))
+
+abbrev pub pendingIn : List ℕ → Pending
+pendingIn b = pendingOf (getD b 77 0) (getD b 78 0)
+
 abbrev pub stationIn : List ℕ → Station
-stationIn b = hold (heldIn b) (openOf (cardIn b) .station)
+stationIn b = pend (pendingIn b) (hold (heldIn b) (openOf (cardIn b) .station))
 
 abbrev pub sameBytes : List ℕ → List ℕ → Bool
 sameBytes [] [] = true
@@ -45,8 +69,8 @@ sameBytes [] (y ∷ ys) = false
 sameBytes (x ∷ xs) [] = false
 sameBytes (x ∷ xs) (y ∷ ys) = eqb x y && sameBytes xs ys
 
--- the card is accepted, and its station with what is held is encoded as these bytes again: so a card that is not normalised, stray bytes and a history that
--- the chain cannot hold make no state
+-- the card is accepted, and its station with what it keeps is encoded as these bytes again: so a card that is not normalised, stray bytes, a history that
+-- the chain cannot hold and a switch of a pass that it has not make no state
 unfoldable pub isState : List ℕ → Bool
 isState b = ok (openOf (cardIn b) .answer) && sameBytes (encoded (stationIn b)) b
 

@@ -6,8 +6,8 @@ ghost use mathlib.Core.Bool.{not};
 ghost use lib.Dec.{eqb};
 ghost use Rattle.areas.specs.Areas.{judged};
 ghost use Rattle.cards.specs.Answers.{reply, reported, told as toldBy};
-ghost use Rattle.chain.specs.Answers.{asked};
-ghost use Rattle.chain.specs.Calls.{resetReply, switchReply, stepReply};
+ghost use Rattle.chain.specs.Answers.{reportedQuestion};
+ghost use Rattle.chain.specs.Calls.{resetReply, switchReply, askReply, commitReply, stepReply};
 ghost use Rattle.bridge.specs.Judged.{judgedTold};
 ghost use Rattle.bridge.specs.Outcomes.{outcome, answered, opening, onState, depthTold, enabledTold, presetTold, writeTold, writeLeft, Frames};
 use super::state::decode;
@@ -18,9 +18,9 @@ use cards::station::Station;
 use cards::writer;
 use cards::writer::Writing;
 use chain::pipeline;
-use chain::pipeline::Asked;
 use chain::pipeline::Cycle;
 use chain::pipeline::FrameAnswer;
+use chain::pipeline::Question;
 
 // A refusal's number.
 fn refusal(k: u8) -> u32
@@ -41,12 +41,12 @@ fn keep(answer: Answer, station: Station, state: &mut [u8; 80]) -> u32
 }
 
 // Tells what a question was answered by.
-fn tell(answer: Asked) -> u32
-    ensures { λ r. ⌜ r ≡ toldBy (asked answer) ⌝ }
+fn tell(answer: Question) -> u32
+    ensures { λ r. ⌜ r ≡ toldBy (reportedQuestion answer) ⌝ }
 {
     match answer {
-        Asked::Number(n) => n as u32,
-        Asked::Refused(k) => refusal(k),
+        Question::Number(n) => n as u32,
+        Question::Refused(k) => refusal(k),
     }
 }
 
@@ -155,6 +155,40 @@ pub extern "C" fn hedgemallow_set_enabled(state: &mut [u8; 80], kind: u8, on: u8
         return refusal(k);
     }
     let called = pipeline::set_enabled(station, kind, on != 0);
+    let told = called.answer;
+    let after = called.station;
+    keep(told, after, state)
+}
+
+// Asks for a switch of the pass of that kind: 0 is off, any other number on.
+#[no_mangle]
+pub extern "C" fn hedgemallow_ask(state: &mut [u8; 80], kind: u8, on: u8) -> u32
+    ensures { λ r. ⌜ outcome r (now (state .exit)) ≡ onState (askReply kind (not (eqb on 0))) (now (state .entry)) ⌝ }
+{
+    let opened = decode(*state);
+    let answer = opened.answer;
+    let station = opened.station;
+    if let Answer::Refused(k) = answer {
+        return refusal(k);
+    }
+    let called = pipeline::ask(station, kind, on != 0);
+    let told = called.answer;
+    let after = called.station;
+    keep(told, after, state)
+}
+
+// Makes the switch that was asked for.
+#[no_mangle]
+pub extern "C" fn hedgemallow_commit(state: &mut [u8; 80]) -> u32
+    ensures { λ r. ⌜ outcome r (now (state .exit)) ≡ onState commitReply (now (state .entry)) ⌝ }
+{
+    let opened = decode(*state);
+    let answer = opened.answer;
+    let station = opened.station;
+    if let Answer::Refused(k) = answer {
+        return refusal(k);
+    }
+    let called = pipeline::commit(station);
     let told = called.answer;
     let after = called.station;
     keep(told, after, state)

@@ -2,10 +2,11 @@
 ghost use mathlib.Core.Path.{_≡_};
 ghost use Prim.Native.Nat.{_*_, _+_, _≤_, min};
 ghost use Rattle.cards.specs.Answers.{opened};
-ghost use Rattle.bridge.specs.State.{heldIn, encoded, sameBytes, decoded};
+ghost use Rattle.bridge.specs.State.{heldIn, kindByte, positionByte, pendingOf, encoded, sameBytes, decoded};
 use cards::reader::Opened;
 use cards::reader::open;
 use cards::station::Answer;
+use cards::station::Pending;
 use cards::station::Station;
 use cards::writer::Writing;
 use cards::writer::write;
@@ -27,6 +28,41 @@ fn held_in(state: [u8; 80]) -> Size
     Size { width, height }
 }
 
+// The kind of the switch that is asked for, 0 for none.
+fn kind_byte(pending: Pending) -> u8
+    ensures { λ r. ⌜ r ≡ kindByte pending ⌝ }
+{
+    match pending {
+        Pending::Nothing => 0,
+        Pending::Switch { kind, on: _ } => kind,
+    }
+}
+
+// Its position: on is 1, off is 0, as none is.
+fn position_byte(pending: Pending) -> u8
+    ensures { λ r. ⌜ r ≡ positionByte pending ⌝ }
+{
+    if let Pending::Switch { kind: _, on } = pending {
+        if on {
+            return 1;
+        }
+    }
+    0
+}
+
+// The switch that is asked for, from its two bytes.
+fn pending_of(kind: u8, position: u8) -> Pending
+    ensures { λ r. ⌜ r ≡ pendingOf kind position ⌝ }
+{
+    if kind == 0 {
+        return Pending::Nothing;
+    }
+    Pending::Switch {
+        kind,
+        on: position == 1,
+    }
+}
+
 // The bytes of a station; zeros where its card is not written.
 pub(crate) fn encode(station: Station) -> [u8; 80]
     ensures { λ r. ⌜ r ≡ encoded station ⌝ }
@@ -38,11 +74,14 @@ pub(crate) fn encode(station: Station) -> [u8; 80]
         return state;
     };
     let held = station.held;
+    let pending = station.pending;
     state[0] = n as u8;
     state[73] = (held.width / 256) as u8;
     state[74] = (held.width % 256) as u8;
     state[75] = (held.height / 256) as u8;
     state[76] = (held.height % 256) as u8;
+    state[77] = kind_byte(pending);
+    state[78] = position_byte(pending);
     state
 }
 
@@ -80,7 +119,13 @@ pub(crate) fn decode(state: [u8; 80]) -> Opened
     let records = inside.records;
     let n = inside.n;
     let held = held_in(state);
-    let station = Station { records, n, held };
+    let pending = pending_of(state[77], state[78]);
+    let station = Station {
+        records,
+        n,
+        held,
+        pending,
+    };
     let damaged = Opened {
         answer: Answer::Refused(13),
         station,

@@ -59,7 +59,7 @@ reads-pass (Crt s) n = reads-last _ (reads-limited c1·0 s n) reads-ret
 reads-pass (Vignette s) n = reads-last _ (reads-limited c1·0 s n) reads-ret
 reads-pass (Scanlines s) n = reads-last _ (reads-limited c1·0 s n) reads-ret
 
-known : (p : Pass) → (eqb (kindOf p) 0 || ltb 10 (kindOf p)) ≡ false
+pub known : (p : Pass) → (eqb (kindOf p) 0 || ltb 10 (kindOf p)) ≡ false
 known (Ntsc a b) = refl
 known (Bloom a b c) = refl
 known (AutoGradient a b c) = refl

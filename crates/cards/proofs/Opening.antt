@@ -13,6 +13,7 @@ use Rattle.cards.specs.Bits.{fieldAt}
 use Rattle.cards.specs.Records.{kinds, recordAt}
 use Rattle.cards.specs.Card.{unused, stationOf, headerAt, recordsAt, endsAt, endAt, stationAt, readingOf}
 use Rattle.cards.specs.declared.fields.Refusal.{Refusal}
+use Rattle.cards.specs.declared.station.Pending.the-variants.{Nothing}
 use Rattle.cards.specs.declared.station.Record.{Record}
 use Rattle.cards.specs.declared.station.Station.{Station}
 use borrow.Author.Tests.{ltb-false, le-ltb}
@@ -101,11 +102,11 @@ module _ (card : List ℕ) (n start : ℕ) (rs : List Record) (next i : ℕ) (d 
       }
 
 abbrev stationWith : List Record → ℕ → Station
-stationWith xs n = record { records = xs; n = n; held = nothing }
+stationWith xs n = record { records = xs; n = n; held = nothing; pending = Nothing }
 
 -- at the end the station is what the loop filled
 pub done-all : (card : List ℕ) (n start : ℕ) (rs : List Record) (next : ℕ) → Done card n start rs next n
-    → (recordsAt n [] card start ≡ took (take n rs) next) × (stationOf (take n rs) ≡ record { records = rs; n = n; held = nothing })
+    → (recordsAt n [] card start ≡ took (take n rs) next) × (stationOf (take n rs) ≡ stationWith rs n)
 unfolding recordsAt
 done-all card n start rs next d =
     let none : n - n ≡ 0 = omega arith in

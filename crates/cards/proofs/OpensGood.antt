@@ -69,6 +69,7 @@ opens-good card s e =
             normal = ap (normalChain []) chain-of ∙ chain-is [] (o .chain) (o .normal);
             fine = nothing-fine;
             idle = nothing-idle (persists (chainOf (stationOf (o .chain))));
+            asks = refl;
           }),
       ap length chain-of,
     )

@@ -21,6 +21,8 @@ use Rattle.cards.specs.Claims.{Survives}
 use Rattle.cards.specs.Written.{cardOf}
 use Rattle.cards.specs.declared.station.Pass.{Pass}
 use Rattle.cards.specs.declared.station.Pass.the-variants.{Ntsc, Bloom, AutoGradient, Persistence, Lut, Curvature, ColorCorrection, Crt, Vignette, Scanlines}
+use Rattle.cards.specs.declared.station.Pending.{Pending}
+use Rattle.cards.specs.declared.station.Pending.the-variants.{Nothing}
 use Rattle.cards.specs.declared.station.Record.{Record}
 use Rattle.cards.specs.declared.station.Station.{Station}
 use Rattle.cards.specs.Laws.Good.{headed}
@@ -81,15 +83,16 @@ chain-of (r ∷ rs) done t h =
           (subst T (sym (q .others) ∙ ap (λ (ks : List ℕ). normalChain ks rs) (sym (map-append (λ (r : Record). kindOf (r .pass)) done (r ∷ [])))) tt),
     )
 
-abbrev stationWith : List Record → ℕ → Held → Station
-stationWith rs n held = record { records = rs; n = n; held = held }
+abbrev stationWith : List Record → ℕ → Held → Pending → Station
+stationWith rs n held pending = record { records = rs; n = n; held = held; pending = pending }
 
 pub survives : Survives
-survives s good typed none ten rest =
+survives s good typed none unasked ten rest =
     let chain = take (s .n) (s .records) in
     let parts = good-parts s good in
     let long : length chain ≡ s .n = length-take-le (s .n) (s .records) (omega (arith, parts .0)) in
     let whole : stationOf chain ≡ s =
-    ap (λ (k : ℕ). stationWith (chain ++ replicate (10 - k) unused) k nothing) long
-    ∙ ap₂ (λ (xs : List Record) (h : Held). stationWith xs (s .n) h) (ap (λ (xs : List Record). chain ++ xs) (sym rest) ∙ take-append-drop (s .n) (s .records)) (sym none) in
+    ap (λ (k : ℕ). stationWith (chain ++ replicate (10 - k) unused) k nothing Nothing) long
+    ∙ ap (λ (xs : List Record). stationWith xs (s .n) nothing Nothing) (ap (λ (xs : List Record). chain ++ xs) (sym rest) ∙ take-append-drop (s .n) (s .records))
+    ∙ ap₂ (λ (h : Held) (q : Pending). stationWith (s .records) (s .n) h q) (sym none) (sym unasked) in
     subst (λ (t : Station). openOf (cardOf t) ≡ accepted t) whole (chain-opens chain (omega (arith, parts .0)) (chain-of chain [] typed (parts .1)))

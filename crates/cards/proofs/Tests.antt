@@ -6,8 +6,8 @@ pub use borrow.Author.Tests.{eq-eqb, ne-eqb, le-leb, lt-leb, lt-ltb, le-ltb, not
 use mathlib.Core.List.{List}
 use lib.Dec.{T}
 use lib.Ieee.{Float}
-use Rattle.num.specs.Held.{Held, fineHeld, sameHeld}
-use Rattle.cards.specs.Normal.{settled, normalPass, normalChain}
+use Rattle.num.specs.Held.{Held, nothing, fineHeld, sameHeld}
+use Rattle.cards.specs.Normal.{settled, normalPass, normalChain, persists}
 use Rattle.cards.specs.declared.station.Pass.{Pass}
 use Rattle.cards.specs.declared.station.Record.{Record}
 
@@ -23,6 +23,10 @@ asked-fine held b c e h = sym e ∙ h
 
 pub asked-same : (held other : Held) (b c : Bool) → b ≡ sameHeld held other → b ≡ c → sameHeld held other ≡ c
 asked-same held other b c e h = sym e ∙ h
+
+pub asked-held : (held : Held) (rs : List Record) (b c : Bool) → b ≡ (sameHeld held nothing || persists rs) → b ≡ c
+    → (sameHeld held nothing || persists rs) ≡ c
+asked-held held rs b c e h = sym e ∙ h
 
 -- a test that holds, and one whose opposite holds
 pub held-true : (b : Bool) → T b → b ≡ true
@@ -65,4 +69,4 @@ or-last r a b e h = rw e h
 
 pub ruleset tests = (asked, and-both, and-no, and-not, last, failed, failed-first, pass-is, lt-ltb, le-ltb, not-true, not-false)
 
-pub ruleset goods = (asked-chain, asked-fine, asked-same, and-both, and-no, and-not, last, failed, or-held, or-last, le-leb, lt-leb, eq-eqb, ne-eqb, not-true, not-false)
+pub ruleset goods = (asked-chain, asked-fine, asked-same, asked-held, and-both, and-no, and-not, last, failed, or-held, or-last, le-leb, lt-leb, eq-eqb, ne-eqb, not-true, not-false)

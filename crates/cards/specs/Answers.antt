@@ -33,7 +33,7 @@ refusing s k = reply (refusal k) s
 
 -- ## What the functions answer
 
--- of an opening, a reset and a switch: acceptance reports nothing
+-- of an opening, and of chain's calls that report nothing
 abbrev pub reported : Answer → Report
 reported Accepted = acceptance []
 reported (Refused k) = refusal k

@@ -12,6 +12,7 @@ use Rattle.num.specs.Const.{c0·0}
 use Rattle.num.specs.Held.{nothing}
 use Rattle.cards.specs.Records.{kinds, recordAt}
 use Rattle.cards.specs.declared.station.Pass.the-variants.{Scanlines}
+use Rattle.cards.specs.declared.station.Pending.the-variants.{Nothing}
 use Rattle.cards.specs.declared.station.Record.{Record}
 use Rattle.cards.specs.declared.station.Station.{Station}
 use Rattle.cards.specs.declared.reader.Reading.{Reading}
@@ -21,7 +22,7 @@ abbrev pub unused : Record
 unused = record { on = false; pass = Scanlines c0·0 }
 
 abbrev pub stationOf : List Record → Station
-stationOf rs = record { records = rs ++ replicate (10 - length rs) unused; n = length rs; held = nothing }
+stationOf rs = record { records = rs ++ replicate (10 - length rs) unused; n = length rs; held = nothing; pending = Nothing }
 
 -- n records after those that are done, each of a kind not read before
 unfoldable pub recordsAt : ℕ → List Record → Reader (List Record)

@@ -11,6 +11,7 @@ use Rattle.cards.specs.Card.{unused, accepted, openOf, stoppedOf}
 use Rattle.cards.specs.Normal.{goodStation}
 use Rattle.cards.specs.Typed.{TypedChain}
 use Rattle.cards.specs.Written.{cardOf}
+use Rattle.cards.specs.declared.station.Pending.the-variants.{Nothing}
 use Rattle.cards.specs.declared.station.Station.{Station}
 
 -- reading a written card gives the same station
@@ -32,10 +33,10 @@ NormalTwice = (card : List ℕ) (s t : Station) → openOf card ≡ accepted s �
 abbrev pub OpensGood : Type 0
 OpensGood = (card : List ℕ) (s : Station) → openOf card ≡ accepted s → (goodStation s ≡ true) × (length (chainOf s) ≡ s .n)
 
--- a good station with no history, whose places past n are filled as at every opening, is read back from its card
+-- a good station that holds nothing and of which nothing is asked, whose places past n are filled as at every opening, is read back from its card
 abbrev pub Survives : Type 0
 Survives =
-    (s : Station) → goodStation s ≡ true → TypedChain (chainOf s) → s .held ≡ nothing → length (s .records) ≡ 10
+    (s : Station) → goodStation s ≡ true → TypedChain (chainOf s) → s .held ≡ nothing → s .pending ≡ Nothing → length (s .records) ≡ 10
     → drop (s .n) (s .records) ≡ replicate (10 - s .n) unused → openOf (cardOf s) ≡ accepted s
 
 -- reading stops in the card or at its end

@@ -9,10 +9,12 @@ use lib.Ieee.Scale.{finite}
 use Rattle.num.specs.Const.{c0·0, c0·01, c0·5, c0·95, c1·0, c4·0}
 use Rattle.num.specs.Held.{nothing, sameHeld, fineHeld}
 use Rattle.cards.specs.Passes.{kindOf}
-use Rattle.cards.specs.Records.{among, lastOf}
+use Rattle.cards.specs.Records.{kinds, among, lastOf}
 use Rattle.cards.specs.declared.station.Pass.{Pass}
 use Rattle.cards.specs.declared.station.Pass.the-variants.{Ntsc, Bloom, AutoGradient, Persistence, Lut}
 use Rattle.cards.specs.declared.station.Pass.the-variants.{Curvature, ColorCorrection, Crt, Vignette, Scanlines}
+use Rattle.cards.specs.declared.station.Pending.{Pending}
+use Rattle.cards.specs.declared.station.Pending.the-variants.{Nothing, Switch}
 use Rattle.cards.specs.declared.station.Record.{Record}
 use Rattle.cards.specs.declared.station.Station.{Station}
 
@@ -55,6 +57,12 @@ unfoldable pub persists : List Record → Bool
 persists [] = false
 persists (r ∷ rs) = (eqb (kindOf (r .pass)) 4 && r .on) || persists rs
 
+-- nothing is asked for, or a switch of a pass that is in the chain
+abbrev pub askable : Pending → List Record → Bool
+askable Nothing rs = true
+askable (Switch kind on) rs = among kind (kinds rs)
+
 unfoldable pub goodStation : Station → Bool
 goodStation s =
-    leb (s .n) 10 && normalChain [] (take (s .n) (s .records)) && fineHeld (s .held) && (sameHeld (s .held) nothing || persists (take (s .n) (s .records)))
+    let chain = take (s .n) (s .records) in
+    leb (s .n) 10 && normalChain [] chain && fineHeld (s .held) && (sameHeld (s .held) nothing || persists chain) && askable (s .pending) chain

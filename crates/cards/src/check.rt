@@ -1,10 +1,13 @@
 // What refusal 13 tests: whether a station is good.
 ghost use mathlib.Core.Path.{_≡_};
+ghost use mathlib.Core.Bool.{_||_};
 ghost use Prim.Native.Nat.{_<_, _≤_};
-ghost use Rattle.cards.specs.Normal.{settled, counted, normalPass, normalChain, persists, goodStation};
+ghost use Rattle.num.specs.Held.{nothing, sameHeld};
+ghost use Rattle.cards.specs.Normal.{settled, counted, normalPass, normalChain, persists, askable, goodStation};
 ghost use mathlib.Core.List.{[]};
 ghost use lib.ListN.{take};
 use super::station::Pass;
+use super::station::Pending;
 use super::station::Record;
 use super::station::Station;
 use super::station::holds;
@@ -137,6 +140,32 @@ pub(crate) fn remembers(records: [Record; 10], n: usize) -> bool
     false
 }
 
+// Whether the first n records may hold that: nothing, or frames where persistence is on.
+pub(crate) fn may_hold(records: [Record; 10], n: usize, held: Size) -> bool
+    requires { ⌜ n ≤ 10 ⌝ }
+    ensures { λ r. ⌜ r ≡ (sameHeld held nothing || persists (take n records)) ⌝ }
+{
+    let nothing = Size {
+        width: 0,
+        height: 0,
+    };
+    if same(held, nothing) {
+        return true;
+    }
+    remembers(records, n)
+}
+
+// Whether that may be asked of the first n records: nothing, or a switch of one of them.
+pub(crate) fn may_ask(records: [Record; 10], n: usize, pending: Pending) -> bool
+    requires { ⌜ n ≤ 10 ⌝ }
+    ensures { λ r. ⌜ r ≡ askable pending (take n records) ⌝ }
+{
+    if let Pending::Switch { kind, on: _ } = pending {
+        return holds(records, n, kind);
+    }
+    true
+}
+
 // Whether a station is good: what refusal 13 tests.
 pub fn is_good(station: Station) -> bool
     ensures { λ r. ⌜ r ≡ goodStation station ⌝ }
@@ -144,6 +173,7 @@ pub fn is_good(station: Station) -> bool
     let n = station.n;
     let records = station.records;
     let held = station.held;
+    let pending = station.pending;
     if 10 < n {
         return false;
     }
@@ -153,12 +183,8 @@ pub fn is_good(station: Station) -> bool
     if !fine(held) {
         return false;
     }
-    let nothing = Size {
-        width: 0,
-        height: 0,
-    };
-    if same(held, nothing) {
-        return true;
+    if !may_hold(records, n, held) {
+        return false;
     }
-    remembers(records, n)
+    may_ask(records, n, pending)
 }

@@ -23,6 +23,7 @@ use super::fields::real_refusal;
 use super::fields::within;
 use super::station::Answer;
 use super::station::Pass;
+use super::station::Pending;
 use super::station::Record;
 use super::station::Station;
 use super::station::holds;
@@ -314,6 +315,7 @@ pub(crate) fn refused(k: Refusal) -> Reading
             width: 0,
             height: 0,
         },
+        pending: Pending::Nothing,
     };
     Reading {
         answer: Answer::Refused(k.number),
@@ -393,6 +395,7 @@ pub(crate) fn read(card: &[u8]) -> Reading
             width: 0,
             height: 0,
         },
+        pending: Pending::Nothing,
     };
     Reading {
         answer: Answer::Accepted,

@@ -57,10 +57,17 @@ pub struct Record {
     pub pass: Pass,
 }
 
+// A switch that was asked for and is not committed yet: a kind and a position.
+pub enum Pending {
+    Nothing,
+    Switch { kind: u8, on: bool },
+}
+
 pub struct Station {
     pub records: [Record; 10],
     pub n: usize,
     pub held: Size,
+    pub pending: Pending,
 }
 
 // What a call answers: accepted, or a refusal's number.

@@ -170,7 +170,7 @@ comparable-alike s t e c =
     let rests = ap (λ (x : Fixed). x .2) e in
     let all : s .records ≡ t .records =
     sym (take-append-drop (s .n) (s .records)) ∙ ap₂ (λ (x y : List Record). x ++ y) chains rests ∙ take-append-drop (t .n) (t .records) in
-    λ i. record { records = all i; n = e i .1; held = t .held }
+    λ i. record { records = all i; n = e i .1; held = t .held; pending = c .same-pending i }
 
 -- ## Demand 3
 

@@ -11,7 +11,7 @@ use Rattle.chain.specs.Calls.{onFirst, turned, next, steppedPass, steppe
 use Rattle.chain.specs.Chain.{depthOf, depth}
 use Rattle.cards.specs.Normal.{settled, normalPass, normalChain, persists}
 use Rattle.cards.specs.Passes.{kindOf}
-use Rattle.cards.specs.Records.{among, lastOf}
+use Rattle.cards.specs.Records.{kinds, among, lastOf}
 use Rattle.cards.specs.declared.station.Pass.{Pass}
 use Rattle.cards.specs.declared.station.Record.{Record}
 use Rattle.num.specs.Laws.Bools.{both, or-second, or-map}
@@ -28,6 +28,10 @@ blank-depth = by-preset (λ p. depthOf (blank p) ≡ depthOf p) (λ preset stren
 
 abbrev pub shapes : List Record → List Pass
 shapes = map (λ r. blank (r .pass))
+
+pub kinds-are : (rs : List Record) → map kindOf (shapes rs) ≡ kinds rs
+kinds-are [] = refl
+kinds-are (r ∷ rs) = ap₂ (λ (k : ℕ) (ks : List ℕ). k ∷ ks) (blank-kind (r .pass)) (kinds-are rs)
 
 abbrev pub depths : List Pass → ℕ
 depths [] = 0

@@ -21,11 +21,11 @@ use Rattle.passes.specs.Plain.Persistence as Persistence
 use Rattle.chain.specs.Agree.{opened, SameCall, frames, none, more, before, point}
 use Rattle.cards.specs.Bits.{valueAt, fieldAt}
 use Rattle.cards.specs.Answers.{Report, refusal, acceptance}
-use Rattle.chain.specs.Calls.{stops, lacks, onFirst, presets, shownBy}
+use Rattle.chain.specs.Calls.{stops, lacks, askStops, commitStops, onFirst, presets, shownBy}
 use Rattle.chain.specs.Calls.{frameReplyBy}
 use Rattle.cards.specs.Card.{stationOf, headerAt, recordsAt, endsAt, endAt, stationAt, accepted, openOf}
 use Rattle.chain.specs.Chain.{wash, overBy, turnBy, depth, readsCurve}
-use Rattle.chain.specs.Machine.{Call, frame, reset, switch, step, State, Seen, call, after, run, saw}
+use Rattle.chain.specs.Machine.{Call, frame, reset, switch, ask, commit, step, State, Seen, call, after, run, saw}
 use Rattle.cards.specs.Normal.{settled, normalPass, normalChain, persists, goodStation}
 use Rattle.cards.specs.Passes.{passAt, persistenceAt, lutAt}
 use Rattle.cards.specs.Records.{recordAt}
@@ -87,14 +87,15 @@ pictures = map (λ s. s .picture)
 abbrev answers : List Seen → List Report
 answers = map (λ s. s .answer)
 
--- Before the point the pictures differ, from it on they agree: it can come no sooner. After a reset, and after persistence was switched off and on, the old
--- station shows what the new one does.
+-- Before the point the pictures differ, from it on they agree: it can come no sooner. After a reset, and after persistence was switched off, at once or asked
+-- for and committed, and on, the old station shows what the new one does.
 abbrev shows : List (List (List ℕ) × List (List ℕ))
 shows =
     (pictures (saw old (shared 7)), (0x6f6f6f ∷ []) ∷ (0x4b4b4b ∷ []) ∷ (0x5a5a5a ∷ []) ∷ (0xbdbdbd ∷ []) ∷ [])
     ∷ (pictures (saw new (shared 8)), (0 ∷ []) ∷ (0x242424 ∷ []) ∷ (0x5a5a5a ∷ []) ∷ (0xbdbdbd ∷ []) ∷ [])
     ∷ (pictures (saw old (reset ∷ shared 7)), [] ∷ (0 ∷ []) ∷ (0x242424 ∷ []) ∷ (0x5a5a5a ∷ []) ∷ (0xbdbdbd ∷ []) ∷ [])
     ∷ (pictures (saw old (switch 4 false ∷ switch 4 true ∷ shared 7)), [] ∷ [] ∷ (0 ∷ []) ∷ (0x242424 ∷ []) ∷ (0x5a5a5a ∷ []) ∷ (0xbdbdbd ∷ []) ∷ [])
+    ∷ (pictures (saw (run old (ask 4 false ∷ commit ∷ switch 4 true ∷ [])) (shared 7)), (0 ∷ []) ∷ (0x242424 ∷ []) ∷ (0x5a5a5a ∷ []) ∷ (0xbdbdbd ∷ []) ∷ [])
     ∷ []
 
 -- persistence 0.3 of depth 1, which clips a white frame over a white one, since its weights add up to more than 1
@@ -113,14 +114,18 @@ reports =
     ∷ (answers (saw (opened station (90 ∷ 91 ∷ 92 ∷ [])) own), acceptance (0 ∷ []) ∷ refusal 10 ∷ map (λ p. acceptance (p ∷ [])) (0 ∷ 1 ∷ 2 ∷ 3 ∷ 4 ∷ 5 ∷ 6 ∷ []))
     ∷ []
 
--- Of the shared list the point is the call after the second frame. A reset and a switching-off agree themselves; a switch to the present position, a switch of
--- another pass and a refused frame do not count; a list may end before its point; once persistence is off, the first call agrees.
+-- Of the shared list the point is the call after the second frame. A reset and a switching-off agree themselves, a committed one too; asking for it, a
+-- switch to the present position, a switch of another pass and a refused frame do not count; a list may end before its point; once persistence is off, the
+-- first call agrees.
 abbrev points : List (ℕ × ℕ)
 points =
     (point old (shared 7), 2)
     ∷ (point new (shared 8), 2)
     ∷ (point old (one 0 1 ∷ reset ∷ one 0 2 ∷ []), 1)
     ∷ (point old (one 0 1 ∷ switch 4 false ∷ one 0 2 ∷ []), 1)
+    ∷ (point old (one 0 1 ∷ ask 4 false ∷ commit ∷ one 0 2 ∷ []), 2)
+    ∷ (point old (ask 4 false ∷ one 0 1 ∷ one 0 2 ∷ commit ∷ []), 3)
+    ∷ (point old (ask 4 true ∷ commit ∷ one 0 1 ∷ one 0 2 ∷ one 0 3 ∷ []), 4)
     ∷ (point old (one 0 1 ∷ switch 4 true ∷ switch 5 true ∷ one 0 2 ∷ one 0 3 ∷ []), 4)
     ∷ (point old (one 0 1 ∷ short ∷ one 0 2 ∷ one 0 3 ∷ []), 3)
     ∷ (point old (one 0 1 ∷ short ∷ []), 2)
@@ -128,7 +133,7 @@ points =
     ∷ []
 
 pub runs-hold : Hold shows × Hold reports × Hold points
-unfolding point before saw run after call frameReplyBy unless shownBy stops lacks goodStation fineHeld sameHeld
+unfolding point before saw run after call frameReplyBy unless shownBy stops lacks askStops commitStops goodStation fineHeld sameHeld
     badSide settled normalPass normalChain persists depth readsCurve fold turnBy overBy wash onFirst presets ofBits ofInt add mul div
     lt clampOf cutOf rewrite Text.Pixel.unpack Text.Pixel.pack Text.Pixel.packClamped Text.Persistence.persistence
     Text.Persistence.decay Text.Persistence.total Text.Persistence.add Text.Persistence.mix converted sum
@@ -147,7 +152,7 @@ unfolding point before saw run after call frameReplyBy unless shownBy stops lack
     Text.Persistence.decay Text.Persistence.total Text.Persistence.add Text.Persistence.mix converted sum
     Text.Pixel.clip Text.Pixel.clips Text.Persistence.blend Persistence.copies Persistence.refilled Persistence.shifted
 agree =
-    machines-agree card other station station opens opens-other refl (90 ∷ 91 ∷ 92 ∷ []) (5 ∷ 6 ∷ []) own [] (record { same-switches = refl; same-presets = refl })
+    machines-agree card other station station opens opens-other refl (90 ∷ 91 ∷ 92 ∷ []) (5 ∷ 6 ∷ []) own [] (record { same-switches = refl; same-presets = refl; same-pending = refl })
     (shared 7) (shared 8) (more (same 0) (more (same 0x404040) (more (same 0x808080) (more (same 0xffffff) none))))
     (omega arith, (omega arith, (omega arith, (omega arith, tt))))
     (omega arith, (omega arith, (omega arith, (omega arith, tt))))

@@ -3,7 +3,7 @@
 use Prim.Native.Nat.{ℕ}
 use mathlib.Core.Path.{_≡_, refl, ap, ap₂, sym, _∙_}
 use mathlib.Core.Bool.{Bool, true, false, not, _&&_, _||_, cond}
-use mathlib.Core.List.{List, []}
+use mathlib.Core.List.{List, [], map}
 use borrow.Author.Tests.{eq-eqb}
 use lib.Dec.{eqb}
 use lib.ListN.{length, drop, length-map}
@@ -11,16 +11,20 @@ use lib.Seq.{take-at, drop-at}
 use Rattle.num.specs.Held.{Held, nothing, sameHeld, fineHeld}
 use Rattle.num.specs.Laws.Held.{same-held}
 use Rattle.cards.specs.Alike.{chainOf}
-use Rattle.chain.specs.Calls.{hold, rechain}
-use Rattle.chain.specs.Calls.{onFirst, turned, switched, stepped, stepLut}
+use Rattle.chain.specs.Calls.{hold, rechain, pend}
+use Rattle.chain.specs.Calls.{onFirst, turned, switched, committed, stepped, stepLut}
 use Rattle.cards.specs.Card.{accepted, openOf}
 use Rattle.chain.specs.Chain.{depth}
-use Rattle.cards.specs.Normal.{normalChain, persists, goodStation}
+use Rattle.cards.specs.Normal.{normalChain, persists, askable, goodStation}
+use Rattle.cards.specs.Passes.{kindOf}
+use Rattle.cards.specs.Records.{among}
 use Rattle.cards.specs.declared.station.Pass.{Pass}
+use Rattle.cards.specs.declared.station.Pending.{Pending}
+use Rattle.cards.specs.declared.station.Pending.the-variants.{Nothing, Switch}
 use Rattle.cards.specs.declared.station.Record.{Record}
 use Rattle.cards.specs.declared.station.Station.{Station}
 use Rattle.num.specs.Laws.Bools.{or-first-only, or-map}
-use Rattle.chain.proofs.Changed.{shapes, depths, depth-is, Gentle, turned-gentle, stepped-gentle, first-shapes, first-normal, first-persists}
+use Rattle.chain.proofs.Changed.{shapes, kinds-are, depths, depth-is, Gentle, turned-gentle, stepped-gentle, first-shapes, first-normal, first-persists}
 use Rattle.cards.specs.Laws.Good.{Good, good, is-good, nothing-fine, nothing-idle}
 use Rattle.chain.proofs.PassCases.{blank}
 use Rattle.cards.proofs.OpensGood.{opens-good}
@@ -56,6 +60,14 @@ after-fit s t f a =
 pub after-itself : (s : Station) → Fit s → After s s
 after-itself s f = record { sound = f .sound; same = refl }
 
+after-then : {s t u : Station} → After s t → After t u → After s u
+after-then a b = record { sound = b .sound; same = b .same ∙ a .same }
+
+-- the kinds of a chain decide what may be asked of it
+same-asks : (q : Pending) (rs qs : List Record) → shapes rs ≡ shapes qs → askable q rs ≡ askable q qs
+same-asks Nothing rs qs e = refl
+same-asks (Switch kind on) rs qs e = ap (among kind) (sym (kinds-are rs) ∙ ap (map kindOf) e ∙ kinds-are qs)
+
 -- ## A station that is changed
 
 module _ (s : Station) (fit : Fit s) where
@@ -66,9 +78,13 @@ module _ (s : Station) (fit : Fit s) where
   pub idle-held : persists (chainOf s) ≡ false → s .held ≡ nothing
   idle-held o = same-held (s .held) nothing (or-first-only (sameHeld (s .held) nothing) (persists (chainOf s)) o (g .idle))
 
+  -- in what is asked of it
+  pub after-pend : (q : Pending) → askable q (chainOf s) ≡ true → After s (pend q s)
+  after-pend q e = record { sound = is-good (pend q s) (record { few = g .few; normal = g .normal; fine = g .fine; idle = g .idle; asks = e }); same = refl }
+
   -- in what it holds
   pub after-hold : (held : Held) → fineHeld held ≡ true → sameHeld held nothing || persists (chainOf s) ≡ true → After s (hold held s)
-  after-hold held fine idle = record { sound = is-good (hold held s) (record { few = g .few; normal = g .normal; fine = fine; idle = idle }); same = refl }
+  after-hold held fine idle = record { sound = is-good (hold held s) (record { few = g .few; normal = g .normal; fine = fine; idle = idle; asks = g .asks }); same = refl }
 
   pub after-reset : After s (hold nothing s)
   after-reset = after-hold nothing nothing-fine (nothing-idle (persists (chainOf s)))
@@ -97,6 +113,7 @@ module _ (s : Station) (fit : Fit s) where
                 normal = ap (normalChain []) chain-is-rs ∙ first-normal kind f gentle [] (chainOf s) (g .normal);
                 fine = fine;
                 idle = ap (λ (l : List Record). sameHeld held nothing || persists l) chain-is-rs ∙ idle;
+                asks = same-asks (s .pending) (chainOf (rechain rs s)) (chainOf s) (ap shapes chain-is-rs ∙ alike) ∙ g .asks;
               });
           same =
               ap₂ (λ (l : List Pass) (rest : List Record). (l, s .n, rest)) (ap shapes chain-is-rs ∙ alike)
@@ -122,6 +139,12 @@ module _ (s : Station) (fit : Fit s) where
 
   pub after-step : After s (rechain (stepLut (chainOf s)) s)
   after-step = after-kept 5 stepped stepped-gentle (λ four r z. z)
+
+pub after-commit : (s : Station) → Fit s → (q : Pending) → After s (committed q s)
+after-commit s f Nothing = after-itself s f
+after-commit s f (Switch kind on) =
+    let a = after-switch s f kind on in
+    after-then a (after-pend (switched kind on s) (after-fit s (switched kind on s) f a) Nothing refl)
 
 -- as a station that is opened
 pub opened-fit : (card : List ℕ) (s : Station) → openOf card ≡ accepted s → Fit s

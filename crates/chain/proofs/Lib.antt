@@ -1,4 +1,4 @@
--- Laws that the proofs of several functions cite, and the theorems of specs/Claims.antt: Untouched; of specs/Agree.antt:
+-- Laws that the proofs of several functions cite, and the theorems of specs/Claims.antt: Untouched, Asking; of specs/Agree.antt:
 -- Agreement, Made; of specs/Numbers.antt: Numbers; of specs/StillPicture.antt: StillPicture; of specs/Marked.antt:
 -- Marked. Runs that are computed: Examples.
 pub mod PassCases
@@ -22,4 +22,5 @@ pub mod StillPicture
 pub mod Examples
 pub mod Marked
 pub mod Untouched
+pub mod Asking
 pub mod Numbers

@@ -3,7 +3,7 @@ use Prim.Native.Nat.{ℕ, _*_}
 use mathlib.Core.Path.{_≡_, refl, ap, ap₂, sym, subst, subst₂, _∙_}
 use mathlib.Core.List.{List, _∷_}
 use lib.ListN.{length, drop}
-use Rattle.chain.specs.Agree.{opened, Same, Lends, point, Comparable, Made, begin, by-apply, by-reset, by-set-enabled, by-cycle-lut}
+use Rattle.chain.specs.Agree.{opened, Same, Lends, point, Comparable, Made, begin, by-apply, by-reset, by-set-enabled, by-ask, by-commit, by-cycle-lut}
 use Rattle.chain.specs.Agree.{Made-is, Demand-3}
 use Rattle.chain.specs.Answers.{reportedFrame, called, cycled}
 use Rattle.chain.specs.Calls.{framed}
@@ -40,6 +40,8 @@ is-machine (by-apply {s = s} {w = w} {h = h} {history = history} {words′ = wor
     one-more (lending (framed (reportedFrame (r .answer)) (r .station) words′ past′)) (ap lending (a .replies)) (is-machine rest)
 is-machine (by-reset {s = s} r e rest) = one-more (still (s .history) (called r)) (ap (still (s .history)) e) (is-machine rest)
 is-machine (by-set-enabled {s = s} r e rest) = one-more (still (s .history) (called r)) (ap (still (s .history)) e) (is-machine rest)
+is-machine (by-ask {s = s} r e rest) = one-more (still (s .history) (called r)) (ap (still (s .history)) e) (is-machine rest)
+is-machine (by-commit {s = s} r e rest) = one-more (still (s .history) (called r)) (ap (still (s .history)) e) (is-machine rest)
 is-machine (by-cycle-lut {s = s} r e rest) = one-more (still (s .history) (cycled r)) (ap (still (s .history)) e) (is-machine rest)
 
 pub made-is : Made-is

@@ -16,15 +16,17 @@ use Rattle.num.specs.Held.{Held, nothing, sized, area}
 use Rattle.num.specs.Refusals.{unless}
 use Rattle.passes.specs.Flow.{Flow}
 use Rattle.passes.specs.Painted.{Painted, painted}
-use Rattle.chain.specs.Agree.{SameFirst, SameCall, frames, resets, switches-to, steps, lent, Lends}
+use Rattle.chain.specs.Agree.{SameFirst, SameCall, frames, resets, switches-to, asks, commits, steps, lent, Lends}
 use Rattle.cards.specs.Answers.{Report, acceptance, ok, reply, refusing}
-use Rattle.chain.specs.Agree.{on, takes, ends}
+use Rattle.chain.specs.Agree.{on, takes, switchesOff, ends}
 use Rattle.cards.specs.Alike.{chainOf}
-use Rattle.chain.specs.Calls.{hold, rechain, stops, lacks, onFirst, turned}
+use Rattle.chain.specs.Calls.{hold, rechain, pend, stops, lacks, waits, askStops, commitStops, onFirst, turned, committed}
 use Rattle.chain.specs.Calls.{presets, stepLut, Framed, refusingFrame, incoming, shown, shownBy, frameReplyBy}
 use Rattle.chain.specs.Chain.{chain, depth}
-use Rattle.chain.specs.Machine.{Call, frame, reset, switch, step, State, seen, Done, lend, still, call, after}
+use Rattle.chain.specs.Machine.{Call, frame, reset, switch, ask, commit, step, State, seen, Done, lend, still, call, after}
 use Rattle.cards.specs.Normal.{persists}
+use Rattle.cards.specs.declared.station.Pending.{Pending}
+use Rattle.cards.specs.declared.station.Pending.the-variants.{Nothing, Switch}
 use Rattle.cards.specs.declared.station.Record.{Record}
 use Rattle.cards.specs.declared.station.Station.{Station}
 use Rattle.chain.proofs.Apart.{Apart, quiet, keeping, depth-among, frame-length, past-length, chain-held, chain-near, chain-picture}
@@ -138,6 +140,14 @@ module _ (s : Station) (b : Held) (H G : List ℕ) (fit-s : Fit s) (fit-t : Fit 
   unfolding lacks
   lacks-same kind = rw (fit-s .sound, fit-t .sound)
 
+  ask-same : (kind : ℕ) → askStops s kind ≡ askStops (hold b s) kind
+  unfolding askStops
+  ask-same kind = ap (λ (k : ℕ). unless k (λ k. k) (cond (waits (s .pending)) 17 0)) (lacks-same kind)
+
+  commit-same : commitStops s ≡ commitStops (hold b s)
+  unfolding commitStops
+  commit-same = rw (fit-s .sound, fit-t .sound)
+
   stops-same : (w h u v m i : ℕ) (curve : List Float) → stops s w h u v m i curve ≡ stops (hold b s) w h u v m i curve
   unfolding stops
   stops-same w h u v m i curve = rw (fit-s .sound, fit-t .sound)
@@ -182,6 +192,14 @@ module _ (s : Station) (b : Held) (H G : List ℕ) (fit-s : Fit s) (fit-t : Fit 
   reply-step A n le zero reports false u = unseen A n _ _ _ H G refl (near-less (s .held) b H G n j le near)
   reply-step A n le (suc k) reports c u = unseen A n _ _ _ H G refl (near-less (s .held) b H G n j le near)
 
+  -- what is asked for, committed
+  commit-step : (A : Type 0) (n : ℕ) → n ≤ j → (k : ℕ) (q : Pending)
+      → Step A n (still H (unless k (refusing s) (reply (acceptance []) (committed q s))))
+      (still G (unless k (refusing (hold b s)) (reply (acceptance []) (committed q (hold b s)))))
+  commit-step A n le k Nothing = reply-step A n le k [] false s
+  commit-step A n le k (Switch kind position) =
+      reply-step A n le k [] (eqb kind 4 && not position) (pend Nothing (rechain (onFirst kind (turned position) (chainOf s)) s))
+
   abbrev Whole : Call → Type 0
   Whole c = ends this c ≡ false → depth (chainOf s) ≤ j
 
@@ -202,6 +220,9 @@ module _ (s : Station) (b : Held) (H G : List ℕ) (fit-s : Fit s) (fit-t : Fit 
   call-step (switches-to {kind} {on = position}) lH lG n le at =
       let turning = rechain (onFirst kind (turned position) (chainOf s)) s in
       rw (← (lacks-same kind)) (reply-step (Whole (switch kind position)) n at (lacks s kind) [] (eqb kind 4 && not position) turning)
+  call-step (asks {kind} {on = position}) lH lG n le at =
+      rw (← (ask-same kind)) (reply-step (Whole (ask kind position)) n at (askStops s kind) [] false (pend (Switch kind position) s))
+  call-step commits lH lG n le at = rw (← commit-same) (commit-step (Whole commit) n at (commitStops s) (s .pending))
   call-step steps lH lG n le at =
       let stepping = stepLut (chainOf s) in
       rw (← (lacks-same 5)) (reply-step (Whole step) n at (lacks s 5) (presets stepping) false (rechain stepping s))
@@ -214,18 +235,32 @@ module _ (s : Station) (b : Held) (H G : List ℕ) (fit-s : Fit s) (fit-t : Fit 
     persists-same : persists (chainOf (call c this .gives .station)) ≡ persists (chainOf (call d that .gives .station))
     persists-same = ap (λ (u : Station). persists (chainOf u)) (first-step .alike)
 
+    -- both switch persistence off, or none
+    off-same : switchesOff this c ≡ switchesOff that d
+    unfolding after
+    off-same = ap₂ (λ (a o : Bool). a && (persists (chainOf s) && not o)) (first-step .accepted) persists-same
+
+    -- and then nothing is held
+    off-held : switchesOff this c ≡ true → (call c this .gives .station .held ≡ nothing) × (call d that .gives .station .held ≡ nothing)
+    unfolding after
+    off-held z =
+        let off = not-true _ (both (persists (chainOf s)) _ (both (ok (call c this .gives .answer)) _ z .1) .1) in
+        (idle-held _ (call-fit c this fit-s) off, idle-held _ (call-fit d that fit-t) (sym persists-same ∙ off))
+
   ends-same : {c d : Call} → SameCall c d → lent c ≤ length H → lent c ≤ length G → ends this c ≡ ends that d
-  unfolding after
   ends-same (frames e f) lH lG = refl
   ends-same resets lH lG = refl
-  ends-same switches-to lH lG =
-      ap₂ (λ (a o : Bool). a && (persists (chainOf s) && not o)) (first-step switches-to lH lG .accepted) (persists-same switches-to lH lG)
+  ends-same switches-to lH lG = off-same switches-to lH lG
+  ends-same asks lH lG = refl
+  ends-same commits lH lG = off-same commits lH lG
   ends-same steps lH lG = refl
 
   takes-same : {c d : Call} → SameCall c d → lent c ≤ length H → lent c ≤ length G → takes this c ≡ takes that d
   takes-same (frames e f) lH lG = ap (λ (a : Bool). persists (chainOf s) && a) (first-step (frames e f) lH lG .accepted)
   takes-same resets lH lG = refl
   takes-same switches-to lH lG = refl
+  takes-same asks lH lG = refl
+  takes-same commits lH lG = refl
   takes-same steps lH lG = refl
 
   abbrev Forgotten : Call → Call → Type 0
@@ -233,14 +268,12 @@ module _ (s : Station) (b : Held) (H G : List ℕ) (fit-s : Fit s) (fit-t : Fit 
 
   -- a reset or a switching-off leaves nothing held
   ended : {c d : Call} → SameCall c d → lent c ≤ length H → lent c ≤ length G → 1 ≤ depth (chainOf s) → ends this c ≡ true → Forgotten c d
-  unfolding call after unless
+  unfolding call unless
   ended (frames e f) lH lG some z = false-true z
   ended resets lH lG some z = rw (lacks-none s fit-s some, lacks-none (hold b s) fit-t some) (refl, refl)
-  ended (switches-to {kind} {on = position}) lH lG some z =
-      let off = not-true _ (both (persists (chainOf s)) _ (both (ok (call (switch kind position) this .gives .answer)) _ z .1) .1) in (
-        idle-held _ (call-fit (switch kind position) this fit-s) off,
-        idle-held _ (call-fit (switch kind position) that fit-t) (sym (persists-same switches-to lH lG) ∙ off),
-      )
+  ended switches-to lH lG some z = off-held switches-to lH lG z
+  ended asks lH lG some z = false-true z
+  ended commits lH lG some z = off-held commits lH lG z
   ended steps lH lG some z = false-true z
 
 -- ## Stations that meet

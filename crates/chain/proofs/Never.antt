@@ -1,5 +1,5 @@
 -- Refusal 13 never comes, in an own list or in the shared list after it. Assumes nothing.
-use Prim.Native.Nat.{ℕ, _*_}
+use Prim.Native.Nat.{ℕ, zero, suc, _*_}
 use native.Mathlib.Omega.{arith}
 use mathlib.Core.Path.{_≡_}
 use mathlib.Core.Bool.{Bool, true, false, not, _&&_, _||_, cond}
@@ -7,17 +7,17 @@ use mathlib.Core.List.{List, [], _∷_}
 use lib.Dec.{ltb}
 use lib.Ieee.{Float}
 use lib.ListN.{take}
-use Rattle.num.specs.Refusals.{badSide}
+use Rattle.num.specs.Refusals.{badSide, unless}
 use Rattle.passes.specs.ColorCorrection.{goodCurve}
 use Rattle.chain.specs.Agree.{opened}
 use Rattle.cards.specs.Alike.{chainOf}
 use Rattle.cards.specs.Answers.{Report, refusal}
 use Rattle.cards.specs.Laws.Answers.{accepted-not}
-use Rattle.chain.specs.Calls.{floatRoom, stops, lacks}
+use Rattle.chain.specs.Calls.{floatRoom, stops, lacks, waits, askStops, commitStops}
 use Rattle.chain.specs.Calls.{shownBy, frameReplyBy}
 use Rattle.cards.specs.Card.{accepted, openOf}
 use Rattle.chain.specs.Chain.{depth, readsCurve}
-use Rattle.chain.specs.Machine.{Call, frame, reset, switch, step, State, Seen, call, after, run, saw}
+use Rattle.chain.specs.Machine.{Call, frame, reset, switch, ask, commit, step, State, Seen, call, after, run, saw}
 use Rattle.cards.specs.Normal.{goodStation}
 use Rattle.cards.specs.Records.{kinds, among}
 use Rattle.cards.specs.declared.station.Station.{Station}
@@ -42,6 +42,18 @@ stops-not s w h u v m i curve e =
     (cond-not (ltb m (floatRoom w h) || ltb i (h * w)) 11 _ (omega arith)
     (cond-not (readsCurve (chainOf s) && not (goodCurve curve)) 16 0 (omega arith) (omega arith))))))
 
+ask-not : (s : Station) (kind : ℕ) → goodStation s ≡ true → askStops s kind ≡ 13 → ⊥
+unfolding askStops unless
+ask-not s kind e = go (lacks s kind) (lacks-not s kind e)
+  where
+    go : (k : ℕ) → (k ≡ 13 → ⊥) → unless k (λ k. k) (cond (waits (s .pending)) 17 0) ≡ 13 → ⊥
+    go zero n = cond-not (waits (s .pending)) 17 0 (omega arith) (omega arith)
+    go (suc k) n = n
+
+commit-not : (s : Station) → goodStation s ≡ true → commitStops s ≡ 13 → ⊥
+unfolding commitStops
+commit-not s e = rw e (cond-not (waits (s .pending)) 0 18 (omega arith) (omega arith))
+
 refusal-not : (k : ℕ) → (k ≡ 13 → ⊥) → Path Report (refusal k) (refusal 13) → ⊥
 refusal-not k q e = q (cc)
 
@@ -51,9 +63,11 @@ unfolding call frameReplyBy shownBy
 call-not (frame w h words l m i curve) s e =
     by-stop (λ r. r .answer ≡ refusal 13 → ⊥) _ (s .station) words (take l (s .history)) _
     (refusal-not _ (stops-not (s .station) w h _ _ m i curve e)) (λ z. accepted-not _ 13)
-call-not reset s e = by-lack (λ r. r .answer ≡ refusal 13 → ⊥) _ (s .station) _ (refusal-not _ (lacks-not (s .station) 4 e)) (accepted-not [] 13)
-call-not (switch kind on) s e = by-lack (λ r. r .answer ≡ refusal 13 → ⊥) _ (s .station) _ (refusal-not _ (lacks-not (s .station) kind e)) (accepted-not [] 13)
-call-not step s e = by-lack (λ r. r .answer ≡ refusal 13 → ⊥) _ (s .station) _ (refusal-not _ (lacks-not (s .station) 5 e)) (accepted-not _ 13)
+call-not reset s e = by-lack (λ r. r .answer ≡ refusal 13 → ⊥) _ (s .station) _ (refusal-not _ (lacks-not (s .station) 4 e)) (λ z. accepted-not [] 13)
+call-not (switch kind on) s e = by-lack (λ r. r .answer ≡ refusal 13 → ⊥) _ (s .station) _ (refusal-not _ (lacks-not (s .station) kind e)) (λ z. accepted-not [] 13)
+call-not (ask kind on) s e = by-lack (λ r. r .answer ≡ refusal 13 → ⊥) _ (s .station) _ (refusal-not _ (ask-not (s .station) kind e)) (λ z. accepted-not [] 13)
+call-not commit s e = by-lack (λ r. r .answer ≡ refusal 13 → ⊥) _ (s .station) _ (refusal-not _ (commit-not (s .station) e)) (λ z. accepted-not [] 13)
+call-not step s e = by-lack (λ r. r .answer ≡ refusal 13 → ⊥) _ (s .station) _ (refusal-not _ (lacks-not (s .station) 5 e)) (λ z. accepted-not _ 13)
 
 -- no answer of a list is refusal 13
 abbrev pub No-13 : List Seen → Type 0

@@ -7,7 +7,7 @@ use lib.ListN.{length, take}
 use lib.Seq.{length-front}
 use Rattle.cards.specs.Alike.{chainOf}
 use Rattle.chain.specs.Calls.{incoming, shownBy, frameReply, frameReplyBy}
-use Rattle.chain.specs.Machine.{Call, frame, reset, switch, step, State, call, after, run}
+use Rattle.chain.specs.Machine.{Call, frame, reset, switch, ask, commit, step, State, call, after, run}
 use Rattle.cards.specs.declared.station.Station.{Station}
 use Rattle.chain.proofs.Apart.{past-length}
 use Rattle.chain.proofs.Goes.{goes}
@@ -30,6 +30,8 @@ call-length (frame w h words l m i curve) s f =
     length-front (s .history) (frameReply w h (s .station) words past m i curve .past) l (frame-past w h (s .station) words past m i curve f)
 call-length reset s f = refl
 call-length (switch kind on) s f = refl
+call-length (ask kind on) s f = refl
+call-length commit s f = refl
 call-length step s f = refl
 
 pub run-length : (s : State) (cs : List Call) → Fit (s .station) → length (run s cs .history) ≡ length (s .history)

@@ -10,11 +10,13 @@ use Rattle.num.specs.Refusals.{unless}
 use Rattle.num.specs.Laws.Refusals.{accepts}
 use Rattle.cards.specs.Alike.{chainOf}
 use Rattle.cards.specs.Answers.{refusal, acceptance, Reply, reply, refusing}
-use Rattle.chain.specs.Calls.{hold, rechain, lacks, onFirst, ofFirst, heldAfter, turned, switched, switchReply, stepped, steppedPass, presetOf, presets, stepLut, stepReply}
+use Rattle.chain.specs.Calls.{hold, rechain, pend, lacks, waits, askStops, commitStops, commitReply, onFirst, ofFirst, heldAfter, turned, switched, switchReply, stepped, steppedPass, presetOf, presets, stepLut, stepReply}
 use Rattle.chain.specs.Lent.{First, Stands}
-use Rattle.cards.specs.Normal.{goodStation}
+use Rattle.cards.specs.Normal.{askable, goodStation}
 use Rattle.cards.specs.Records.{kinds, among}
 use Rattle.cards.specs.declared.station.Pass.{Pass}
+use Rattle.cards.specs.declared.station.Pending.{Pending}
+use Rattle.cards.specs.declared.station.Pending.the-variants.{Nothing, Switch}
 use Rattle.cards.specs.declared.station.Record.{Record}
 use Rattle.cards.specs.declared.station.Station.{Station}
 use Rattle.chain.proofs.First.{first-set, one-preset}
@@ -35,11 +37,12 @@ present s kind e = by (goodStation s) (among kind (kinds (chainOf s))) refl refl
 -- ## A record changed in its place
 
 abbrev put : ℕ → Record → Held → Station → Station
-put i r held s = record { records = set (s .records) i r; n = s .n; held = held }
+put i r held s = record { records = set (s .records) i r; n = s .n; held = held; pending = s .pending }
 
 module _ (kind : ℕ) (s : Station) (i : ℕ) (t : First kind (s .n) (s .records) i) (room : s .n ≤ length (s .records)) (none : lacks s kind ≡ 0) where
   placed : (f : Record → Record) (held : Held) → put i (f (getD (s .records) i past)) held s ≡ hold held (rechain (onFirst kind f (chainOf s)) s)
-  placed f held = ap (λ (rs : List Record). record { records = rs; n = s .n; held = held }) (sym (first-set kind (s .n) f (s .records) i past t room))
+  placed f held =
+      ap (λ (rs : List Record). record { records = rs; n = s .n; held = held; pending = s .pending }) (sym (first-set kind (s .n) f (s .records) i past t room))
 
   -- its switch
   pub switches : (on : Bool) {held : Held} → held ≡ heldAfter kind on (s .held)
@@ -48,6 +51,45 @@ module _ (kind : ℕ) (s : Station) (i : ℕ) (t : First kind (s .n) (s .records
       ap (λ (h : Held). reply (acceptance []) (put i (turned on (getD (s .records) i past)) h s)) e
       ∙ ap (reply (acceptance [])) (placed (turned on) (heldAfter kind on (s .held)))
       ∙ accepts (lacks s kind) (refusing s) (reply (acceptance []) (switched kind on s)) refl none
+
+-- ## A switch that is asked for
+
+pub ask-goes : (s : Station) (kind : ℕ) → askStops s kind ≡ 0 → lacks s kind ≡ 0
+unfolding askStops unless
+ask-goes s kind = go (lacks s kind)
+  where
+    go : (k : ℕ) → unless k (λ k. k) (cond (waits (s .pending)) 17 0) ≡ 0 → k ≡ 0
+    go zero e = refl
+    go (suc k) e = e
+
+pub none-asked : (s : Station) (kind : ℕ) → lacks s kind ≡ 0 → s .pending ≡ Nothing → 0 ≡ askStops s kind
+unfolding askStops unless
+none-asked s kind none e = rw (none, e)
+
+pub one-asked : (s : Station) (kind : ℕ) {k : ℕ} {on : Bool} → lacks s kind ≡ 0 → s .pending ≡ Switch k on → 17 ≡ askStops s kind
+unfolding askStops unless
+one-asked s kind none e = rw (none, e)
+
+-- the kind that is asked for is there
+pub asked-there : (s : Station) {kind : ℕ} {on : Bool} → goodStation s ≡ true → s .pending ≡ Switch kind on → lacks s kind ≡ 0
+unfolding lacks
+asked-there s {kind} g e = let there = ap (λ (q : Pending). askable q (chainOf s)) (sym e) ∙ good s g .asks in rw (g, there)
+
+-- the switch that is asked for, made
+pub commits : (s : Station) {kind : ℕ} {on : Bool} {r : Reply} → goodStation s ≡ true → s .pending ≡ Switch kind on → r ≡ switchReply kind on s
+    → reply (r .answer) (pend Nothing (r .station)) ≡ commitReply s
+unfolding commitStops unless
+commits s {kind} {on} g e p =
+    ap (λ (r : Reply). reply (r .answer) (pend Nothing (r .station))) (p ∙ sym (accepts (lacks s kind) (refusing s) (reply (acceptance []) (switched kind on s)) refl (asked-there s g e)))
+    ∙ rw (g, e)
+
+pub none-committed : (s : Station) → goodStation s ≡ true → s .pending ≡ Nothing → refusing s 18 ≡ commitReply s
+unfolding commitStops unless
+none-committed s g e = rw (g, e)
+
+pub bad-committed : (s : Station) → goodStation s ≡ false → refusing s 13 ≡ commitReply s
+unfolding commitStops unless
+bad-committed s g = rw g
 
 -- what is asked of the record of that kind
 pub tells : (kind : ℕ) (s : Station) {r : Record} → Stands kind (chainOf s) r → lacks s kind ≡ 0 → (f : Record → List ℕ) {ns : List ℕ} → ns ≡ f r

@@ -16,15 +16,17 @@ use Rattle.chain.specs.Calls.{hold}
 use Rattle.chain.specs.Calls.{Framed, framed, refusingFrame}
 use Rattle.chain.specs.Calls.{incoming, shown, shownBy, frameReplyBy}
 use Rattle.chain.specs.Chain.{chain, depth}
-use Rattle.chain.specs.Machine.{Call, frame, reset, switch, step, State, call, after, run}
+use Rattle.chain.specs.Machine.{Call, frame, reset, switch, ask, commit, step, State, call, after, run}
 use Rattle.cards.specs.Normal.{persists}
+use Rattle.cards.specs.declared.station.Pending.the-variants.{Switch}
 use Rattle.cards.specs.declared.station.Station.{Station}
 use Rattle.chain.proofs.Apart.{Apart, quiet, keeping, apart, chain-held}
 use Rattle.num.specs.Laws.Bools.{or-second}
 use Rattle.cards.specs.Laws.Good.{good}
 use Rattle.chain.proofs.Goes.{goes}
 use Rattle.chain.proofs.Kept.{Fits}
-use Rattle.chain.proofs.Fit.{fixed, Fit, After, after-itself, after-hold, after-reset, after-switch, after-step, after-fit}
+use Rattle.chain.proofs.Replies.{present, ask-goes}
+use Rattle.chain.proofs.Fit.{fixed, Fit, After, after-itself, after-hold, after-pend, after-reset, after-switch, after-commit, after-step, after-fit}
 
 -- ## An accepted frame
 
@@ -51,9 +53,9 @@ after-frame w h s words past curve f fine = go (good-apart s f)
 -- ## Each call
 
 -- refused with k, or accepted
-pub by-lack : (P : Reply → Type 0) (k : ℕ) (s : Station) (r : Reply) → P (reply (refusal k) s) → P r → P (unless k (refusing s) r)
+pub by-lack : (P : Reply → Type 0) (k : ℕ) (s : Station) (r : Reply) → P (reply (refusal k) s) → (k ≡ 0 → P r) → P (unless k (refusing s) r)
 unfolding unless
-by-lack P zero s r p q = q
+by-lack P zero s r p q = q refl
 by-lack P (suc k) s r p q = p
 
 pub by-stop : (P : Framed → Type 0) (k : ℕ) (s : Station) (words past : List ℕ) (r : Framed) → P (framed (refusal k) s words past) → (k ≡ 0 → P r)
@@ -70,10 +72,15 @@ call-after (frame w h words l m i curve) s f =
     (λ z.
     let g = goes (s .station) w h (length words) (length past) m i curve z in
     after-frame w h (s .station) words past curve f (fine-sized w h (g .wide .0) (g .wide .1) (g .high .0) (g .high .1)))
-call-after reset s f = by-lack (λ r. After (s .station) (r .station)) _ (s .station) _ (after-itself (s .station) f) (after-reset (s .station) f)
+call-after reset s f = by-lack (λ r. After (s .station) (r .station)) _ (s .station) _ (after-itself (s .station) f) (λ z. after-reset (s .station) f)
 call-after (switch kind on) s f =
-    by-lack (λ r. After (s .station) (r .station)) _ (s .station) _ (after-itself (s .station) f) (after-switch (s .station) f kind on)
-call-after step s f = by-lack (λ r. After (s .station) (r .station)) _ (s .station) _ (after-itself (s .station) f) (after-step (s .station) f)
+    by-lack (λ r. After (s .station) (r .station)) _ (s .station) _ (after-itself (s .station) f) (λ z. after-switch (s .station) f kind on)
+call-after (ask kind on) s f =
+    by-lack (λ r. After (s .station) (r .station)) _ (s .station) _ (after-itself (s .station) f)
+    (λ z. after-pend (s .station) f (Switch kind on) (present (s .station) kind (ask-goes (s .station) kind z) .1))
+call-after commit s f =
+    by-lack (λ r. After (s .station) (r .station)) _ (s .station) _ (after-itself (s .station) f) (λ z. after-commit (s .station) f (s .station .pending))
+call-after step s f = by-lack (λ r. After (s .station) (r .station)) _ (s .station) _ (after-itself (s .station) f) (λ z. after-step (s .station) f)
 
 pub call-fit : (c : Call) (s : State) → Fit (s .station) → Fit (after c s .station)
 unfolding after

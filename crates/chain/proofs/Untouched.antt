@@ -16,11 +16,11 @@ use Rattle.passes.specs.Laws.Persistence.{refilled-rest, shifted-rest}
 use Rattle.cards.specs.Alike.{chainOf}
 use Rattle.cards.specs.Answers.{Report, refusal, acceptance, reply, refusing}
 use Rattle.cards.specs.Laws.Answers.{accepted-not}
-use Rattle.chain.specs.Calls.{stops, lacks, Framed, framed}
+use Rattle.chain.specs.Calls.{stops, lacks, askStops, commitStops, Framed, framed}
 use Rattle.chain.specs.Calls.{refusingFrame, incoming, shown, shownBy, frameReplyBy}
 use Rattle.chain.specs.Chain.{chain, depth}
 use Rattle.chain.specs.Claims.{Refused-keeps, Untouched}
-use Rattle.chain.specs.Machine.{Call, frame, reset, switch, step, State, call, after}
+use Rattle.chain.specs.Machine.{Call, frame, reset, switch, ask, commit, step, State, call, after}
 use Rattle.cards.specs.declared.station.Record.{Record}
 use Rattle.cards.specs.declared.station.Station.{Station}
 use Rattle.chain.proofs.Apart.{repaint, Apart, quiet, keeping, apart, frame-length}
@@ -50,6 +50,9 @@ call-keeps (frame w h words l m i curve) s k e =
     ∙ ap (λ (l : List ℕ). record { station = s .station; history = l }) (take-append-drop l (s .history))
 call-keeps reset s k e = ap (λ (t : Station). record { station = t; history = s .history }) (reply-keeps (lacks (s .station) 4) (s .station) _ _ k e)
 call-keeps (switch kind on) s k e = ap (λ (t : Station). record { station = t; history = s .history }) (reply-keeps (lacks (s .station) kind) (s .station) _ _ k e)
+call-keeps (ask kind on) s k e =
+    ap (λ (t : Station). record { station = t; history = s .history }) (reply-keeps (askStops (s .station) kind) (s .station) _ _ k e)
+call-keeps commit s k e = ap (λ (t : Station). record { station = t; history = s .history }) (reply-keeps (commitStops (s .station)) (s .station) _ _ k e)
 call-keeps step s k e = ap (λ (t : Station). record { station = t; history = s .history }) (reply-keeps (lacks (s .station) 5) (s .station) _ _ k e)
 
 pub refused-keeps : Refused-keeps

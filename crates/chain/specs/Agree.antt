@@ -9,10 +9,10 @@ use lib.Ieee.{Float}
 use Rattle.cards.specs.Alike.{chainOf, switches}
 use Rattle.chain.specs.Answers.{reportedFrame, called, cycled, Applies}
 use Rattle.cards.specs.Answers.{Report, refusal, acceptance, ok, reported}
-use Rattle.chain.specs.Calls.{resetReply, switchReply, stepReply, presets}
+use Rattle.chain.specs.Calls.{resetReply, switchReply, askReply, commitReply, stepReply, presets}
 use Rattle.cards.specs.Card.{accepted, openOf}
 use Rattle.chain.specs.Chain.{depth}
-use Rattle.chain.specs.Machine.{Call, frame, reset, switch, step, State, Seen, seen, picture, still, call, after, run, saw}
+use Rattle.chain.specs.Machine.{Call, frame, reset, switch, ask, commit, step, State, Seen, seen, picture, still, call, after, run, saw}
 use Rattle.cards.specs.Normal.{persists}
 use Rattle.cards.specs.Written.{cardOf}
 use Rattle.chain.specs.declared.pipeline.Applied.{Applied}
@@ -38,6 +38,8 @@ pub data SameCall : Call → Call → Type 0 where
       → SameCall (frame w h words lent floats ints curve) (frame w h other lent floats ints curve′)
   resets : SameCall reset reset
   switches-to : {kind : ℕ} {on : Bool} → SameCall (switch kind on) (switch kind on)
+  asks : {kind : ℕ} {on : Bool} → SameCall (ask kind on) (ask kind on)
+  commits : SameCall commit commit
   steps : SameCall step step
 
 -- one shared list, as either station gets it
@@ -50,6 +52,8 @@ abbrev pub lent : Call → ℕ
 lent (frame w h words history floats ints curve) = history
 lent reset = 0
 lent (switch kind on) = 0
+lent (ask kind on) = 0
+lent commit = 0
 lent step = 0
 
 -- each call lends no more words than an own buffer of n words has
@@ -68,13 +72,21 @@ abbrev pub takes : State → Call → Bool
 takes s (frame w h words history floats ints curve) = on s && ok (call (frame w h words history floats ints curve) s .gives .answer)
 takes s reset = false
 takes s (switch kind position) = false
+takes s (ask kind position) = false
+takes s commit = false
 takes s step = false
 
--- a reset, or a switching-off: an accepted switch of persistence from on to off
+-- an accepted call that switches persistence from on to off
+abbrev pub switchesOff : State → Call → Bool
+switchesOff s c = ok (call c s .gives .answer) && (on s && not (on (after c s)))
+
+-- a reset, or a switching-off, at once or committed
 abbrev pub ends : State → Call → Bool
 ends s (frame w h words history floats ints curve) = false
 ends s reset = true
-ends s (switch kind position) = ok (call (switch kind position) s .gives .answer) && (on s && not (on (after (switch kind position) s)))
+ends s (switch kind position) = switchesOff s (switch kind position)
+ends s (ask kind position) = false
+ends s commit = switchesOff s commit
 ends s step = false
 
 -- how many calls come before the point, while k frames have still to be taken
@@ -89,10 +101,11 @@ point s cs = cond (on s) (before (depth (chainOf (s .station))) s cs) 0
 
 -- ## The agreement of two plain machines
 
--- comparable after the own lists, beside cards that normalise alike: the switch of each pass and the preset, if there is one, are equal
+-- comparable after the own lists, beside cards that normalise alike: the switch of each pass, the preset, if there is one, and what is asked for are equal
 pub record Comparable (s t : Station) : Type 0 where
   pub same-switches : switches s ≡ switches t
   pub same-presets : presets (chainOf s) ≡ presets (chainOf t)
+  pub same-pending : s .pending ≡ t .pending
 
 abbrev pub Machines-agree : Type 0
 Machines-agree =
@@ -128,6 +141,13 @@ pub data Made : (s : State) → List Call → (gave : List Seen) → (t : State)
       → called r ≡ switchReply kind position (s .station)
       → Made (record { station = r .station; history = s .history }) cs gave t
       → Made s (switch kind position ∷ cs) (still (s .history) (called r) .gives ∷ gave) t
+  by-ask : {s t : State} {cs : List Call} {gave : List Seen} {kind : ℕ} {position : Bool} (r : Called)
+      → called r ≡ askReply kind position (s .station)
+      → Made (record { station = r .station; history = s .history }) cs gave t
+      → Made s (ask kind position ∷ cs) (still (s .history) (called r) .gives ∷ gave) t
+  by-commit : {s t : State} {cs : List Call} {gave : List Seen} (r : Called) → called r ≡ commitReply (s .station)
+      → Made (record { station = r .station; history = s .history }) cs gave t
+      → Made s (commit ∷ cs) (still (s .history) (called r) .gives ∷ gave) t
   by-cycle-lut : {s t : State} {cs : List Call} {gave : List Seen} (r : Cycled) → cycled r ≡ stepReply (s .station)
       → Made (record { station = r .station; history = s .history }) cs gave t
       → Made s (step ∷ cs) (still (s .history) (cycled r) .gives ∷ gave) t

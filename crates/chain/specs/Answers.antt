@@ -7,14 +7,14 @@ use lib.Ieee.{Float}
 use Rattle.cards.specs.Answers.{Report, refusal, acceptance, Reply, reply, reported}
 use Rattle.chain.specs.Calls.{floatRoom, framed, frameReply}
 use Rattle.chain.specs.declared.pipeline.Applied.{Applied}
-use Rattle.chain.specs.declared.pipeline.Asked.{Asked}
-use Rattle.chain.specs.declared.pipeline.Asked.the-variants as Asked
 use Rattle.chain.specs.declared.pipeline.Called.{Called}
 use Rattle.chain.specs.declared.pipeline.Cycled.{Cycled}
 use Rattle.chain.specs.declared.pipeline.Cycle.{Cycle}
 use Rattle.chain.specs.declared.pipeline.Cycle.the-variants as Cycle
 use Rattle.chain.specs.declared.pipeline.FrameAnswer.{FrameAnswer}
 use Rattle.chain.specs.declared.pipeline.FrameAnswer.the-variants as Frame
+use Rattle.chain.specs.declared.pipeline.Question.{Question}
+use Rattle.chain.specs.declared.pipeline.Question.the-variants as Question
 use Rattle.cards.specs.declared.station.Station.{Station}
 
 -- of a frame: acceptance reports how many channels were clipped
@@ -28,9 +28,9 @@ reportedStep (Cycle.Preset p) = acceptance (p ∷ [])
 reportedStep (Cycle.Refused k) = refusal k
 
 -- of a question: acceptance reports its number
-abbrev pub asked : Asked → Report
-asked (Asked.Number n) = acceptance (n ∷ [])
-asked (Asked.Refused k) = refusal k
+abbrev pub reportedQuestion : Question → Report
+reportedQuestion (Question.Number n) = acceptance (n ∷ [])
+reportedQuestion (Question.Refused k) = refusal k
 
 abbrev pub called : Called → Reply
 called r = reply (reported (r .answer)) (r .station)

@@ -1,6 +1,6 @@
 -- The calls on a station: what each refuses, what it answers, and what it leaves. Assumes nothing.
 use Prim.Native.Nat.{ℕ, _+_, _*_}
-use mathlib.Core.Bool.{Bool, not, _&&_, _||_, cond}
+use mathlib.Core.Bool.{Bool, true, false, not, _&&_, _||_, cond}
 use mathlib.Core.List.{List, [], _∷_, _++_}
 use lib.Dec.{eqb, ltb}
 use lib.Ieee.{Float}
@@ -19,6 +19,8 @@ use Rattle.cards.specs.Passes.{kindOf}
 use Rattle.cards.specs.Records.{kinds, among}
 use Rattle.cards.specs.declared.station.Pass.{Pass}
 use Rattle.cards.specs.declared.station.Pass.the-variants.{Ntsc, Bloom, AutoGradient, Persistence, Lut, Curvature, ColorCorrection, Crt, Vignette, Scanlines}
+use Rattle.cards.specs.declared.station.Pending.{Pending}
+use Rattle.cards.specs.declared.station.Pending.the-variants.{Nothing, Switch}
 use Rattle.cards.specs.declared.station.Record.{Record}
 use Rattle.cards.specs.declared.station.Station.{Station}
 
@@ -26,11 +28,15 @@ use Rattle.cards.specs.declared.station.Station.{Station}
 
 -- in what its history holds
 abbrev pub hold : Held → Station → Station
-hold held s = record { records = s .records; n = s .n; held = held }
+hold held s = record { records = s .records; n = s .n; held = held; pending = s .pending }
 
 -- in the records of its chain; those past n stay
 abbrev pub rechain : List Record → Station → Station
-rechain rs s = record { records = rs ++ drop (s .n) (s .records); n = s .n; held = s .held }
+rechain rs s = record { records = rs ++ drop (s .n) (s .records); n = s .n; held = s .held; pending = s .pending }
+
+-- in what is asked of it
+abbrev pub pend : Pending → Station → Station
+pend pending s = record { records = s .records; n = s .n; held = s .held; pending = pending }
 
 -- ## Refusals: a number of document 01's table, 0 for none
 
@@ -52,7 +58,20 @@ stops s w h words history floats ints curve =
 unfoldable pub lacks : Station → ℕ → ℕ
 lacks s kind = cond (not (goodStation s)) 13 (cond (among kind (kinds (chainOf s))) 0 12)
 
--- ## Reset, switch, preset step
+-- whether a switch is asked for
+abbrev pub waits : Pending → Bool
+waits Nothing = false
+waits (Switch kind on) = true
+
+-- of asking for a switch of the pass of that kind
+unfoldable pub askStops : Station → ℕ → ℕ
+askStops s kind = unless (lacks s kind) (λ k. k) (cond (waits (s .pending)) 17 0)
+
+-- of committing it
+unfoldable pub commitStops : Station → ℕ
+commitStops s = cond (not (goodStation s)) 13 (cond (waits (s .pending)) 0 18)
+
+-- ## Reset, switch, asking and committing, preset step
 
 -- the first record of that kind, changed by f
 unfoldable pub onFirst : ℕ → (Record → Record) → List Record → List Record
@@ -74,6 +93,18 @@ switched kind on s = hold (heldAfter kind on (s .held)) (rechain (onFirst kind (
 
 abbrev pub switchReply : ℕ → Bool → Station → Reply
 switchReply kind on s = unless (lacks s kind) (refusing s) (reply (acceptance []) (switched kind on s))
+
+-- asking records a switch and changes nothing else: the present position, too
+abbrev pub askReply : ℕ → Bool → Station → Reply
+askReply kind on s = unless (askStops s kind) (refusing s) (reply (acceptance []) (pend (Switch kind on) s))
+
+-- what is asked for, made as any switch is; then nothing is asked for
+abbrev pub committed : Pending → Station → Station
+committed Nothing s = s
+committed (Switch kind on) s = pend Nothing (switched kind on s)
+
+abbrev pub commitReply : Station → Reply
+commitReply s = unless (commitStops s) (refusing s) (reply (acceptance []) (committed (s .pending) s))
 
 -- from 0 to 6, and back to 0
 abbrev pub next : ℕ → ℕ

@@ -1,5 +1,5 @@
--- The cases of the refusals of the calls, of what a frame reports, of frames with a curve, and of turned frames. Each list pairs what a definition gives with
--- what it should give, and one proof by computation holds the whole list. Assumes nothing.
+-- The cases of the refusals of the calls, of what a frame reports, of frames with a curve, of turned frames, and of switches that are asked for. Each list
+-- pairs what a definition gives with what it should give, and one proof by computation holds the whole list. Assumes nothing.
 use Prim.Native.Nat.{ℕ, _+_, _*_}
 use mathlib.Core.Bool.{Bool, true, false}
 use mathlib.Core.List.{List, [], _∷_, map}
@@ -20,11 +20,13 @@ use Rattle.passes.specs.Plain.Persistence as Persistence
 use Rattle.cards.specs.Answers.{Report, refusal, acceptance}
 use Rattle.cards.specs.Card.{stationOf}
 use Rattle.cards.specs.Normal.{settled, normalPass, normalChain, persists, goodStation}
-use Rattle.chain.specs.Calls.{floatRoom, hold, stops, lacks, shownBy, frameReply, frameReplyBy}
+use Rattle.chain.specs.Calls.{floatRoom, hold, pend, stops, lacks, askStops, commitStops, onFirst, shownBy, frameReply, frameReplyBy}
 use Rattle.chain.specs.Agree.{opened}
 use Rattle.chain.specs.Chain.{wash, overBy, turnBy, depth, readsCurve}
-use Rattle.chain.specs.Machine.{Call, frame, State, call, after, run, saw}
+use Rattle.chain.specs.Machine.{Call, frame, reset, switch, ask, commit, step, State, call, after, run, saw}
 use Rattle.cards.specs.declared.station.Pass.the-variants.{Persistence, Lut, ColorCorrection, Scanlines}
+use Rattle.cards.specs.declared.station.Pending.{Pending}
+use Rattle.cards.specs.declared.station.Pending.the-variants.{Nothing, Switch}
 use Rattle.cards.specs.declared.station.Record.{Record}
 use Rattle.cards.specs.declared.station.Station.{Station}
 
@@ -35,7 +37,8 @@ kept on = stationOf (record { on = on; pass = Persistence c0·0 8 } ∷ record {
 -- Frames: a doubled kind, kinds out of order, a size remembered while persistence is off, a remembered side of 1025, and one side of 0 beside another
 -- (13), and sides of 1024 remembered; a side of 0 and of 1025 (8), and 1024 taken; a framebuffer of one word too few (9); a history
 -- of one word too few, on and off (10); one f32 word too few, and one u32 word (11); nothing too few. The first that holds is given.
--- Other calls: on a bad station (13), on a kind that is not there, and that no pass has (12), and on one that is there.
+-- Other calls: on a bad station (13), on a kind that is not there, and that no pass has (12), and on one that is there; a station of which a switch of
+-- a pass is asked that it has not, and of one that no chain has (13), and of one that it has.
 abbrev pub stopped : List (ℕ × ℕ)
 stopped =
     (stops (stationOf (record { on = true; pass = Scanlines c0·0 } ∷ record { on = false; pass = Scanlines c0·0 } ∷ [])) 0 0 0 0 0 0 [], 13)
@@ -61,6 +64,9 @@ stopped =
     ∷ (lacks (kept false) 5, 12)
     ∷ (lacks (kept false) 11, 12)
     ∷ (lacks (kept false) 4, 0)
+    ∷ (lacks (pend (Switch 5 true) (kept true)) 4, 13)
+    ∷ (lacks (pend (Switch 0 false) (kept true)) 4, 13)
+    ∷ (lacks (pend (Switch 10 false) (kept true)) 4, 0)
     ∷ []
 
 pub stopped-hold : Hold stopped
@@ -194,3 +200,67 @@ unfolding run saw after call frameReplyBy unless shownBy stops badSide goodStati
     Text.Persistence.total Text.Persistence.add Text.Persistence.mix Text.Persistence.blend Persistence.copies
     Persistence.refilled Persistence.shifted
 turns-hold = refl
+
+-- Switches that are asked for (request P7). Asking, asking again (17), committing, committing again (18), on a station with persistence alone; a kind that is
+-- not there (12), also where a switch is asked for; all on a station of which a switch of an absent pass is asked (13).
+abbrev answers : State → List Call → List Report
+answers s cs = map (λ g. g .answer) (saw s cs)
+
+abbrev done : Report
+done = acceptance []
+
+-- of which a switch of LUT is asked, which it has not
+abbrev absent : State
+absent = opened (pend (Switch 5 true) (half .station)) []
+
+abbrev pub asks : List (List Report × List Report)
+asks =
+    (answers half (ask 4 false ∷ ask 4 true ∷ commit ∷ commit ∷ ask 4 true ∷ []), done ∷ refusal 17 ∷ done ∷ refusal 18 ∷ done ∷ [])
+    ∷ (answers half (ask 5 true ∷ ask 4 true ∷ ask 5 true ∷ commit ∷ []), refusal 12 ∷ done ∷ refusal 12 ∷ done ∷ [])
+    ∷ (answers absent (ask 5 true ∷ ask 4 true ∷ commit ∷ reset ∷ []), refusal 13 ∷ refusal 13 ∷ refusal 13 ∷ refusal 13 ∷ [])
+    ∷ []
+
+pub asks-hold : Hold asks
+unfolding run saw after call askStops commitStops lacks onFirst unless goodStation fineHeld sameHeld normalChain normalPass settled persists ofBits lt
+asks-hold = refl
+
+-- What is asked for after that: asking records it, the present position too; a reset, a plain switch, a frame and refused calls leave it; committing clears it.
+abbrev pending : List Call → Pending
+pending cs = run half cs .station .pending
+
+abbrev pub waiting : List (Pending × Pending)
+waiting =
+    (pending [], Nothing)
+    ∷ (pending (ask 4 true ∷ []), Switch 4 true)
+    ∷ (pending (ask 4 false ∷ ask 4 true ∷ reset ∷ switch 4 false ∷ switch 4 true ∷ upright white ∷ step ∷ ask 5 true ∷ []), Switch 4 false)
+    ∷ (pending (ask 4 false ∷ commit ∷ []), Nothing)
+    ∷ []
+
+pub waiting-hold : Hold waiting
+unfolding run after call askStops commitStops lacks onFirst frameReplyBy unless shownBy stops badSide goodStation fineHeld sameHeld normalChain normalPass
+    settled persists depth readsCurve fold turnBy overBy ofBits ofInt add sub mul div neg lt clampOf cutOf rewrite sum converted Text.Pixel.unpack
+    Text.Pixel.pack Text.Pixel.packClamped Text.Pixel.clip Text.Pixel.clips Text.Persistence.persistence Text.Persistence.decay
+    Text.Persistence.total Text.Persistence.add Text.Persistence.mix Text.Persistence.blend Persistence.copies
+    Persistence.refilled Persistence.shifted
+waiting-hold = refl
+
+-- Persistence asked to be off: the ghost is still shown in two frames; committed, the next frame is unaltered. A plain switch to off and on between asking and
+-- committing leaves the record: the committed switch turns off again what was turned on.
+abbrev pub ghosts : List (List (List ℕ) × List (List ℕ))
+ghosts = (
+  pictures half (upright white ∷ ask 4 false ∷ upright black ∷ upright white ∷ commit ∷ upright black ∷ []),
+  white ∷ [] ∷ (0x555555 ∷ 0x555555 ∷ []) ∷ (0xaaaaaa ∷ 0xaaaaaa ∷ []) ∷ [] ∷ black ∷ [],
+)
+    ∷ (
+      pictures half (ask 4 false ∷ switch 4 false ∷ switch 4 true ∷ upright white ∷ commit ∷ upright black ∷ switch 4 true ∷ upright black ∷ []),
+      [] ∷ [] ∷ [] ∷ white ∷ [] ∷ black ∷ [] ∷ black ∷ [],
+    )
+    ∷ []
+
+pub ghosts-hold : Hold ghosts
+unfolding run saw after call askStops commitStops lacks onFirst frameReplyBy unless shownBy stops badSide goodStation fineHeld sameHeld normalChain
+    normalPass settled persists depth readsCurve fold turnBy overBy ofBits ofInt add sub mul div neg lt clampOf cutOf rewrite sum converted
+    Text.Pixel.unpack Text.Pixel.pack Text.Pixel.packClamped Text.Pixel.clip Text.Pixel.clips Text.Persistence.persistence Text.Persistence.decay
+    Text.Persistence.total Text.Persistence.add Text.Persistence.mix Text.Persistence.blend Persistence.copies
+    Persistence.refilled Persistence.shifted
+ghosts-hold = refl

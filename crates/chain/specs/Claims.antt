@@ -1,14 +1,18 @@
--- What is proved of single calls, as types: the proofs are in proofs/Untouched.antt. Assumes nothing.
+-- What is proved of single calls, as types: the proofs are in proofs/Untouched.antt and Asking.antt. Assumes nothing.
 use Prim.Native.Nat.{ℕ, _*_}
+use mathlib.Core.Bool.{Bool, true, false}
 use mathlib.Core.List.{List}
 use mathlib.Core.Path.{_≡_}
 use lib.Ieee.{Float}
 use lib.ListN.{drop}
 use Rattle.cards.specs.Alike.{chainOf}
 use Rattle.cards.specs.Answers.{refusal}
-use Rattle.chain.specs.Calls.{Framed, framed, frameReply}
+use Rattle.chain.specs.Calls.{pend, Framed, framed, frameReply}
 use Rattle.chain.specs.Chain.{depth}
-use Rattle.chain.specs.Machine.{Call, State, call, after}
+use Rattle.chain.specs.Machine.{Call, frame, reset, switch, ask, commit, step, State, call, after}
+use Rattle.cards.specs.Normal.{goodStation}
+use Rattle.cards.specs.declared.station.Pending.{Pending}
+use Rattle.cards.specs.declared.station.Pending.the-variants.{Nothing, Switch}
 use Rattle.cards.specs.declared.station.Station.{Station}
 
 -- a refused call leaves the station and every word of its history buffer, and a refused frame its framebuffer too
@@ -28,3 +32,27 @@ Untouched =
     (drop count (r .words) ≡ drop count words)
     × (drop (depth (chainOf s) * count) (r .past) ≡ drop (depth (chainOf s) * count) past)
     × (r .station .records ≡ s .records)
+
+-- ## Switches that are asked for
+
+-- a station of which that is asked, with its own buffer
+abbrev pub asked : Pending → State → State
+asked q s = record { station = pend q (s .station); history = s .history }
+
+-- whether a call is asking or committing
+abbrev pub isAsking : Call → Bool
+isAsking (frame w h words history floats ints curve) = false
+isAsking reset = false
+isAsking (switch kind on) = false
+isAsking (ask kind on) = true
+isAsking commit = true
+isAsking step = false
+
+-- every other call leaves what is asked for; asking changes nothing else; and a good station commits a switch as it makes one at once, with the
+-- same answer, and has nothing asked of it then
+abbrev pub Asking : Type 0
+Asking =
+    ((c : Call) (s : State) → isAsking c ≡ false → after c s .station .pending ≡ s .station .pending)
+    × ((kind : ℕ) (on : Bool) (s : State) → after (ask kind on) s ≡ asked (after (ask kind on) s .station .pending) s)
+    × ((kind : ℕ) (on : Bool) (s : State) → goodStation (s .station) ≡ true → s .station .pending ≡ Switch kind on
+    → (call commit s .gives .answer ≡ call (switch kind on) s .gives .answer) × (after commit s ≡ asked Nothing (after (switch kind on) s)))

@@ -5,7 +5,7 @@ use mathlib.Core.List.{List, [], _∷_, _++_}
 use lib.Ieee.{Float}
 use lib.ListN.{take, drop}
 use Rattle.cards.specs.Answers.{Report, refusal, acceptance, Reply}
-use Rattle.chain.specs.Calls.{resetReply, switchReply, stepReply, Framed, frameReply}
+use Rattle.chain.specs.Calls.{resetReply, switchReply, askReply, commitReply, stepReply, Framed, frameReply}
 use Rattle.cards.specs.declared.station.Station.{Station}
 
 -- a frame brings its framebuffer and its curve; of the history and of both scratches, how many words are lent
@@ -13,6 +13,8 @@ pub data Call : Type 0 where
   frame : (w h : ℕ) (words : List ℕ) (history floats ints : ℕ) (curve : List Float) → Call
   reset : Call
   switch : (kind : ℕ) (on : Bool) → Call
+  ask : (kind : ℕ) (on : Bool) → Call
+  commit : Call
   step : Call
 
 pub record State : Type 0 where
@@ -51,6 +53,8 @@ call (frame w h words lent floats ints curve) s =
     lend (h * w) lent (s .history) (frameReply w h (s .station) words (take lent (s .history)) floats ints curve)
 call reset s = still (s .history) (resetReply (s .station))
 call (switch kind on) s = still (s .history) (switchReply kind on (s .station))
+call (ask kind on) s = still (s .history) (askReply kind on (s .station))
+call commit s = still (s .history) (commitReply (s .station))
 call step s = still (s .history) (stepReply (s .station))
 
 unfoldable pub after : Call → State → State

@@ -1,5 +1,5 @@
-// The calls on a station: a frame, a reset, a switch, a preset step, and two questions. None has a condition: what it cannot do it refuses, by a number of
-// document 01's table, and a refusal changes nothing.
+// The calls on a station: a frame, a reset, a switch, at once or asked for and committed, a preset step, and two questions. None has a condition: what it
+// cannot do it refuses, by a number of document 01's table, and a refusal changes nothing.
 ghost use mathlib.Core.Path.{_≡_};
 ghost use Prim.Native.Nat.{_≤_, _<_};
 ghost use mathlib.Core.Bool.{true};
@@ -7,25 +7,28 @@ ghost use mathlib.Core.List.{[], _∷_};
 ghost use lib.ListN.{take};
 ghost use Rattle.cards.specs.Alike.{chainOf};
 ghost use Rattle.chain.specs.Chain.{depth as depthIn};
-ghost use Rattle.chain.specs.Calls.{lacks as lacksAt, heldAfter, next as nextOf, steppedPass, presetOf};
-ghost use Rattle.chain.specs.Calls.{resetReply, switchReply, stepReply, enabledReport, presetReport};
+ghost use Rattle.chain.specs.Calls.{lacks as lacksAt, pend as pendOn, heldAfter, next as nextOf, steppedPass, presetOf};
+ghost use Rattle.chain.specs.Calls.{resetReply, switchReply, askReply, commitReply, stepReply, enabledReport, presetReport};
 ghost use Rattle.chain.specs.Lent.{First, Stands};
 ghost use Rattle.cards.specs.Passes.{kindOf};
-ghost use Rattle.chain.specs.Answers.{called, cycled, asked, Applies};
+ghost use Rattle.chain.specs.Answers.{called, cycled, reportedQuestion, Applies};
 ghost use Rattle.cards.specs.Records.{kinds, among};
 use super::refusals::depth;
 use super::refusals::lacks;
 use super::refusals::stops;
+use super::refusals::stops_ask;
 use super::run::run_chain;
+use cards::check::is_good;
 use cards::station::Answer;
 use cards::station::Pass;
+use cards::station::Pending;
 use cards::station::Record;
 use cards::station::Station;
 use cards::station::few;
 use cards::station::kind_of;
 use num::size::Size;
 
-// What a reset and a switch answer, with the station.
+// What a reset, a switch, asking and committing answer, with the station.
 pub struct Called {
     pub answer: Answer,
     pub station: Station,
@@ -54,7 +57,7 @@ pub struct Cycled {
 }
 
 // What a question answers: one number, or a refusal's. It gives back no station, since it gets one only to look at.
-pub enum Asked {
+pub enum Question {
     Number(u8),
     Refused(u8),
 }
@@ -118,7 +121,8 @@ pub fn apply(
     );
     let held = run.held;
     let clipped = run.clipped;
-    let after = Station { records, n, held };
+    let mut after = station;
+    after.held = held;
     Applied {
         answer: FrameAnswer::Shown { clipped },
         station: after,
@@ -138,6 +142,7 @@ pub fn reset(station: Station) -> Called
     }
     let n = station.n;
     let records = station.records;
+    let pending = station.pending;
     let after = Station {
         records,
         n,
@@ -145,6 +150,7 @@ pub fn reset(station: Station) -> Called
             width: 0,
             height: 0,
         },
+        pending,
     };
     Called {
         answer: Answer::Accepted,
@@ -202,9 +208,74 @@ pub fn set_enabled(station: Station, kind: u8, on: bool) -> Called
     let r = records[at];
     let pass = r.pass;
     records[at] = Record { on, pass };
-    let after = Station { records, n, held };
+    let pending = station.pending;
+    let after = Station {
+        records,
+        n,
+        held,
+        pending,
+    };
     Called {
         answer: Answer::Accepted,
+        station: after,
+    }
+}
+
+// The station with that asked of it.
+pub(crate) fn pend(station: Station, pending: Pending) -> Station
+    ensures { λ r. ⌜ r ≡ pendOn pending station ⌝ }
+{
+    let n = station.n;
+    let records = station.records;
+    let held = station.held;
+    Station {
+        records,
+        n,
+        held,
+        pending,
+    }
+}
+
+// Asks for a switch of the pass of that kind: it is recorded, and made by `commit`.
+pub fn ask(station: Station, kind: u8, on: bool) -> Called
+    ensures { λ r. ⌜ called r ≡ askReply kind on station ⌝ }
+{
+    let refusal = stops_ask(station, kind);
+    if refusal != 0 {
+        return Called {
+            answer: Answer::Refused(refusal),
+            station,
+        };
+    }
+    let after = pend(station, Pending::Switch { kind, on });
+    Called {
+        answer: Answer::Accepted,
+        station: after,
+    }
+}
+
+// Makes the switch that was asked for, as `set_enabled` does; then nothing is asked for.
+pub fn commit(station: Station) -> Called
+    ensures { λ r. ⌜ called r ≡ commitReply station ⌝ }
+{
+    if !is_good(station) {
+        return Called {
+            answer: Answer::Refused(13),
+            station,
+        };
+    }
+    let pending = station.pending;
+    let Pending::Switch { kind, on } = pending else {
+        return Called {
+            answer: Answer::Refused(18),
+            station,
+        };
+    };
+    let switched = set_enabled(station, kind, on);
+    let answer = switched.answer;
+    let after = pend(switched.station, Pending::Nothing);
+    Called {
+        answer,
         station: after,
     }
 }
@@ -269,7 +340,13 @@ pub fn cycle_lut(station: Station) -> Cycled
     let old = r.pass;
     let pass = step_pass(old);
     records[at] = Record { on, pass };
-    let after = Station { records, n, held };
+    let pending = station.pending;
+    let after = Station {
+        records,
+        n,
+        held,
+        pending,
+    };
     Cycled {
         answer: Cycle::Preset(preset_of(pass)),
         station: after,
@@ -288,30 +365,30 @@ pub(crate) fn record_of(station: Station, kind: u8) -> Record
 }
 
 // Whether the pass of that kind is on: 1, or 0 where it is off.
-pub fn enabled(station: Station, kind: u8) -> Asked
-    ensures { λ r. ⌜ asked r ≡ enabledReport kind station ⌝ }
+pub fn enabled(station: Station, kind: u8) -> Question
+    ensures { λ r. ⌜ reportedQuestion r ≡ enabledReport kind station ⌝ }
 {
     let refusal = lacks(station, kind);
     if refusal != 0 {
-        return Asked::Refused(refusal);
+        return Question::Refused(refusal);
     }
     let r = record_of(station, kind);
     let on = r.on;
     if on {
-        return Asked::Number(1);
+        return Question::Number(1);
     }
-    Asked::Number(0)
+    Question::Number(0)
 }
 
 // The LUT's preset.
-pub fn preset(station: Station) -> Asked
-    ensures { λ r. ⌜ asked r ≡ presetReport station ⌝ }
+pub fn preset(station: Station) -> Question
+    ensures { λ r. ⌜ reportedQuestion r ≡ presetReport station ⌝ }
 {
     let refusal = lacks(station, 5);
     if refusal != 0 {
-        return Asked::Refused(refusal);
+        return Question::Refused(refusal);
     }
     let r = record_of(station, 5);
     let pass = r.pass;
-    Asked::Number(preset_of(pass))
+    Question::Number(preset_of(pass))
 }

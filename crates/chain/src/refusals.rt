@@ -5,9 +5,10 @@ ghost use Prim.Native.Nat.{_≤_, _*_};
 ghost use lib.ListN.{take};
 ghost use Rattle.passes.specs.ColorCorrection.{goodCurve};
 ghost use Rattle.chain.specs.Chain.{depthOf, depth as depthIn, reads as readsBy, readsCurve};
-ghost use Rattle.chain.specs.Calls.{stops as stopsBy, lacks as lacksAt};
+ghost use Rattle.chain.specs.Calls.{stops as stopsBy, lacks as lacksAt, askStops};
 use cards::check::is_good;
 use cards::station::Pass;
+use cards::station::Pending;
 use cards::station::Record;
 use cards::station::Station;
 use cards::station::has_kind;
@@ -136,4 +137,19 @@ pub(crate) fn lacks(station: Station, kind: u8) -> u8
         return 0;
     }
     12
+}
+
+// Of asking for a switch of the pass of that kind.
+pub(crate) fn stops_ask(station: Station, kind: u8) -> u8
+    ensures { λ r. ⌜ r ≡ askStops station kind ⌝ }
+{
+    let refusal = lacks(station, kind);
+    if refusal != 0 {
+        return refusal;
+    }
+    let pending = station.pending;
+    if let Pending::Switch { kind: _, on: _ } = pending {
+        return 17;
+    }
+    0
 }

@@ -9,7 +9,7 @@ use Rattle.cards.specs.declared.station.Station.{Station}
 
 -- the station, remembering that size
 abbrev pub holding : Station → Held → Station
-holding s held = record { records = s .records; n = s .n; held = held }
+holding s held = record { records = s .records; n = s .n; held = held; pending = s .pending }
 
 -- a refusal, else what comes after it
 abbrev pub andThen : Report → Report → Report

@@ -7,7 +7,7 @@ use super::cards;
 use super::cases::Point;
 use super::noise::Noise;
 use super::sides::Held;
-use super::station::Station;
+use super::station::{Pending, Station};
 use crate::bridge::{self, Answer, Lent, State};
 use crate::cards::spelling;
 use crate::met::Met;
@@ -62,6 +62,9 @@ fn trial(random: &mut Random, tally: &mut RunTally, met: &mut Met<Point>) -> Hel
     }
     if a.station.holds() && a.station.turned(b.station.held) {
         met.note(Point::HeldTurned);
+    }
+    if a.station.pending.is_some() {
+        met.note(Point::Pending);
     }
     shared_list(&mut a, &mut b, random, tally, met)
 }
@@ -127,6 +130,11 @@ fn own_list(
         if turns(&before, &call, seen.answer) {
             met.note(Point::OwnTurned);
         }
+        match (call, seen.answer) {
+            (Call::Ask(..), Ok(_)) => met.note(Point::OwnAsked),
+            (Call::Commit, Ok(_)) => met.note(Point::OwnCommitted),
+            _ => {}
+        }
     }
     Ok(())
 }
@@ -150,8 +158,14 @@ fn turn(a: &Own, b: &mut Own, random: &mut Random, tally: &mut RunTally) -> Held
     Ok(())
 }
 
-/// Makes the switches and the preset of `b` those of `a`, one kind after another.
+/// Makes the switches of `b`, one kind after another, the preset and the pending switch those of `a`.
 fn equalise(a: &Own, b: &mut Own, random: &mut Random, tally: &mut RunTally) -> Held {
+    let asked = a.station.pending;
+    // A commit alone clears another record. What it switches is made equal with the others.
+    let another = b.station.pending != asked;
+    if another && b.station.pending.is_some() {
+        b.call(&Call::Commit, random, tally)?;
+    }
     for record in a.station.records() {
         if b.station.is_on(record.kind) != record.on {
             b.call(
@@ -164,8 +178,17 @@ fn equalise(a: &Own, b: &mut Own, random: &mut Random, tally: &mut RunTally) -> 
     while a.station.preset() != b.station.preset() {
         b.call(&Call::Step, random, tally)?;
     }
+    if let Some(Pending { kind, on }) = asked.filter(|_| another) {
+        b.call(&Call::Ask(kind, on.into()), random, tally)?;
+    }
     Ok(())
 }
+
+/// Persistence to off.
+const OFF: Pending = Pending {
+    kind: PERSISTENCE as u8,
+    on: false,
+};
 
 /// Where a shared list stands.
 struct Course {
@@ -196,8 +219,9 @@ impl Course {
         let point = match call {
             _ if self.left == 0 => Point::Frames,
             Call::Reset => Point::Reset,
-            // Persistence is on: this is a switching-off.
+            // Persistence is on: these are switchings-off.
             Call::Switch(kind, 0) if u32::from(*kind) == PERSISTENCE => Point::SwitchedOff,
+            Call::Commit if station.pending == Some(OFF) => Point::CommittedOff,
             _ => return,
         };
         assert!(station.remembers());
@@ -220,6 +244,8 @@ impl Course {
                     met.note(Point::TurnedBefore);
                 }
             }
+            (Call::Ask(..), Ok(_)) => met.note(Point::AskedBefore),
+            (Call::Commit, Ok(_)) => met.note(Point::CommittedBefore),
             (_, Err(_)) => met.note(Point::RefusedBefore),
             _ => {}
         }
@@ -290,7 +316,9 @@ fn note_curves(a: &Own, b: &Own, answer: Answer, agreed: bool, met: &mut Met<Poi
 
 /// Frames above all: a reset or a switching-off brings the point at once.
 fn shared_call(a: &mut Own, room: usize, random: &mut Random) -> Call {
-    if random.one_in(4) {
+    if a.station.pending.is_some() && random.one_in(16) {
+        Call::Commit
+    } else if random.one_in(4) {
         calls::next(&a.station, &mut a.sizes, room, random)
     } else {
         calls::good(&a.station, &mut a.sizes, room, random)
@@ -320,6 +348,11 @@ impl Own {
                 let asked = self.station.switch(*kind, *on != 0);
                 (bridge::set_enabled(&mut self.state, *kind, *on), asked)
             }
+            Call::Ask(kind, on) => {
+                let asked = self.station.ask(*kind, *on != 0);
+                (bridge::ask(&mut self.state, *kind, *on), asked)
+            }
+            Call::Commit => (bridge::commit(&mut self.state), self.station.commit()),
             Call::Step => (bridge::cycle_lut(&mut self.state), self.station.step()),
             Call::Write(_) | Call::Depth => {
                 let asked = self.station.depth().unwrap_or_default() as u32;

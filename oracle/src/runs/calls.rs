@@ -2,6 +2,7 @@
 
 use std::fmt;
 
+use super::cases::Which;
 use super::noise::Noise;
 use super::station::{float_room, Lengths, Station};
 use crate::cards::paper::Size;
@@ -14,8 +15,10 @@ use crate::random::Random;
 pub enum Call {
     Frame(Frame),
     Reset,
-    /// A kind, and a position: 0 is off, any other byte on.
+    /// A kind, and a position: 0 is off, any other byte on. At once, or asked for.
     Switch(u8, u8),
+    Ask(u8, u8),
+    Commit,
     Step,
     /// Into a buffer of this length.
     Write(usize),
@@ -43,6 +46,21 @@ impl Frame {
     }
 }
 
+impl Call {
+    pub fn which(&self) -> Which {
+        match self {
+            Call::Frame(_) => Which::Frame,
+            Call::Reset => Which::Reset,
+            Call::Switch(..) => Which::Switch,
+            Call::Ask(..) => Which::Ask,
+            Call::Commit => Which::Commit,
+            Call::Step => Which::Step,
+            Call::Write(_) => Which::Write,
+            Call::Depth => Which::Depth,
+        }
+    }
+}
+
 impl fmt::Display for Call {
     fn fmt(&self, f: &mut fmt::Formatter) -> fmt::Result {
         match self {
@@ -57,6 +75,8 @@ impl fmt::Display for Call {
             }
             Call::Reset => write!(f, "reset"),
             Call::Switch(kind, on) => write!(f, "switch {kind} {on}"),
+            Call::Ask(kind, on) => write!(f, "ask {kind} {on}"),
+            Call::Commit => write!(f, "commit"),
             Call::Step => write!(f, "step"),
             Call::Write(room) => write!(f, "write {room}"),
             Call::Depth => write!(f, "depth"),
@@ -129,14 +149,22 @@ const PAST: usize = 16;
 
 /// The next call on a station whose own history buffer has `room` words.
 pub fn next(station: &Station, sizes: &mut Sizes, room: usize, random: &mut Random) -> Call {
-    match random.below(64) {
-        0..40 => good(station, sizes, room, random),
-        40..46 => faulty(station, sizes, room, random),
-        46..48 => Call::Reset,
-        48..55 => switch(station, random),
-        55..59 => Call::Step,
-        59..62 => write(station, random),
-        _ => Call::Depth,
+    match random.below(80) {
+        0..50 => good(station, sizes, room, random),
+        50..57 => faulty(station, sizes, room, random),
+        57..59 => Call::Reset,
+        59..66 => {
+            let (kind, on) = switch(station, random);
+            Call::Switch(kind, on)
+        }
+        66..70 => Call::Step,
+        70..73 => write(station, random),
+        73 => Call::Depth,
+        74..78 => {
+            let (kind, on) = switch(station, random);
+            Call::Ask(kind, on)
+        }
+        _ => Call::Commit,
     }
 }
 
@@ -255,9 +283,9 @@ fn bad_size((width, height): (usize, usize), random: &mut Random) -> (usize, usi
 }
 
 /// Mostly of a kind in the chain. Persistence is switched on more often than off, so that a history is met.
-fn switch(station: &Station, random: &mut Random) -> Call {
+fn switch(station: &Station, random: &mut Random) -> (u8, u8) {
     let any = random.word() as u8;
-    let kinds: Vec<u8> = station.records().iter().map(|r| r.kind as u8).collect();
+    let kinds = station.kinds();
     let known = random.within(1, 10) as u8;
     let kind = match random.below(16) {
         0 => random.choose(&[0, 11, 15, 16, 255, any]),
@@ -268,7 +296,7 @@ fn switch(station: &Station, random: &mut Random) -> Call {
     };
     let off = random.one_in(if u32::from(kind) == PERSISTENCE { 4 } else { 2 });
     let on = random.choose(&[1, 1, 2, 128, 255]);
-    Call::Switch(kind, if off { 0 } else { on })
+    (kind, if off { 0 } else { on })
 }
 
 /// Into a buffer with room for the card, in most cases, or one byte short of it.

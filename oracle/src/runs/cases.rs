@@ -21,9 +21,21 @@ pub enum Which {
     Frame,
     Reset,
     Switch,
+    Ask,
+    Commit,
     Step,
     Write,
     Depth,
+}
+
+/// What is wrong with the bytes of a state that tell the pending switch: a kind that is not in the chain, a position without a kind, a
+/// position above 1, and a byte behind them that is not 0.
+#[derive(Clone, Copy, PartialEq, Debug)]
+pub enum Broken {
+    Kind,
+    NoKind,
+    Position,
+    Behind,
 }
 
 /// Why a curve that is not read could not be: it has no word, too few, or a bad one.
@@ -54,6 +66,8 @@ pub enum Case {
     Frame(u32),
     ResetRefused(u32),
     SwitchRefused(u32),
+    AskRefused(u32),
+    CommitRefused(u32),
     StepRefused(u32),
     WriteRefused(u32),
     DepthRefused(u32),
@@ -74,6 +88,23 @@ pub enum Case {
     Forget,
     /// A kind byte that is no kind.
     SwitchUnknown,
+    /// A switch that is asked for: where it stands, and where it is to stand.
+    Asked(bool, bool),
+    /// A kind byte that is no kind, and any kind that is not in the chain while a switch is pending: 12, and not 17.
+    AskUnknown,
+    AskAbsentPending,
+    /// A commit: where the switch stood, and where it stands then.
+    Committed(bool, bool),
+    /// Persistence that is committed to off while something is held.
+    CommitForgets,
+    /// An accepted, or a refused, call of a station with a pending switch, which stays pending.
+    Kept(Which, bool),
+    /// A plain switch of the kind that is pending, which a commit then switches again.
+    SwitchBetween,
+    /// A frame that meets its history while persistence is to be switched off.
+    BlendPending,
+    /// A card that shows another position than the pending one.
+    WrittenPending,
     Step,
     /// From preset 6 to 0.
     StepRound,
@@ -82,7 +113,7 @@ pub enum Case {
     Depth,
     /// A pass that was told to be off, and one that was told to be on.
     Enabled(bool),
-    /// A byte that is no kind, asked for its switch and refused by 12.
+    /// A byte that is no kind, whose switch is not told: 12.
     EnabledUnknown,
     /// A preset that was told.
     Preset(u32),
@@ -95,6 +126,9 @@ pub enum Case {
     HeldOther,
     /// A state in whose card two records are exchanged, at this call: a bad one.
     OutOfOrder(Which),
+    /// A state whose pending switch no station has, and one with another that is good.
+    PendingBroken(Broken),
+    PendingOther,
     /// An accepted frame whose channels start from a curve: that of the original's powers, and another one.
     Curved(bool),
     /// An accepted frame of a chain that reads a curve while colour is off.
@@ -148,6 +182,11 @@ impl Listed for Case {
         Case::ResetRefused(13),
         Case::SwitchRefused(12),
         Case::SwitchRefused(13),
+        Case::AskRefused(12),
+        Case::AskRefused(13),
+        Case::AskRefused(17),
+        Case::CommitRefused(13),
+        Case::CommitRefused(18),
         Case::StepRefused(12),
         Case::StepRefused(13),
         Case::WriteRefused(13),
@@ -174,6 +213,32 @@ impl Listed for Case {
         Case::Switch(true, true),
         Case::Forget,
         Case::SwitchUnknown,
+        Case::Asked(false, false),
+        Case::Asked(false, true),
+        Case::Asked(true, false),
+        Case::Asked(true, true),
+        Case::AskUnknown,
+        Case::AskAbsentPending,
+        Case::Committed(false, false),
+        Case::Committed(false, true),
+        Case::Committed(true, false),
+        Case::Committed(true, true),
+        Case::CommitForgets,
+        Case::Kept(Which::Frame, true),
+        Case::Kept(Which::Frame, false),
+        Case::Kept(Which::Reset, true),
+        Case::Kept(Which::Reset, false),
+        Case::Kept(Which::Switch, true),
+        Case::Kept(Which::Switch, false),
+        Case::Kept(Which::Ask, false),
+        Case::Kept(Which::Step, true),
+        Case::Kept(Which::Step, false),
+        Case::Kept(Which::Write, true),
+        Case::Kept(Which::Write, false),
+        Case::Kept(Which::Depth, true),
+        Case::SwitchBetween,
+        Case::BlendPending,
+        Case::WrittenPending,
         Case::Step,
         Case::StepRound,
         Case::StepOff,
@@ -197,9 +262,16 @@ impl Listed for Case {
         Case::OutOfOrder(Which::Frame),
         Case::OutOfOrder(Which::Reset),
         Case::OutOfOrder(Which::Switch),
+        Case::OutOfOrder(Which::Ask),
+        Case::OutOfOrder(Which::Commit),
         Case::OutOfOrder(Which::Step),
         Case::OutOfOrder(Which::Write),
         Case::OutOfOrder(Which::Depth),
+        Case::PendingBroken(Broken::Kind),
+        Case::PendingBroken(Broken::NoKind),
+        Case::PendingBroken(Broken::Position),
+        Case::PendingBroken(Broken::Behind),
+        Case::PendingOther,
         Case::Curved(true),
         Case::Curved(false),
         Case::CurveOff,
@@ -242,9 +314,19 @@ pub enum Point {
     /// After the K-th frame that persistence takes.
     Frames,
     Reset,
+    /// Persistence is switched from on to off: at once, and by a commit.
     SwitchedOff,
+    CommittedOff,
     /// The list ends before the point.
     Never,
+    /// Both stations have the same pending switch as the shared list begins.
+    Pending,
+    /// A switch that is asked for, and a commit, in an own list.
+    OwnAsked,
+    OwnCommitted,
+    /// The same in the shared list before the point, which the commit does not bring.
+    AskedBefore,
+    CommittedBefore,
     /// The cards differ, and normalise alike.
     Respelt,
     /// One station holds frames and the other none, or frames of another size.
@@ -281,7 +363,13 @@ impl Listed for Point {
         Point::Frames,
         Point::Reset,
         Point::SwitchedOff,
+        Point::CommittedOff,
         Point::Never,
+        Point::Pending,
+        Point::OwnAsked,
+        Point::OwnCommitted,
+        Point::AskedBefore,
+        Point::CommittedBefore,
         Point::Respelt,
         Point::HeldDiffers,
         Point::HeldTurned,

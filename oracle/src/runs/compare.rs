@@ -1,4 +1,5 @@
-//! The runs, the trials of agreement and the frames that stand still, in threads that take one after another.
+//! The runs, the switches that are asked for, the trials of agreement and the frames that stand still, in threads that take one after
+//! another.
 
 use std::sync::atomic::{AtomicUsize, Ordering};
 use std::thread;
@@ -6,7 +7,7 @@ use std::time::Instant;
 
 use super::cases::{Case, Point};
 use super::run::Run;
-use super::{agreement, run, still};
+use super::{agreement, asked, run, still};
 use crate::met::{Listed, Met};
 use crate::random::Random;
 use crate::steps::{Mode, THREADS};
@@ -14,6 +15,7 @@ use crate::tally::{RunTally, Total};
 
 pub fn run(mode: Mode, total: &mut Total) {
     runs(mode, total);
+    switches(mode, total);
     trials(mode, total);
 }
 
@@ -29,6 +31,13 @@ fn runs(mode: Mode, total: &mut Total) {
     total.add_turned(met.count(Case::Turned));
     let curved = [true, false].map(|powers| met.count(Case::Curved(powers)));
     total.add_curved(curved.iter().sum());
+}
+
+fn switches(mode: Mode, total: &mut Total) {
+    println!("Switches that are asked for and committed, by document 02");
+    let (tally, met) = share("asked", mode, &asked::cards(mode), asked::compare);
+    total.add_runs(&tally);
+    total.unmet += met.report();
 }
 
 fn trials(mode: Mode, total: &mut Total) {

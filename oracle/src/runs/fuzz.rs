@@ -143,13 +143,15 @@ fn call(tape: &mut Tape, sides: &Sides) -> Call {
             tape.size = (tape.size.1, tape.size.0);
             Call::Frame(frame(tape, sides))
         }
-        5..9 => {
+        5..8 => {
             tape.size = (tape.side(), tape.side());
             Call::Frame(frame(tape, sides))
         }
-        9 => Call::Reset,
-        10..12 => Call::Switch(tape.byte(), tape.byte()),
-        12 | 13 => Call::Step,
+        8 => Call::Reset,
+        9 => Call::Switch(tape.byte(), tape.byte()),
+        10 | 11 => Call::Ask(tape.byte(), tape.byte()),
+        12 => Call::Commit,
+        13 => Call::Step,
         14 => Call::Write(tape.byte().into()),
         _ => Call::Depth,
     }

@@ -2,9 +2,10 @@
 //! original's pipeline, which runs from call to call. The history's words are made apart from it, of the frames
 //! as the original's effects before persistence leave them. At a turned frame, which the original would mix with the frames before
 //! the turn, its effects are built anew: that is what document 02's P1 asks. Where colour reads a curve (P3), it is the original's if
-//! the curve holds the original's powers, else a second writing of it.
+//! the curve holds the original's powers, else a second writing of it. The original knows nothing of a switch that is asked for (P7): it
+//! is switched at the commit.
 
-use super::station::{Lengths, Station};
+use super::station::{Lengths, Pending, Station};
 use crate::bridge::{Answer, State};
 use crate::cards::paper::Size;
 use crate::passes::both::Both;
@@ -76,6 +77,20 @@ impl Machine {
         let station = self.station.as_mut().ok_or(13u32)?;
         let answer = station.switch(kind, on)?;
         self.pipeline.set_enabled(name(kind.into()), on);
+        Ok(answer)
+    }
+
+    pub fn ask(&mut self, kind: u8, on: bool) -> Answer {
+        self.station.as_mut().ok_or(13u32)?.ask(kind, on)
+    }
+
+    pub fn commit(&mut self) -> Answer {
+        let station = self.station.as_mut().ok_or(13u32)?;
+        let asked = station.pending;
+        let answer = station.commit()?;
+        if let Some(Pending { kind, on }) = asked {
+            self.pipeline.set_enabled(name(kind.into()), on);
+        }
         Ok(answer)
     }
 

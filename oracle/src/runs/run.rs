@@ -1,11 +1,11 @@
 //! Runs: one card and many calls, on the library and on the machine.
 
-use super::calls::{self, Call, Sizes};
+use super::calls::{self, Sizes};
 use super::cards;
-use super::cases::{Case, Which};
+use super::cases::{Broken, Case};
 use super::noise::Noise;
 use super::sides::{Held, Sides};
-use super::station::Station;
+use super::station::{Station, HEIGHT_END};
 use crate::bridge::{self, State};
 use crate::cards::damage;
 use crate::met::Met;
@@ -162,10 +162,10 @@ fn play(
         if random.one_in(8) {
             let state = match out_of_order(station, random) {
                 Some(state) => {
-                    met.note(Case::OutOfOrder(which(&call)));
+                    met.note(Case::OutOfOrder(call.which()));
                     state
                 }
-                None => damaged(&sides.state, random, met),
+                None => damaged(station, random, met),
             };
             let mut other = sides.damaged(state);
             called.push(format!("with a damaged state {call}"));
@@ -177,7 +177,7 @@ fn play(
         called.push(call.to_string());
         sides.call(&call, random, tally, met)?;
     }
-    sides.ask_every_switch(met)?;
+    sides.look_at_every_switch(met)?;
     every_bit(&sides.state, tally)
 }
 
@@ -241,22 +241,11 @@ fn out_of_order(station: &Station, random: &mut Random) -> Option<State> {
     Some(other.state())
 }
 
-fn which(call: &Call) -> Which {
-    match call {
-        Call::Frame(_) => Which::Frame,
-        Call::Reset => Which::Reset,
-        Call::Switch(..) => Which::Switch,
-        Call::Step => Which::Step,
-        Call::Write(_) => Which::Write,
-        Call::Depth => Which::Depth,
-    }
-}
-
-/// The state with one bit changed; or with another byte; or with another size remembered.
-fn damaged(state: &State, random: &mut Random, met: &mut Met<Case>) -> State {
-    let mut state = *state;
+/// The state with one bit changed; or with another byte; or with another size remembered; or with another pending switch.
+fn damaged(station: &Station, random: &mut Random, met: &mut Met<Case>) -> State {
+    let mut state = station.state();
     let place = random.below(state.len());
-    match random.below(4) {
+    match random.below(5) {
         0 => state[place] = random.word() as u8,
         1 => {
             let held = another(&state, random);
@@ -267,6 +256,11 @@ fn damaged(state: &State, random: &mut Random, met: &mut Met<Case>) -> State {
                 (0, 1..) | (1.., 0) => Case::HeldHalf,
                 _ => Case::HeldOther,
             });
+        }
+        2 => {
+            let (pending, case) = other_pending(station, random);
+            state[HEIGHT_END..].copy_from_slice(&pending);
+            met.note(case);
         }
         _ => state[place] ^= 1 << random.below(8),
     }
@@ -293,6 +287,30 @@ fn another(state: &State, random: &mut Random) -> (u16, u16) {
         turned,
         turned,
     ])
+}
+
+/// The bytes of another pending switch: such as no station has, or good ones.
+fn other_pending(station: &Station, random: &mut Random) -> ([u8; 3], Case) {
+    let kinds = station.kinds();
+    let absent: Vec<u8> = (1..=11).filter(|kind| !kinds.contains(kind)).collect();
+    // An empty chain has no kind to be switched.
+    let kind = if kinds.is_empty() {
+        0
+    } else {
+        random.choose(&kinds)
+    };
+    let on = random.below(2) as u8;
+    let any = random.within(2, 255) as u8;
+    let any = random.choose(&[2, any]);
+    let broken = Case::PendingBroken;
+    match random.below(8) {
+        0 | 1 => ([random.choose(&absent), on, 0], broken(Broken::Kind)),
+        2 => ([0, 1, 0], broken(Broken::NoKind)),
+        3 => ([kind, any, 0], broken(Broken::Position)),
+        4 => ([kind, on, any], broken(Broken::Behind)),
+        _ if kind == 0 => ([0, 0, 0], Case::PendingOther),
+        _ => ([kind, on, 0], Case::PendingOther),
+    }
 }
 
 /// Each of the 640 bits changed in turn: the state is a bad one, or another good station's, whose card is

@@ -4,7 +4,7 @@ use super::calls::{Call, Frame};
 use super::cases::{Bad, Case, Short};
 use super::machine::Machine;
 use super::noise::Noise;
-use super::station::{float_room, Lengths, Station};
+use super::station::{float_room, Lengths, Pending, Station};
 use crate::bridge::{self, Answer, Lent, State};
 use crate::cards::paper::Size;
 use crate::met::Met;
@@ -17,15 +17,15 @@ pub struct Sides {
     pub machine: Machine,
     pub state: State,
     pub history: Vec<u32>,
-    /// How many calls were made: which kind is asked for after each.
+    /// How many calls were made: the switch of which kind is looked at after each.
     made: usize,
 }
 
 /// What a difference is: told in words.
 pub type Held<T = ()> = Result<T, String>;
 
-/// The kinds whose switches are asked for, and two bytes that are none.
-const ASKED: [u8; 12] = [1, 2, 3, 4, 5, 6, 7, 8, 9, 10, 0, 11];
+/// The kinds whose switches are looked at, and two bytes that are none.
+const LOOKED_AT: [u8; 12] = [1, 2, 3, 4, 5, 6, 7, 8, 9, 10, 0, 11];
 
 /// What stands in a card buffer before a card is written.
 const MARK: u8 = 0xa5;
@@ -49,7 +49,7 @@ impl Sides {
         }
     }
 
-    /// Makes one call on both sides and holds all that it gives to the machine's. Then a switch is asked for, one kind after
+    /// Makes one call on both sides and holds all that it gives to the machine's. Then a switch is looked at, one kind after
     /// another, and the preset.
     pub fn call(
         &mut self,
@@ -70,6 +70,14 @@ impl Sides {
                 let here = bridge::set_enabled(&mut self.state, *kind, *on);
                 answered(here, asked)?
             }
+            Call::Ask(kind, on) => {
+                let asked = self.machine.ask(*kind, *on != 0);
+                answered(bridge::ask(&mut self.state, *kind, *on), asked)?
+            }
+            Call::Commit => {
+                let asked = self.machine.commit();
+                answered(bridge::commit(&mut self.state), asked)?
+            }
             Call::Step => {
                 let asked = self.machine.step();
                 answered(bridge::cycle_lut(&mut self.state), asked)?
@@ -84,18 +92,18 @@ impl Sides {
         same_words("history", &self.history, &self.machine.history)?;
         tally.called(asked, self.history.len());
         note(call, before.as_ref(), asked, met);
-        self.ask_switch(ASKED[self.made % ASKED.len()], met)?;
-        self.ask_preset(met)?;
+        self.look_at_switch(LOOKED_AT[self.made % LOOKED_AT.len()], met)?;
+        self.look_at_preset(met)?;
         self.made += 1;
         Ok(())
     }
 
     /// The switch of every byte, kind or not.
-    pub fn ask_every_switch(&self, met: &mut Met<Case>) -> Held {
-        (0..=255).try_for_each(|kind| self.ask_switch(kind, met))
+    pub fn look_at_every_switch(&self, met: &mut Met<Case>) -> Held {
+        (0..=255).try_for_each(|kind| self.look_at_switch(kind, met))
     }
 
-    fn ask_switch(&self, kind: u8, met: &mut Met<Case>) -> Held {
+    fn look_at_switch(&self, kind: u8, met: &mut Met<Case>) -> Held {
         let here = bridge::enabled(&self.state, kind);
         let asked = answered(here, self.machine.enabled(kind))
             .map_err(|text| format!("the switch of kind {kind}, {text}"))?;
@@ -107,7 +115,7 @@ impl Sides {
         Ok(())
     }
 
-    fn ask_preset(&self, met: &mut Met<Case>) -> Held {
+    fn look_at_preset(&self, met: &mut Met<Case>) -> Held {
         let here = bridge::preset(&self.state);
         let asked =
             answered(here, self.machine.preset()).map_err(|text| format!("the preset, {text}"))?;
@@ -159,6 +167,9 @@ impl Sides {
 
 /// Tells the list of cases what this was.
 fn note(call: &Call, before: Option<&Station>, asked: Answer, met: &mut Met<Case>) {
+    if let Some(before) = before {
+        note_pending(call, before, asked, met);
+    }
     match (call, asked, before) {
         (Call::Frame(frame), Ok(clipped), Some(before)) => {
             met.note(Case::Clipped(clipped > 0));
@@ -179,6 +190,18 @@ fn note(call: &Call, before: Option<&Station>, asked: Answer, met: &mut Met<Case
                 met.note(Case::SwitchUnknown);
             }
         }
+        (Call::Ask(kind, on), Ok(_), Some(before)) => {
+            met.note(Case::Asked(before.is_on((*kind).into()), *on != 0));
+        }
+        (Call::Ask(kind, _), Err(number), _) => {
+            met.note(Case::AskRefused(number));
+            if number == 12 && !(1..=10).contains(kind) {
+                met.note(Case::AskUnknown);
+            }
+        }
+        // Noted with what was pending.
+        (Call::Commit, Ok(_), Some(_)) => {}
+        (Call::Commit, Err(number), _) => met.note(Case::CommitRefused(number)),
         (Call::Reset, Ok(_), Some(before)) if before.holds() => met.note(Case::ResetHeld),
         (Call::Reset, Ok(_), _) => met.note(Case::Reset),
         (Call::Reset, Err(number), _) => met.note(Case::ResetRefused(number)),
@@ -304,6 +327,32 @@ fn note_switch(kind: u32, on: bool, before: &Station, met: &mut Met<Case>) {
     met.note(Case::Switch(was, on));
     if kind == PERSISTENCE && was && !on && before.holds() {
         met.note(Case::Forget);
+    }
+}
+
+/// Tells the list of cases what a call was while a switch was pending.
+fn note_pending(call: &Call, before: &Station, asked: Answer, met: &mut Met<Case>) {
+    let Some(Pending { kind, on }) = before.pending else {
+        return;
+    };
+    let was = before.is_on(kind.into());
+    let off = u32::from(kind) == PERSISTENCE && was && !on;
+    if let Call::Commit = call {
+        met.note(Case::Committed(was, on));
+        if off && before.holds() {
+            met.note(Case::CommitForgets);
+        }
+        return;
+    }
+    met.note(Case::Kept(call.which(), asked.is_ok()));
+    match (call, asked) {
+        (Call::Ask(..), Err(12)) => met.note(Case::AskAbsentPending),
+        (Call::Switch(other, _), Ok(_)) if *other == kind => met.note(Case::SwitchBetween),
+        (Call::Frame(frame), Ok(_)) if off && before.meets(frame.size) => {
+            met.note(Case::BlendPending);
+        }
+        (Call::Write(_), Ok(_)) if was != on => met.note(Case::WrittenPending),
+        _ => {}
     }
 }
 

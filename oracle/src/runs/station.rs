@@ -1,21 +1,30 @@
-//! Document 01's station as the library lends it, in 80 bytes, with nothing of the library: what it says, and
-//! what each call on it answers.
+//! Document 01's station, with the pending switch of document 02's P7, as the library lends it, in 80 bytes, with nothing of the
+//! library: what it says, and what each call on it answers.
 
 use crate::bridge::{Answer, State};
 use crate::cards::paper::{self, Opened, Record, Size, Value, NOTHING};
 use crate::passes::chain::{LUT, PERSISTENCE};
 use crate::passes::curves;
 
-/// Where the parts of the 80 bytes end: a length, the card's room, the remembered width, the height.
+/// Where the parts of the 80 bytes end: a length, the card's room, the remembered width, the height. Then come the kind and the
+/// position of the pending switch, and a byte that is 0.
 const CARD_END: usize = 73;
 const WIDTH_END: usize = 75;
-const HEIGHT_END: usize = 77;
+pub const HEIGHT_END: usize = 77;
 
 #[derive(Clone)]
 pub struct Station {
     pub opened: Opened,
     /// The size of the frames that its history holds.
     pub held: Size,
+    pub pending: Option<Pending>,
+}
+
+/// A switch that was asked for and is not committed.
+#[derive(Clone, Copy, PartialEq)]
+pub struct Pending {
+    pub kind: u8,
+    pub on: bool,
 }
 
 /// The f32 words of scratch that a frame takes.
@@ -38,6 +47,7 @@ impl Station {
         Ok(Station {
             opened,
             held: NOTHING,
+            pending: None,
         })
     }
 
@@ -46,7 +56,7 @@ impl Station {
         let card = state[1..CARD_END].get(..state[0].into())?;
         let after = &state[1 + card.len()..CARD_END];
         let zero = |bytes: &[u8]| bytes.iter().all(|&byte| byte == 0);
-        if !zero(after) || !zero(&state[HEIGHT_END..]) {
+        if !zero(after) {
             return None;
         }
         let side = |bytes: &[u8]| {
@@ -56,9 +66,23 @@ impl Station {
         let width = side(&state[CARD_END..WIDTH_END]);
         let height = side(&state[WIDTH_END..HEIGHT_END]);
         let held = (width, height);
+        let pending = match state[HEIGHT_END..] {
+            [0, 0, 0] => None,
+            [kind, 0, 0] => Some(Pending { kind, on: false }),
+            [kind, 1, 0] => Some(Pending { kind, on: true }),
+            _ => return None,
+        };
         let opened = paper::open(card).ok()?;
         // A card that is not normalised is no station's.
-        (opened.written() == card && opened.may_hold(held)).then_some(Station { opened, held })
+        let normal = opened.written() == card && opened.may_hold(held);
+        let station = Station {
+            opened,
+            held,
+            pending,
+        };
+        // Nor is a record of a kind that is not in the chain.
+        let known = pending.is_none_or(|asked| station.has(asked.kind.into()));
+        (normal && known).then_some(station)
     }
 
     pub fn state(&self) -> State {
@@ -69,11 +93,18 @@ impl Station {
         let (width, height) = self.held;
         state[CARD_END..WIDTH_END].copy_from_slice(&(width as u16).to_be_bytes());
         state[WIDTH_END..HEIGHT_END].copy_from_slice(&(height as u16).to_be_bytes());
+        if let Some(Pending { kind, on }) = self.pending {
+            state[HEIGHT_END..].copy_from_slice(&[kind, on.into(), 0]);
+        }
         state
     }
 
     pub fn records(&self) -> &[Record] {
         &self.opened.records
+    }
+
+    pub fn kinds(&self) -> Vec<u8> {
+        self.records().iter().map(|r| r.kind as u8).collect()
     }
 
     pub fn place(&self, kind: u32) -> Option<usize> {
@@ -173,6 +204,24 @@ impl Station {
         }
         record.on = on;
         Ok(0)
+    }
+
+    /// Remembers the switch, and changes nothing else.
+    pub fn ask(&mut self, kind: u8, on: bool) -> Answer {
+        self.place(kind.into()).ok_or(12u32)?;
+        if self.pending.is_some() {
+            return Err(17);
+        }
+        self.pending = Some(Pending { kind, on });
+        Ok(0)
+    }
+
+    /// Switches as was asked. Nothing else clears the record.
+    pub fn commit(&mut self) -> Answer {
+        let Pending { kind, on } = self.pending.ok_or(18u32)?;
+        let answer = self.switch(kind, on);
+        self.pending = None;
+        answer
     }
 
     /// Whether the pass of that kind is on, as 1 or 0.

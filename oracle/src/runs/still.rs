@@ -108,7 +108,9 @@ fn stands(
                 if here + 1 == channel {
                     shown = Shown::OneBelow;
                 } else if here != channel {
-                    return Err(format!("word {place}: channel {channel} is shown as {here}"));
+                    return Err(format!(
+                        "word {place}: channel {channel} is shown as {here}"
+                    ));
                 }
             }
         }
@@ -117,9 +119,11 @@ fn stands(
     Ok(())
 }
 
-fn accepted(answer: Answer, tally: &mut RunTally) -> Result<(), String> {
+pub fn accepted(answer: Answer, tally: &mut RunTally) -> Result<(), String> {
     tally.called(answer, 0);
-    answer.map(drop).map_err(|number| format!("refused by {number}"))
+    answer
+        .map(drop)
+        .map_err(|number| format!("refused by {number}"))
 }
 
 /// Red, green and blue go through all channels, each from another one on; so does the top byte.
@@ -129,7 +133,7 @@ fn word(place: u32) -> u32 {
 }
 
 /// Persistence alone, on.
-fn card(amount: f32, depth: usize) -> [u8; 7] {
+pub fn card(amount: f32, depth: usize) -> [u8; 7] {
     let record = 0b0100_1 << 40 | u64::from(amount.to_bits()) << 8 | depth as u64;
     // Version 1 and one pass, then 45 bits, then zero bits to the byte's end.
     let bits = 0x11 << 48 | record << 3;

@@ -7,7 +7,7 @@ use borrow.Author.Tests.{leb-true, le-leb, eq-eqb, ne-eqb, not-true}
 use lib.Dec.{leb, ltb, eqb}
 use Rattle.num.specs.Held.{nothing, sameHeld, fineHeld}
 use Rattle.cards.specs.Alike.{chainOf}
-use Rattle.cards.specs.Normal.{normalPass, normalChain, persists, goodStation}
+use Rattle.cards.specs.Normal.{normalPass, normalChain, persists, askable, goodStation}
 use Rattle.cards.specs.Passes.{kindOf}
 use Rattle.cards.specs.Records.{kinds, among, lastOf}
 use Rattle.cards.specs.declared.station.Pass.{Pass}
@@ -21,20 +21,23 @@ pub record Good (s : Station) : Type 0 where
   pub fine : fineHeld (s .held) ≡ true
   -- persistence that is off or absent holds nothing
   pub idle : sameHeld (s .held) nothing || persists (chainOf s) ≡ true
+  -- what is asked for is a switch of a pass that is there
+  pub asks : askable (s .pending) (chainOf s) ≡ true
 
 pub good : (s : Station) → goodStation s ≡ true → Good s
 unfolding goodStation
 good s e =
     let few = leb (s .n) 10 in
     let normal = normalChain [] (chainOf s) in
-    let a = both (few && normal && fineHeld (s .held)) _ e in
+    let d = both (few && normal && fineHeld (s .held) && (sameHeld (s .held) nothing || persists (chainOf s))) _ e in
+    let a = both (few && normal && fineHeld (s .held)) _ (d .0) in
     let b = both (few && normal) _ (a .0) in
     let c = both few normal (b .0) in
-    record { few = leb-true (s .n) 10 (c .0); normal = c .1; fine = b .1; idle = a .1 }
+    record { few = leb-true (s .n) 10 (c .0); normal = c .1; fine = b .1; idle = a .1; asks = d .1 }
 
 pub is-good : (s : Station) → Good s → goodStation s ≡ true
 unfolding goodStation
-is-good s g = rw (le-leb (s .n) 10 (g .few), g .normal, g .fine, g .idle)
+is-good s g = rw (le-leb (s .n) 10 (g .few), g .normal, g .fine, g .idle, g .asks)
 
 -- nothing may be held by any station
 pub nothing-fine : fineHeld nothing ≡ true

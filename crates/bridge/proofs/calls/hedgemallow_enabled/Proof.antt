@@ -2,20 +2,20 @@
 use borrow.Author.Needs.{needs}
 use mathlib.Core.Path.{ap, _∙_}
 use Rattle.cards.specs.Answers.{told}
-use Rattle.bridge.proofs.Replies.{read, unread, ask-none, ask-some}
+use Rattle.bridge.proofs.Replies.{read, unread, question-none, question-some}
 use Rattle.bridge.proofs.calls.hedgemallow_enabled.Statement.{statement}
 use Rattle.bridge.proofs.calls.hedgemallow_enabled.Tie as tie
 
 returns : tie.Need-returns
 returns c =
     let a = c .before .before in
-    ask-none _ _ _ _ (unread _ _ (a .before .before .before .decode .ensures) _ (a .answer .given .1)) (c .refusal .ensures)
+    question-none _ _ _ _ (unread _ _ (a .before .before .before .decode .ensures) _ (a .answer .given .1)) (c .refusal .ensures)
 
 returns-2 : tie.Need-returns-2
 returns-2 c =
     let q = c .before in
     let t = q .before in
-    ask-some _ _ _ _ (read _ _ (t .before .before .before .decode .ensures) (t .enum-told .given .1)) (c .tell .ensures ∙ ap told (q .enabled .ensures))
+    question-some _ _ _ _ (read _ _ (t .before .before .before .decode .ensures) (t .enum-told .given .1)) (c .tell .ensures ∙ ap told (q .enabled .ensures))
 
 pub hedgemallow-enabled-spec : {M : Type 1} → statement M
 hedgemallow-enabled-spec =

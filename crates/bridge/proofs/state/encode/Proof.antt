@@ -20,11 +20,13 @@ cast-state : tie.Need-cast-state
 cast-state c = record { fits = omega (arith, wrote (c .before) .short) }
 
 returns-2 : tie.Need-returns-2
-returns-2 c = laid-down _ _ _ (wrote (c .before .before .before .before .before))
+returns-2 c =
+    let k = c .before in
+    laid-down _ _ _ (wrote (k .before .before .before .before .before .before)) (k .kind-byte .ensures) (c .position-byte .ensures)
 
 pub encode-spec : {M : Type 1} → statement M
 encode-spec =
     tie.close
     (tie.spec (λ c. search needs) (λ c. search needs) (λ c. search needs) (λ c κs. search needs) (λ c. search needs) (λ c. search needs) returns cast-state
     (λ c. search needs) (λ c. search needs) (λ c. search needs) (λ c. search needs) (λ c. search needs) (λ c. search needs) (λ c. search needs)
-    (λ c. search needs) (λ c. search needs) returns-2)
+    (λ c. search needs) (λ c. search needs) (λ c κs. search needs) (λ c. search needs) (λ c κs. search needs) (λ c. search needs) returns-2)

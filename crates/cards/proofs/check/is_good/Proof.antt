@@ -9,4 +9,5 @@ pub is-good-spec : {M : Type 1} → statement M
 unfolding goodStation
 is-good-spec =
     tie.close
-    (tie.spec (λ c. search goods) (λ c κs. search needs) (λ c. search goods) (λ c κs. tt) (λ c. search goods) (λ c κs. tt) (λ c. search goods) (λ c κs. search needs) (λ c. search goods))
+    (tie.spec (λ c. search goods) (λ c κs. search needs) (λ c. search goods) (λ c κs. tt) (λ c. search goods) (λ c κs. search needs) (λ c. search goods)
+    (λ c κs. search needs) (λ c. search goods))

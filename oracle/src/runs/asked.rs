@@ -1,0 +1,397 @@
+//! A switch that is asked for and then committed, by document 02's P7: lists of calls on stations of many cards, held to what is
+//! written out here, with no model beside them.
+
+use super::cards;
+use super::sides::Held;
+use super::station::HEIGHT_END;
+use super::still;
+use crate::bridge::{self, Answer, Lent, State};
+use crate::cards::paper::{self, Size};
+use crate::met::{Listed, Met};
+use crate::passes::chain::PERSISTENCE;
+use crate::passes::curves::READ;
+use crate::random::Random;
+use crate::steps::Mode;
+use crate::tally::RunTally;
+
+/// What a call answered.
+#[derive(Clone, Copy, PartialEq, Debug)]
+pub enum Told {
+    Accepted,
+    Refused(u32),
+}
+
+impl Listed for Told {
+    const ALL: &'static [Told] = &[
+        Told::Accepted,
+        Told::Refused(8),
+        Told::Refused(9),
+        Told::Refused(10),
+        Told::Refused(11),
+        Told::Refused(12),
+        Told::Refused(13),
+        Told::Refused(14),
+        Told::Refused(16),
+        Told::Refused(17),
+        Told::Refused(18),
+    ];
+}
+
+/// Document 01's persistence of 0.5 and depth 1, then any cards.
+pub fn cards(mode: Mode) -> Vec<Vec<u8>> {
+    let random = &mut Random::named("asked");
+    let count = match mode {
+        Mode::Quick => 200,
+        Mode::Full => 4_000,
+    };
+    let first = still::card(0.5, 1).to_vec();
+    let drawn = std::iter::repeat_with(|| cards::card(random));
+    std::iter::once(first).chain(drawn).take(count).collect()
+}
+
+/// Plays every list on a station of the card.
+pub fn compare(card: &Vec<u8>, at: usize, tally: &mut RunTally, met: &mut Met<Told>) {
+    for (name, list) in LISTS {
+        tally.begin();
+        if let Err(text) = Desk::opened(card, tally, met).and_then(|mut desk| list(&mut desk)) {
+            tally.differ(at, || format!("{name}, card {card:02x?}: {text}"));
+        }
+    }
+}
+
+const LISTS: [(&str, fn(&mut Desk) -> Held); 7] = [
+    ("asked once", once),
+    ("asked for what is not there", absent),
+    ("asked for as it stands", present),
+    ("switched in between", between),
+    ("kept by every other call", kept),
+    ("shown until the commit", shown),
+    ("broken records", broken),
+];
+
+/// One switch is asked for, and no other until it is committed.
+fn once(desk: &mut Desk) -> Held {
+    desk.refuses("commit", 18, COMMIT)?;
+    for kind in desk.kinds() {
+        for on in [0, 1, 255] {
+            desk.frame()?;
+            desk.ask(kind, on)?;
+            for other in desk.kinds() {
+                desk.refuses_to_ask(other, on, 17)?;
+                desk.refuses_to_ask(other, 1 - on.min(1), 17)?;
+            }
+            for other in [0, 11, 255] {
+                desk.refuses_to_ask(other, on, 12)?;
+            }
+            desk.commit()?;
+            desk.is_on(kind, on != 0)?;
+            desk.refuses("commit", 18, COMMIT)?;
+        }
+    }
+    Ok(())
+}
+
+/// A kind that is not in the chain, and bytes that are no kind.
+fn absent(desk: &mut Desk) -> Held {
+    for kind in 0..=255 {
+        if !desk.kinds().contains(&kind) {
+            desk.refuses_to_ask(kind, 0, 12)?;
+            desk.refuses_to_ask(kind, 1, 12)?;
+        }
+    }
+    Ok(())
+}
+
+/// The position in which a switch stands: nothing is another after the commit, not even what is held.
+fn present(desk: &mut Desk) -> Held {
+    for kind in desk.kinds() {
+        desk.frame()?;
+        let before = desk.state;
+        let on = bridge::enabled(&before, kind).unwrap_or_default();
+        desk.ask(kind, on as u8)?;
+        desk.commit()?;
+        desk.stands(&before)?;
+    }
+    Ok(())
+}
+
+/// A plain switch leaves the record, and the commit still does what was asked.
+fn between(desk: &mut Desk) -> Held {
+    for kind in desk.kinds() {
+        for on in [0, 1] {
+            desk.ask(kind, on)?;
+            for position in [on, 1 - on] {
+                let record = desk.record();
+                desk.takes("switch", |state, _| {
+                    bridge::set_enabled(state, kind, position)
+                })?;
+                desk.is_on(kind, position != 0)?;
+                same("record", desk.record(), record)?;
+            }
+            desk.frame()?;
+            desk.commit()?;
+            desk.is_on(kind, on != 0)?;
+        }
+    }
+    Ok(())
+}
+
+/// Each other call gives what it gives where nothing is pending, and leaves the record. So a card shows the switches as they are.
+fn kept(desk: &mut Desk) -> Held {
+    for kind in desk.kinds() {
+        for on in [0, 1] {
+            desk.ask(kind, on)?;
+            for (what, call) in OTHERS {
+                let record = desk.record();
+                let (mut state, mut lent) = (with_record(&desk.state, NONE), desk.lent.clone());
+                let asked = call(&mut state, &mut lent);
+                desk.call(what, asked, call)?;
+                desk.stands(&with_record(&state, record))?;
+                if desk.lent != lent {
+                    return Err(format!("{what}: another picture, history or card"));
+                }
+            }
+            desk.commit()?;
+        }
+    }
+    Ok(())
+}
+
+/// Persistence of 0.5 and depth 1 that is to be off: the ghost is shown up to the commit, and the frame after it as it is.
+fn shown(desk: &mut Desk) -> Held {
+    if desk.state[1..8] != still::card(0.5, 1) {
+        return Ok(());
+    }
+    desk.shows(0xff_ffff, 0xff_ffff)?;
+    desk.ask(PERSISTENCE as u8, 0)?;
+    desk.shows(0x00_0000, 0x55_5555)?;
+    desk.shows(0xff_ffff, 0xaa_aaaa)?;
+    desk.commit()?;
+    desk.shows(0x00_0000, 0x00_0000)?;
+    // On again, it begins anew.
+    desk.ask(PERSISTENCE as u8, 1)?;
+    desk.commit()?;
+    desk.shows(0xff_ffff, 0xff_ffff)?;
+    desk.shows(0x00_0000, 0x55_5555)
+}
+
+/// A record that no station has: a kind that is not in the chain, a position without a kind or above 1, a byte behind it.
+fn broken(desk: &mut Desk) -> Held {
+    let kinds = desk.kinds();
+    let mut records = vec![[255, 1, 0], [0, 1, 0], [0, 2, 0], [0, 0, 1], [0, 0, 255]];
+    for kind in 1..=11 {
+        records.extend(if kinds.contains(&kind) {
+            [[kind, 2, 0], [kind, 255, 0], [kind, 1, 1], [kind, 0, 128]].to_vec()
+        } else {
+            [[kind, 0, 0], [kind, 1, 0]].to_vec()
+        });
+    }
+    for record in records {
+        desk.state = with_record(&desk.state, record);
+        let asking: (&str, Call) = ("ask", |state, _| bridge::ask(state, PERSISTENCE as u8, 1));
+        for (what, call) in OTHERS.into_iter().chain([asking, ("commit", COMMIT)]) {
+            desk.refuses(what, 13, call)?;
+        }
+    }
+    Ok(())
+}
+
+type Call = fn(&mut State, &mut Buffers) -> Answer;
+
+const COMMIT: Call = |state, _| bridge::commit(state);
+
+/// Every call on a state but these two, accepted and refused.
+#[rustfmt::skip]
+const OTHERS: [(&str, Call); 17] = [
+    ("frame", |state, lent| lent.frame(state, SIZE)),
+    ("another frame", |state, lent| lent.frame(state, SIZE)),
+    ("turned frame", |state, lent| lent.frame(state, (SIZE.1, SIZE.0))),
+    ("frame without a column", |state, lent| lent.frame(state, (0, 1))),
+    ("frame past its words", |state, lent| lent.frame(state, (7, 7))),
+    ("frame without history", |state, lent| lent.lend(state, SIZE, [0, ENOUGH, READ])),
+    ("frame without scratch", |state, lent| lent.lend(state, SIZE, [ENOUGH, 0, READ])),
+    ("frame without a curve", |state, lent| lent.lend(state, SIZE, [ENOUGH, ENOUGH, 0])),
+    ("reset", |state, _| bridge::reset(state)),
+    ("step", |state, _| bridge::cycle_lut(state)),
+    ("switch on", |state, _| bridge::set_enabled(state, PERSISTENCE as u8, 1)),
+    ("switch of no kind", |state, _| bridge::set_enabled(state, 0, 0)),
+    ("depth", |state, _| bridge::depth(state)),
+    ("is on", |state, _| bridge::enabled(state, PERSISTENCE as u8)),
+    ("preset", |state, _| bridge::preset(state)),
+    ("write", |state, lent| bridge::write(state, &mut lent.card)),
+    ("write into no byte", |state, _| bridge::write(state, &mut [])),
+];
+
+/// Of the frames.
+const SIZE: Size = (3, 2);
+const COUNT: usize = SIZE.0 * SIZE.1;
+
+/// Words that are enough for the deepest history, and for either scratch.
+const ENOUGH: usize = 8 * COUNT;
+
+/// What is lent to the calls, and is looked at after them.
+#[derive(Clone, PartialEq)]
+struct Buffers {
+    framebuffer: [u32; COUNT],
+    history: [u32; ENOUGH],
+    card: [u8; 72],
+}
+
+impl Buffers {
+    fn new() -> Self {
+        Buffers {
+            framebuffer: [0x12_3456, 0xff_ffff, 0, 0x80_4020, 0xff_00ff, 0x01_0203],
+            history: [0x55_aa33; ENOUGH],
+            card: [0xa5; 72],
+        }
+    }
+
+    fn frame(&mut self, state: &mut State, size: Size) -> Answer {
+        self.lend(state, size, [ENOUGH, ENOUGH, READ])
+    }
+
+    /// A frame that is lent so many words of history, of either scratch and of a curve.
+    fn lend(&mut self, state: &mut State, size: Size, words: [usize; 3]) -> Answer {
+        let [history, scratch, curve] = words;
+        let curve: Vec<f32> = (0..curve).map(|k| k as f32 / 255.0).collect();
+        let lent = Lent {
+            framebuffer: &mut self.framebuffer,
+            history: &mut self.history[..history],
+            floats: &mut vec![f32::NAN; scratch],
+            ints: &mut vec![u32::MAX; scratch],
+            curve: &curve,
+        };
+        bridge::apply(state, size.0, size.1, lent)
+    }
+}
+
+/// The three bytes in which nothing is pending.
+const NONE: [u8; 3] = [0; 3];
+
+/// The state with these bytes for its pending switch.
+fn with_record(state: &State, record: [u8; 3]) -> State {
+    let mut state = *state;
+    state[HEIGHT_END..].copy_from_slice(&record);
+    state
+}
+
+/// A station, what is lent to it, and the counts.
+struct Desk<'a> {
+    state: State,
+    lent: Buffers,
+    tally: &'a mut RunTally,
+    met: &'a mut Met<Told>,
+}
+
+impl<'a> Desk<'a> {
+    fn opened(card: &[u8], tally: &'a mut RunTally, met: &'a mut Met<Told>) -> Held<Self> {
+        let mut desk = Desk {
+            state: [0xa5; 80],
+            lent: Buffers::new(),
+            tally,
+            met,
+        };
+        desk.takes("open", |state, _| bridge::open(card, state))?;
+        same("record", desk.record(), NONE)?;
+        Ok(desk)
+    }
+
+    /// Those of the chain, by the card that the state holds.
+    fn kinds(&self) -> Vec<u8> {
+        let card = &self.state[1..][..self.state[0].into()];
+        let records = paper::open(card).map_or(Vec::new(), |opened| opened.records);
+        records.iter().map(|record| record.kind as u8).collect()
+    }
+
+    /// The three bytes of the pending switch.
+    fn record(&self) -> [u8; 3] {
+        let [.., kind, on, behind] = self.state;
+        [kind, on, behind]
+    }
+
+    /// Makes a call that has to answer this. A refused one leaves the state and what is lent.
+    fn call(
+        &mut self,
+        what: &str,
+        asked: Answer,
+        call: impl FnOnce(&mut State, &mut Buffers) -> Answer,
+    ) -> Held {
+        let (state, lent) = (self.state, self.lent.clone());
+        let here = call(&mut self.state, &mut self.lent);
+        same(what, here, asked)?;
+        let told = asked.map_or_else(Told::Refused, |_| Told::Accepted);
+        if !self.met.listed(told) {
+            return Err(format!("{what}: {told:?}"));
+        }
+        self.met.note(told);
+        self.tally.called(asked, 0);
+        if asked.is_err() && (self.state != state || self.lent != lent) {
+            return Err(format!("{what}: refused, and something is another"));
+        }
+        Ok(())
+    }
+
+    /// One that is accepted and reports nothing.
+    fn takes(&mut self, what: &str, call: impl FnOnce(&mut State, &mut Buffers) -> Answer) -> Held {
+        self.call(what, Ok(0), call)
+    }
+
+    fn refuses(&mut self, what: &str, number: u32, call: Call) -> Held {
+        self.call(what, Err(number), call)
+    }
+
+    fn refuses_to_ask(&mut self, kind: u8, on: u8, number: u32) -> Held {
+        let what = format!("ask {kind} {on}");
+        self.call(&what, Err(number), |state, _| bridge::ask(state, kind, on))
+    }
+
+    /// Asks for a switch: the record is another, and nothing else.
+    fn ask(&mut self, kind: u8, on: u8) -> Held {
+        let after = with_record(&self.state, [kind, u8::from(on != 0), 0]);
+        let what = format!("ask {kind} {on}");
+        self.takes(&what, |state, _| bridge::ask(state, kind, on))?;
+        self.stands(&after)
+    }
+
+    /// Commits: the state is that of a switch at once, and nothing is pending.
+    fn commit(&mut self) -> Held {
+        let [kind, on, _] = self.record();
+        let mut after = with_record(&self.state, NONE);
+        same("switch", bridge::set_enabled(&mut after, kind, on), Ok(0))?;
+        self.takes("commit", COMMIT)?;
+        self.stands(&after)
+    }
+
+    fn is_on(&mut self, kind: u8, on: bool) -> Held {
+        let what = format!("the switch of kind {kind}");
+        self.call(&what, Ok(on.into()), |state, _| {
+            bridge::enabled(state, kind)
+        })
+    }
+
+    fn stands(&self, asked: &State) -> Held {
+        same("state", self.state, *asked)
+    }
+
+    /// A frame, so that something is held where persistence is on.
+    fn frame(&mut self) -> Held {
+        still::accepted(self.lent.frame(&mut self.state, SIZE), self.tally)?;
+        self.tally.frame(COUNT);
+        Ok(())
+    }
+
+    /// A frame of one word, and what is shown of it.
+    fn shows(&mut self, word: u32, picture: u32) -> Held {
+        self.lent.framebuffer[0] = word;
+        still::accepted(self.lent.frame(&mut self.state, (1, 1)), self.tally)?;
+        self.tally.frame(1);
+        same("picture", self.lent.framebuffer[0], picture)
+    }
+}
+
+fn same<T: PartialEq + std::fmt::Debug>(what: &str, here: T, asked: T) -> Held {
+    if here == asked {
+        return Ok(());
+    }
+    Err(format!("{what}: here {here:02x?}, asked {asked:02x?}"))
+}
