@@ -216,7 +216,7 @@ pub struct Given {
 }
 
 /// The longest argument that the programs take.
-const LONGEST: usize = 4096;
+pub(super) const LONGEST: usize = 4096;
 
 /// Names of files that are nowhere near hexadecimal.
 const NAMES: [&str; 8] = [
