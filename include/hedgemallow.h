@@ -24,9 +24,10 @@
  * is refused by the number answer - 256, and every byte and word is as it was before the call.
  *
  * Sizes. count is width * height, each side 1 to 1024. A frame takes
- *     framebuffer  count words, one pixel each, 0xRRGGBB, row after row; the top byte may be set: a pass
- *                  that rewrites a pixel clears it, and what no pass rewrites keeps it (the even rows
- *                  under scanlines, for one)
+ *     framebuffer  count words, one pixel each, 0xRRGGBB, row after row; the top byte may be set.
+ *                  Curvature takes it along with the pixel that it reads, every other pass clears it
+ *                  in the pixels that it works out, and what no pass works out keeps it: the even rows
+ *                  under scanlines, a frame with which persistence begins its history
  *     history      hedgemallow_depth(state) * count words: the same ones at each frame, at first with
  *                  anything in them
  *     floats       3 * count + 3 * width words of scratch, whatever they hold (HEDGEMALLOW_FLOATS)

@@ -102,17 +102,48 @@ fn mixed(station: Station) -> usize {
     0
 }
 
-// From when on two stations with these settings show the same picture.
-fn alike(station: Station) {
-    let frames = mixed(station);
-    text(b"alike: the same settings; the pictures are the same ");
+// Whether a picture depends on the curve that is lent with its frame: colour is in the chain with a gamma other than 1. (Where it is off, the curve decides
+// a refusal still.)
+fn is_curved(station: Station) -> bool {
+    let n = station.n;
+    let mut i: usize = 0;
+    while i < 10 {
+        let r = record(station, i);
+        let pass = r.pass;
+        if i < n {
+            if let Pass::ColorCorrection {
+                brightness: _,
+                contrast: _,
+                saturation: _,
+                gamma,
+            } = pass {
+                return gamma != 1.0;
+            }
+        }
+        i += 1;
+    }
+    false
+}
+
+// From which frame on.
+fn begin(frames: usize) {
     if frames == 0 {
-        text(b"from the first shared frame on\n");
+        text(b"from the first shared frame on");
         return;
     }
     text(b"after ");
     numbers::whole(frames);
-    text(b" shared frames, or from a shared reset on\n");
+    text(b" shared frames, or from a shared reset on");
+}
+
+// From when on two stations with these settings show the same picture.
+fn alike(station: Station) {
+    text(b"alike: the same settings; the pictures are the same ");
+    begin(mixed(station));
+    if is_curved(station) {
+        text(b", where both are lent the same curve");
+    }
+    text(b"\n");
 }
 
 fn opened(a: Station, b: Station) {

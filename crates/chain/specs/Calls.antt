@@ -38,7 +38,7 @@ rechain rs s = record { records = rs ++ drop (s .n) (s .records); n = s .n; held
 abbrev pub pend : Pending → Station → Station
 pend pending s = record { records = s .records; n = s .n; held = s .held; pending = pending }
 
--- ## Refusals: a number of document 01's table, 0 for none
+-- ## Refusals: a number of the papers' tables, 0 for none
 
 -- the f32 words of scratch that a frame asks for: three for each of its words, and three for each of a row's
 abbrev pub floatRoom : (w h : ℕ) → ℕ

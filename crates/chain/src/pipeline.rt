@@ -1,5 +1,5 @@
 // The calls on a station: a frame, a reset, a switch, at once or asked for and committed, a preset step, and two questions. None has a condition: what it
-// cannot do it refuses, by a number of document 01's table, and a refusal changes nothing.
+// cannot do it refuses, by a number of the papers' tables, and a refusal changes nothing.
 ghost use mathlib.Core.Path.{_≡_};
 ghost use Prim.Native.Nat.{_≤_, _<_};
 ghost use mathlib.Core.Bool.{true};

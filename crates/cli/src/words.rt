@@ -4,7 +4,7 @@ use cards::reader;
 use inspect::layout::Field;
 use inspect::layout::field_at;
 
-// The trade's word of document 01's table.
+// The trade's word of a refusal, as the papers have it.
 fn word(fd: i32, number: u8) {
     match number {
         1 => io::write_all(fd, b"torn card"),
