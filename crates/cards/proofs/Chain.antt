@@ -8,7 +8,7 @@ use lib.ListN.{length, getD, length-append, List·getD-eq-default}
 use lib.Dec.{ltb, eqb}
 use borrow.Author.Tests.{eq-eqb}
 use lib.Ieee.{neg}
-use Rattle.cards.specs.Step.{took, _>>=_, _>>_}
+use Rattle.cards.specs.Step.{took}
 use Rattle.cards.specs.Bits.{bitAt, valueAt}
 use Rattle.num.specs.Const.{c0·0, c0·01, c0·5, c0·95, c1·0, c4·0}
 use Rattle.cards.specs.Passes.{ntscAt, bloomAt, autoGradientAt, persistenceAt, lutAt, curvatureAt, colorCorrectionAt, crtAt, vignetteAt, scanlinesAt, passAt, kindOf}

@@ -74,19 +74,3 @@ neg-bits x h = go (negZero x) refl (eqb (toBits binary32 x) 0x8000_0000) refl
     go true ea false eb = absurd (eqb-false _ _ eb (ap (toBits binary32) (neg-zero-is x h ea) ∙ bits-neg))
     go false ea true eb =
         sym ea ∙ ap negZero (sym (ofBits-toBits binary32 x h) ∙ ap (ofBits binary32) (eqb-true _ _ eb) ∙ is-neg)
-
-pub and-2 : (a b c : Bool) → a ≡ true → b ≡ true → (a && b && c) ≡ c
-and-2 a b c ea eb = simp (ea, eb)
-
-pub finite-number : (x : Float) → T (finite x) → T (not (isNan x))
-unfolding isNan
-finite-number nan h = h
-finite-number (inf s) h = absurd h
-finite-number (fin s m d) h = tt
-
--- a settled value is finite
-pub settled-finite : (low high x : Float) → T (settled low high x) → T (finite x)
-unfolding settled
-settled-finite low high x h =
-    and-l (finite x) (not (lt x low))
-    (and-l (finite x && not (lt x low)) (not (lt high x)) (and-l (finite x && not (lt x low) && not (lt high x)) (not (negZero x)) h))

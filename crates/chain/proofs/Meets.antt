@@ -1,7 +1,7 @@
 -- Two stations meet in j places when they differ in what they hold alone and their histories agree in the newest j places. A shared call is accepted by both
 -- or by none; it leaves the j places, and one more where persistence takes it; a reset or a switching-off leaves no place to differ in. Where all places agree
 -- the answers do, and the pictures. Assumes nothing.
-use Prim.Native.Nat.{ℕ, zero, suc, _+_, _*_, _-_, _≤_, zero-le}
+use Prim.Native.Nat.{ℕ, zero, suc, _*_, _≤_, zero-le}
 use native.Mathlib.Nat.{le-of-suc-le-suc, mul-le-mul-right}
 use native.Mathlib.Omega.{arith}
 use mathlib.Core.Path.{_≡_, refl, ap, ap₂, sym, subst, _∙_}

@@ -19,14 +19,9 @@ use passes::curvature;
 use passes::lut;
 use passes::ntsc;
 use passes::persistence;
+use passes::persistence::Kept;
 use passes::scanlines;
 use passes::vignette;
-
-// What a run leaves beside the frame and the history: what is held, and how many channels it clipped.
-pub(crate) struct Run {
-    pub(crate) held: Size,
-    pub(crate) clipped: u32,
-}
 
 // The size of a frame, as the history remembers it.
 pub(crate) fn size_of(width: usize, height: usize) -> Size
@@ -50,7 +45,7 @@ pub(crate) fn run_pass(
     width: usize,
     height: usize,
     held: Size,
-) -> Run
+) -> Kept
     requires { ⌜ Lent width height (now frame) (now floats) (now ints) ⌝
         ∗ ⌜ Ready width height pass (length (now history)) (length (now curve)) ⌝ }
     ensures { λ r. ⌜ flow (painted (now (frame .exit)) (r .clipped)) (r .held) (now (history .exit))
@@ -59,7 +54,7 @@ pub(crate) fn run_pass(
     match pass {
         Pass::Ntsc { strength, bleed } => {
             let clipped = ntsc::apply(frame, width, height, strength, bleed as usize);
-            Run { held, clipped }
+            Kept { held, clipped }
         }
         Pass::Bloom {
             threshold,
@@ -75,7 +70,7 @@ pub(crate) fn run_pass(
                 strength,
                 radius as usize,
             );
-            Run { held, clipped }
+            Kept { held, clipped }
         }
         Pass::AutoGradient {
             strength,
@@ -90,22 +85,19 @@ pub(crate) fn run_pass(
                 vertical,
                 horizontal,
             );
-            Run { held, clipped }
+            Kept { held, clipped }
         }
         Pass::Persistence { amount, depth } => {
             let size = size_of(width, height);
-            let kept = persistence::apply(frame, history, ints, amount, depth, held, size);
-            let held = kept.held;
-            let clipped = kept.clipped;
-            Run { held, clipped }
+            persistence::apply(frame, history, ints, amount, depth, held, size)
         }
         Pass::Lut { preset, strength } => {
             let clipped = lut::apply(frame, preset, strength);
-            Run { held, clipped }
+            Kept { held, clipped }
         }
         Pass::Curvature { amount } => {
             curvature::apply(frame, ints, width, height, amount);
-            Run { held, clipped: 0 }
+            Kept { held, clipped: 0 }
         }
         Pass::ColorCorrection {
             brightness,
@@ -121,19 +113,19 @@ pub(crate) fn run_pass(
                 saturation,
                 gamma,
             );
-            Run { held, clipped }
+            Kept { held, clipped }
         }
         Pass::Crt { strength } => {
             crt::apply(frame, width, height, strength);
-            Run { held, clipped: 0 }
+            Kept { held, clipped: 0 }
         }
         Pass::Vignette { strength } => {
             vignette::apply(frame, floats, width, height, strength);
-            Run { held, clipped: 0 }
+            Kept { held, clipped: 0 }
         }
         Pass::Scanlines { strength } => {
             scanlines::apply(frame, width, height, strength);
-            Run { held, clipped: 0 }
+            Kept { held, clipped: 0 }
         }
     }
 }
@@ -149,7 +141,7 @@ pub(crate) fn run_record(
     width: usize,
     height: usize,
     held: Size,
-) -> Run
+) -> Kept
     requires { ⌜ Lent width height (now frame) (now floats) (now ints) ⌝
         ∗ ⌜ Ready width height (rec .pass) (length (now history)) (length (now curve)) ⌝ }
     ensures { λ r. ⌜ flow (painted (now (frame .exit)) (r .clipped)) (r .held) (now (history .exit))
@@ -170,7 +162,7 @@ pub(crate) fn run_record(
             held,
         );
     }
-    Run { held, clipped: 0 }
+    Kept { held, clipped: 0 }
 }
 
 // The first n records in their order.
@@ -185,7 +177,7 @@ pub(crate) fn run_chain(
     width: usize,
     height: usize,
     held: Size,
-) -> Run
+) -> Kept
     requires { ⌜ Lent width height (now frame) (now floats) (now ints) ⌝
         ∗ ⌜ Readies width height n records (length (now history)) (length (now curve)) ⌝ }
     ensures { λ r. ⌜ flow (painted (now (frame .exit)) (r .clipped)) (r .held) (now (history .exit))
@@ -201,5 +193,5 @@ pub(crate) fn run_chain(
         clipped += run.clipped;
         i += 1;
     }
-    Run { held, clipped }
+    Kept { held, clipped }
 }

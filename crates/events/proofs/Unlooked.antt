@@ -65,10 +65,6 @@ unless-same zero s words past o q h = h refl
 unless-same (suc k) s words past o q h = refl
 
 -- what the frame of a longer input wants, by its size
-wanted-bad : (input : List ℕ) → 3 ≤ length input → badSize input ≡ true → frameWanted input ≡ 3
-unfolding frameWanted
-wanted-bad input l b = simp (le-ltb (length input) 3 l, b)
-
 wanted-fine : (input : List ℕ) → 3 ≤ length input → badSize input ≡ false → frameWanted input ≡ 3 + 3 * countIn input
 unfolding frameWanted
 wanted-fine input l b = simp (le-ltb (length input) 3 l, b)

@@ -1,10 +1,9 @@
 -- `frames::filter` meets its contract: a frame that is taken lies whole in the file, and its words in the framebuffer. Assumes nothing.
 use borrow.Author.Needs.{needs}
-use Prim.Native.Nat.{ℕ, _-_, _*_, _≤_}
-use mathlib.Core.List.{List}
-use mathlib.Core.Path.{_≡_, sym, _∙_}
+use Prim.Native.Nat.{ℕ}
+use mathlib.Core.Path.{sym, _∙_}
 use native.Mathlib.Omega.{arith}
-use lib.ListN.{length, drop}
+use lib.ListN.{length}
 use Rattle.raster.specs.Claims.{Whole}
 use Rattle.raster.proofs.Taken.{taken-whole}
 use Rattle.frames.proofs.Parts.{no-frame, shown-in, few, lent, pixels, pixels-room}

@@ -13,7 +13,7 @@ use lib.Ieee.{Float, nan, inf, fin, binary32, up, down, below, level, lt, le, eq
 use lib.Ieee.Fits.{down-pos, and-r, and-i, eq→eqb}
 use lib.Ieee.Nearest.{div-mono}
 use lib.Ieee.Order.{round-mono}
-use Rattle.num.specs.Const.{c0·0}
+use Rattle.num.specs.Const.{c0·0, c1·0}
 use Rattle.num.specs.Steps.{clampOf, plusZeroOf, limitOf, cutOf, roundOf}
 
 -- ---- tests of numbers
@@ -116,6 +116,21 @@ lt-number nan y h = absurd (true≢false (sym h))
 lt-number (inf s) y h = tt
 lt-number (fin s m e) y h = tt
 
+-- and so is what is above something
+pub lt-number-right : (x y : Float) → lt x y ≡ true → T (not (isNan y))
+unfolding lt isNan
+lt-number-right nan y h = absurd (true≢false (sym h))
+lt-number-right (inf s) nan h = absurd (true≢false (sym h))
+lt-number-right (inf s) (inf t) h = tt
+lt-number-right (inf s) (fin t n d) h = tt
+lt-number-right (fin s m e) nan h = absurd (true≢false (sym h))
+lt-number-right (fin s m e) (inf t) h = tt
+lt-number-right (fin s m e) (fin t n d) h = tt
+
+pub one-above : lt c0·0 c1·0 ≡ true
+unfolding lt ofBits
+one-above = refl
+
 pub irreflexive : (x : Float) → lt x x ≡ false
 unfolding lt
 irreflexive nan = refl
@@ -148,7 +163,7 @@ clamp-between x lo hi p l = go (lt x lo) (lt hi x) refl refl
 
 -- ---- cut and round keep the order
 
-none-left : (a d : ℕ) → 0 < d → a * d ≡ 0 → a ≡ 0
+pub none-left : (a d : ℕ) → 0 < d → a * d ≡ 0 → a ≡ 0
 none-left a d p h = eq-of-mul-eq-mul-right d p a 0 (h ∙ sym (zero-mul d))
 
 pub cut-mono : (x y : Float) → T (le x y) → T (le y (fin false 1023 (pos 0))) → cutOf x ≤ cutOf y

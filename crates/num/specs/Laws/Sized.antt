@@ -21,7 +21,7 @@ use Rattle.num.specs.F32.{_⊕_, _⊖_, _⊗_}
 use Rattle.num.specs.Laws.Signs.{round-neg}
 use Rattle.num.specs.Steps.{absOf, roundOf}
 use Rattle.num.specs.Ranges.{within}
-use Rattle.num.specs.Laws.Within.{size-le, minus-zero, round-signed, le-within, Plain}
+use Rattle.num.specs.Laws.Within.{size-le, minus-zero, round-signed, le-within, Plain, within-plain}
 
 -- binary32 has the whole number n
 abbrev pub Exact : ℕ → Type 0
@@ -138,10 +138,6 @@ times-sized n k (fin s m e) (fin t i d) x h g =
     both a c b d h g = let p = mul-le-mul h g in omega arith
 
 -- ---- of two values from 0 to n
-
-pub within-plain : (n : ℕ) (s : Bool) (m : ℕ) (e : ℤ) (d : ℕ) → T (within n (fin s m e)) → Plain s (m * up e * d)
-within-plain n false m e d h = inl refl
-within-plain n true m e d h = inr (ap (λ (j : ℕ). j * d) (minus-zero n m e h) ∙ zero-mul d)
 
 difference-sized : (n : ℕ) (s : Bool) (a : ℕ) (t : Bool) (b c : ℕ) → Exact n → 0 < c → a ≤ n * c → b ≤ n * c → Plain s a
     → Plain t b

@@ -64,10 +64,10 @@ returns-3 c =
 
 returns-4 : tie.Need-returns-4
 returns-4 c =
-    let start = c .before .before .before .before .before .before .before .before .before .before .before .before .before .before .before .before .before .before .before .before in
+    let start = c .before .before .before .before .before .before .before .before .before .before .before .before .before .before .before .before .before .before .before in
     let a = start .args in
-    persisted (a .width) (a .height) (a .curve .now) (flow (painted (a .frame .now) 0) (a .held) (a .history .now)) (c .before .before .before .before .before .before .before .before .before .before .before .size-of .ensures)
-    (c .before .before .before .before .before .before .before .before .before .before .before .before .before .pass4 .given .1) (c .before .before .before .before .before .before .before .apply4 .ensures .0)
+    persisted (a .width) (a .height) (a .curve .now) (flow (painted (a .frame .now) 0) (a .held) (a .history .now)) (c .before .before .before .before .before .before .before .before .before .before .size-of .ensures)
+    (c .before .before .before .before .before .before .before .before .before .before .before .before .pass4 .given .1) (c .before .before .before .before .before .before .apply4 .ensures .0)
 
 returns-5 : tie.Need-returns-5
 unfolding overBy

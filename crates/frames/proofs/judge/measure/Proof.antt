@@ -4,7 +4,6 @@ use mathlib.Core.List.{List}
 use mathlib.Core.Path.{_≡_, ap, _∙_}
 use borrow.Author.Needs.{needs}
 use native.Mathlib.Omega.{arith}
-use lib.ListN.{length}
 use Rattle.areas.specs.Areas.{judged}
 use Rattle.areas.specs.declared.Answer.{Answer}
 use Rattle.raster.specs.Pixels.{unpacked}

@@ -1,7 +1,6 @@
 -- `inspect::layout::in_record` meets its contract: each test went as the definition's. Assumes nothing.
 use borrow.Author.Needs.{needs}
 use native.Mathlib.Omega.{arith}
-use mathlib.Core.Path.{sym, _∙_}
 use borrow.Author.Tests.{lt-ltb, le-ltb}
 use Rattle.inspect.specs.Layout.{inRecord}
 use Rattle.inspect.proofs.layout.in_record.Statement.{statement}

@@ -5,7 +5,7 @@ use lib.ListN.{length, getD}
 use lib.Ieee.{nan}
 use Rattle.num.specs.Laws.Rewrite.{Rewritten, none, all}
 use Rattle.passes.specs.Private.{blendedWord}
-use Rattle.passes.proofs.RowLoops.{further, further-long}
+use Rattle.num.specs.Laws.Rewrite.{further, further-long}
 use Rattle.passes.proofs.persistence.blend_rows.Statement.{statement}
 use Rattle.passes.proofs.persistence.blend_rows.Tie as tie
 

@@ -25,16 +25,6 @@ use Rattle.passes.specs.Rows.{Frame}
 use Rattle.passes.specs.Laws.Rows.{row-ends}
 use Rattle.passes.specs.declared.pixel.Rgb.{Rgb}
 
-pub both : (p q : Bool) → (p && q) ≡ true → (p ≡ true) × (q ≡ true)
-both true true e = (refl, refl)
-both true false e = absurd (true≢false (sym e))
-both false q e = absurd (true≢false (sym e))
-
-pub neither : (p q : Bool) → (p || q) ≡ false → (p ≡ false) × (q ≡ false)
-neither false false e = (refl, refl)
-neither false true e = absurd (true≢false e)
-neither true q e = absurd (true≢false e)
-
 -- ---- three channels
 
 pub record Tint {A : Arith} (G : Agrees A) (n : ℕ) (c : A .Rgb) (d : Rgb) : Type 0 where
