@@ -130,7 +130,7 @@ pub(crate) fn last_kind(records: [Record; 10], n: usize) -> u8
 }
 
 // Whether a pass of that kind is among the first n records.
-pub(crate) fn holds(records: [Record; 10], n: usize, kind: u8) -> bool
+pub(crate) fn is_among(records: [Record; 10], n: usize, kind: u8) -> bool
     requires { ⌜ n ≤ 10 ⌝ }
     ensures { λ r. ⌜ r ≡ among kind (kinds (take n records)) ⌝ }
 {
@@ -158,5 +158,5 @@ pub fn has_kind(station: Station, kind: u8) -> bool
     ensures { λ r. ⌜ r ≡ among kind (kinds (chainOf station)) ⌝ }
 {
     let records = station.records;
-    holds(records, few(station.n), kind)
+    is_among(records, few(station.n), kind)
 }

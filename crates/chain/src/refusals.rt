@@ -140,7 +140,7 @@ pub(crate) fn lacks(station: Station, kind: u8) -> u8
 }
 
 // Of asking for a switch of the pass of that kind.
-pub(crate) fn stops_ask(station: Station, kind: u8) -> u8
+pub(crate) fn ask_stops(station: Station, kind: u8) -> u8
     ensures { λ r. ⌜ r ≡ askStops station kind ⌝ }
 {
     let refusal = lacks(station, kind);
