@@ -7,7 +7,7 @@ use mathlib.Core.Path.{_≡_, sym, _∙_}
 use lib.ListN.{length, getD, take, drop}
 use lib.Ieee.{nan}
 use borrow.Author.Needs.{needs}
-use Rattle.passes.specs.Laws.Rows.{part-ends}
+use Rattle.passes.specs.Laws.Rows.{row-ends}
 use Rattle.passes.proofs.RowLoops.{lent-length}
 use Rattle.passes.proofs.Mixes.{mixed, first, next}
 use Rattle.passes.proofs.Sums.{Summed, summed-none, summed-more, summed-all}
@@ -32,7 +32,7 @@ module _ (c : tie.In-loop Inv-loop μ-loop) where
 
   -- the older frame's place lies within the history
   abbrev place-in : c .before .loop .j * start .args .n + start .args .n ≤ length (start .args .history .now)
-  place-in = omega (arith, part-ends (start .args .n) (length (start .args .ws .now)) (c .before .loop .j) (c .loop-test .taken))
+  place-in = omega (arith, row-ends (start .args .n) (length (start .args .ws .now)) (c .before .loop .j) (c .loop-test .taken))
 
   abbrev part-length : let k = c .before .loop .start in
       length (take (k + length (start .args .part .now) - k) (drop k (start .args .history .now))) ≡ length (start .args .part .now)
