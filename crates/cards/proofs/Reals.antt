@@ -1,7 +1,7 @@
 -- Laws of the settings: a binary32's bits are finite exactly where the exponent's field is not all ones. Assumes nothing.
 use Prim.Native.Nat.{ℕ, zero, suc, _+_, _*_, _%_, _/_, _^_}
 use mathlib.Core.Path.{_≡_, refl, ap, sym, _∙_}
-use mathlib.Core.Bool.{Bool, true, false, cond, not, _&&_}
+use mathlib.Core.Bool.{Bool, true, false, cond, not}
 use lib.Dec.{T, eqb, eqb→eq}
 use lib.Pow.{pow-pos}
 use lib.IntN.{pos, negsuc}
@@ -9,9 +9,8 @@ use native.Mathlib.Omega.{arith}
 use borrow.Author.Tests.{eqb-true, eqb-false}
 use lib.Ieee.Bits.{ofBits-toBits}
 use lib.Ieee.Compare.{nan-differs}
-use lib.Ieee.Fits.{and-l}
-use Rattle.cards.specs.Normal.{negZero, settled}
-use lib.Ieee.{Float, nan, inf, fin, binary32, odd, ofFields, ofBits, toBits, nanBits, fits, isNan, ne, lt}
+use Rattle.cards.specs.Normal.{negZero}
+use lib.Ieee.{Float, nan, inf, fin, binary32, odd, ofFields, ofBits, toBits, nanBits, fits, isNan, ne}
 use lib.Ieee.Scale.{finite}
 
 odd-finite : (d : ℕ) (s : Bool) (q k l : ℕ) → finite (odd d s q k l) ≡ true

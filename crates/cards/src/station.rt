@@ -1,4 +1,5 @@
-// The station: its passes with their settings, and the records in chain order.
+// What a station is: the records in chain order, each a pass with its settings and its switch; the size that its history holds; the pending switch. And what is
+// asked of kinds.
 ghost use mathlib.Core.Path.{_≡_};
 ghost use Prim.Native.Nat.{_<_, _≤_, min};
 ghost use Rattle.cards.specs.Alike.{chainOf};

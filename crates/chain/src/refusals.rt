@@ -1,4 +1,4 @@
-// What the calls refuse: a number of the papers' tables, 0 for none.
+// What the calls refuse: a number of the papers' tables, 0 for none. (`commit` tells its own two, as it takes the pending switch apart.)
 ghost use mathlib.Core.Path.{_≡_};
 ghost use mathlib.Core.Bool.{not, _&&_};
 ghost use Prim.Native.Nat.{_≤_, _*_};

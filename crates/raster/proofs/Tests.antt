@@ -1,6 +1,6 @@
 -- Tests in the code, one after another, decide as the definition's: `search tests` closes each return. Assumes nothing.
 use mathlib.Core.Path.{_≡_, refl, sym, _∙_}
-use mathlib.Core.Bool.{Bool, true, false, cond, _&&_, _||_}
+use mathlib.Core.Bool.{Bool, true, false, cond, _&&_}
 pub use Rattle.num.specs.Laws.Bools.{and-last, or-held, or-last}
 pub use borrow.Author.Tests.{eq-eqb, ne-eqb, le-leb, lt-leb, lt-ltb, le-ltb, not-true, not-false}
 

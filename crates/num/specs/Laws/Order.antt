@@ -1,5 +1,6 @@
 -- Laws of order: `le` is total away from NaN, a clamped value lies between its ends, cut and round keep the order, and what is limited is left as
--- it is when limited again. Assumes nothing.
+-- it is when limited again. `clamp-between`, `round-step-mono` and `limit-again` are cited by no proof: they say of the steps what docs/GUARANTEES.md has
+-- in words. Assumes nothing.
 use mathlib.Core.Path.{_≡_, refl, sym, ap, _∙_, subst}
 use Prim.Native.Nat.{ℕ, _+_, _*_, _/_, _≤_, _<_, zero-le}
 use native.Mathlib.Nat.{zero-mul, mul-one, mul-comm, mul-pos, mul-assoc, mul-left-comm, add-mul, le-trans, le-of-lt}

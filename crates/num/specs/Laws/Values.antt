@@ -5,7 +5,7 @@ use Prim.Native.Nat.{ℕ, _+_, _*_, _^_, _≤_, _<_}
 use native.Mathlib.Nat.{zero-mul, lt-irrefl, mul-mul-mul-comm, mul-assoc, mul-comm, mul-left-comm, mul-pos, add-mul, lt-of-lt-of-le, lt-of-not-le, not-le-of-lt}
 use native.Mathlib.Omega.{arith}
 use mathlib.Core.Bool.{Bool, true, false, cond, true≢false}
-use borrow.Author.Tests.{ltb-true, ltb-false, ne-eqb}
+use borrow.Author.Tests.{ltb-true, ne-eqb}
 use lib.IntN.{ℤ}
 use lib.Dec.{T, eqb, lit<, lit≤}
 use lib.Pow.{pow-mono, shl-lt}

@@ -4,7 +4,7 @@ use mathlib.Core.Path.{_≡_, refl, sym, ap, _∙_, subst}
 use mathlib.Core.Logic.{_⊎_, inl, inr}
 use Prim.Native.Nat.{ℕ, zero, suc, _+_, _-_, _*_, _^_, _≤_, _<_, zero-le}
 use native.Mathlib.Nat.{zero-mul, mul-one, mul-comm, mul-assoc, mul-right-comm, mul-mul-mul-comm, mul-pos, mul-le-mul}
-use native.Mathlib.Nat.{mul-le-mul-right, le-of-mul-le-mul-right, le-trans, le-of-eq, add-mul, lt-irrefl, zero-lt-suc}
+use native.Mathlib.Nat.{mul-le-mul-right, le-of-mul-le-mul-right, le-trans, le-of-eq, add-mul}
 use native.Mathlib.Nat.{add-le-add, sub-le}
 use native.Mathlib.Omega.{arith}
 use mathlib.Core.Bool.{Bool, true, false, not, _||_, cond}

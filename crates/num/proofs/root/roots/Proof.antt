@@ -1,12 +1,7 @@
 -- `num::root::roots` meets its contract: part by part. Assumes nothing.
-use mathlib.Core.Path.{_≡_, refl, subst}
-use mathlib.Core.List.{List, _++_}
-use Prim.Native.Nat.{ℕ, _+_, _-_, _≤_}
+use Prim.Native.Nat.{_-_}
 use native.Mathlib.Omega.{arith}
-use lib.ListN.{length, take, drop, length-drop}
-use lib.Seq.{length-take-le}
-use lib.Ieee.{Float}
-use Rattle.num.specs.Rewrite.{every}
+use lib.ListN.{length}
 use Rattle.num.specs.Laws.Rewrite.{Rewritten, none, further-long, further, all}
 use Rattle.num.specs.Root.{rootOf}
 use Rattle.num.proofs.root.roots.Statement.{statement}

@@ -1,11 +1,11 @@
 -- What the arguments of several passes share: three channels with their bounds (`Tint`: each from -n to n, `Tint⁺`:
 -- each from 0 to n), the ways to a word, lumas, positions along a side, and words that are in the frame. Assumes
 -- nothing.
-use mathlib.Core.Path.{_≡_, refl, sym, ap₂, subst}
+use mathlib.Core.Path.{_≡_, sym, ap₂, subst}
 use mathlib.Core.List.{List}
 use Prim.Native.Nat.{ℕ, zero, suc, _+_, _-_, _*_, _/_, _%_, _≤_, _<_, max}
 use native.Mathlib.Omega.{arith}
-use mathlib.Core.Bool.{Bool, true, false, _&&_, _||_, cond, true≢false}
+use mathlib.Core.Bool.{Bool, cond}
 use lib.Dec.{T, leb, lit≤}
 use lib.ListN.{getD}
 use lib.Ieee.{Float, ofBits}
