@@ -13,7 +13,8 @@ use Rattle.cards.specs.Normal.{normalChain}
 use Rattle.cards.specs.Claims.{Longest}
 use Rattle.cards.specs.Written.{bits, recordBits, recordsBits, chainBits, chainCard, cardOf}
 use Rattle.cards.specs.declared.station.Pass.{Pass}
-use Rattle.cards.specs.declared.station.Pass.the-variants.{Ntsc, Bloom, AutoGradient, Persistence, Lut, Curvature, ColorCorrection, Crt, Vignette, Scanlines}
+use Rattle.cards.specs.declared.station.Pass.the-variants.{Ntsc, Bloom, AutoGradient, Persistence, Lut, Curvature, ColorCorrection, Crt, Vignette}
+use Rattle.cards.specs.declared.station.Pass.the-variants.{Scanlines}
 use Rattle.cards.specs.declared.station.Record.{Record}
 use Rattle.cards.specs.Laws.Good.{headed}
 use Rattle.cards.proofs.Packed.{length-bits, length-pack}

@@ -20,7 +20,8 @@ use Rattle.cards.specs.Typed.{Typed, TypedChain}
 use Rattle.cards.specs.Claims.{Survives}
 use Rattle.cards.specs.Written.{cardOf}
 use Rattle.cards.specs.declared.station.Pass.{Pass}
-use Rattle.cards.specs.declared.station.Pass.the-variants.{Ntsc, Bloom, AutoGradient, Persistence, Lut, Curvature, ColorCorrection, Crt, Vignette, Scanlines}
+use Rattle.cards.specs.declared.station.Pass.the-variants.{Ntsc, Bloom, AutoGradient, Persistence, Lut, Curvature, ColorCorrection, Crt, Vignette}
+use Rattle.cards.specs.declared.station.Pass.the-variants.{Scanlines}
 use Rattle.cards.specs.declared.station.Pending.{Pending}
 use Rattle.cards.specs.declared.station.Pending.the-variants.{Nothing}
 use Rattle.cards.specs.declared.station.Record.{Record}

@@ -24,7 +24,8 @@ use Rattle.cards.specs.declared.station.Pending.the-variants.{Nothing, Switch}
 use Rattle.cards.specs.declared.station.Record.{Record}
 use Rattle.cards.specs.declared.station.Station.{Station}
 use Rattle.num.specs.Laws.Bools.{or-first-only, or-map}
-use Rattle.chain.proofs.Changed.{shapes, kinds-are, depths, depth-is, Gentle, with-switch-gentle, stepped-gentle, first-shapes, first-normal, first-persists}
+use Rattle.chain.proofs.Changed.{shapes, kinds-are, depths, depth-is, Gentle, with-switch-gentle, stepped-gentle, first-shapes, first-normal}
+use Rattle.chain.proofs.Changed.{first-persists}
 use Rattle.cards.specs.Laws.Good.{Good, good, is-good, nothing-fine, nothing-idle}
 use Rattle.chain.proofs.PassCases.{blank}
 use Rattle.cards.proofs.OpensGood.{opens-good}

@@ -10,7 +10,8 @@ use Rattle.num.specs.Refusals.{unless}
 use Rattle.num.specs.Laws.Refusals.{accepts}
 use Rattle.cards.specs.Alike.{chainOf}
 use Rattle.cards.specs.Answers.{refusal, acceptance, Reply, reply, refusing}
-use Rattle.chain.specs.Calls.{hold, rechain, pend, lacks, waits, askStops, commitStops, commitReply, onFirst, ofFirst, heldAfter, withSwitch, switched, switchReply, stepped, steppedPass, presetOf, presets, stepLut, stepReply}
+use Rattle.chain.specs.Calls.{hold, rechain, pend, lacks, waits, askStops, commitStops, commitReply, onFirst, ofFirst, heldAfter, withSwitch, switched}
+use Rattle.chain.specs.Calls.{switchReply, stepped, steppedPass, presetOf, presets, stepLut, stepReply}
 use Rattle.chain.specs.Lent.{First, Stands}
 use Rattle.cards.specs.Normal.{askable, goodStation}
 use Rattle.cards.specs.Records.{kinds, among}

@@ -13,7 +13,8 @@ use Rattle.num.specs.Refusals.{unless}
 use Rattle.chain.specs.Calls.{switchReply}
 use Rattle.cards.specs.declared.station.Station.{Station}
 use Rattle.raster.specs.Pixels.{byteAt, pixelAt, unpacked}
-use Rattle.events.specs.Events.{headWanted, cardIn, letterIn, countIn, badSize, kindIn, positionIn, frameWanted, eventWanted, frameFault, switchFault, eventFault}
+use Rattle.events.specs.Events.{headWanted, cardIn, letterIn, countIn, badSize, kindIn, positionIn, frameWanted, eventWanted, frameFault, switchFault}
+use Rattle.events.specs.Events.{eventFault}
 use Rattle.events.specs.Play.{Outcome, answered, framePlayed, called, ending, playedOf}
 use Rattle.events.specs.Program.{eventBytes, headBytes}
 use Rattle.events.specs.Reading.{Unlooked}

@@ -75,8 +75,9 @@ returns-2 c =
 pub apply-spec : {M : Type 1} → statement M
 apply-spec =
     tie.close
-    (tie.spec (λ c κs. tt) returns mul-count mul-room mul-room-2 add-room
-    (λ c. none (c .before .before) .frame-room) (λ c. sym (length-take-le _ _ (none (c .before .before .before) .frame-room)))
-    (λ c. none (c .before .before .before .before) .floats-room) (λ c. sym (length-take-le _ _ (none (c .before .before .before .before .before) .floats-room)))
-    (λ c. none (c .before .before .before .before .before) .ints-room) (λ c. sym (length-take-le _ _ (none (c .before .before .before .before .before .before) .ints-room)))
-    run-chain-requires (λ c. search needs) (λ c. search needs) (λ c. search needs) (λ c. search needs) returns-2)
+    (tie.spec (λ c κs. tt) returns mul-count mul-room mul-room-2 add-room (λ c. none (c .before .before) .frame-room)
+    (λ c. sym (length-take-le _ _ (none (c .before .before .before) .frame-room))) (λ c. none (c .before .before .before .before) .floats-room)
+    (λ c. sym (length-take-le _ _ (none (c .before .before .before .before .before) .floats-room)))
+    (λ c. none (c .before .before .before .before .before) .ints-room)
+    (λ c. sym (length-take-le _ _ (none (c .before .before .before .before .before .before) .ints-room))) run-chain-requires (λ c. search needs)
+    (λ c. search needs) (λ c. search needs) (λ c. search needs) returns-2)

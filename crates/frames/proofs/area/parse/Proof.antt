@@ -38,5 +38,6 @@ returns-4 c =
 pub parse-spec : {M : Type 1} → statement M
 parse-spec =
     tie.close
-    (tie.spec (λ c κs. tt) returns returns-2 (λ c κs. tt) returns-3 (λ c. omega (arith, small (c .before) .0)) (λ c. omega (arith, small (c .before .before) .1))
-    (λ c. omega (arith, small (c .before .before .before) .2)) (λ c. omega (arith, small (c .before .before .before .before) .3)) returns-4)
+    (tie.spec (λ c κs. tt) returns returns-2 (λ c κs. tt) returns-3 (λ c. omega (arith, small (c .before) .0))
+    (λ c. omega (arith, small (c .before .before) .1)) (λ c. omega (arith, small (c .before .before .before) .2))
+    (λ c. omega (arith, small (c .before .before .before .before) .3)) returns-4)

@@ -31,4 +31,5 @@ returns c = sym (read-all _ _ _ (c .loop-test .left)) ∙ c .before .loop .inv .
 pub read-spec : {M : Type 1} → statement M
 read-spec =
     tie.close
-    (tie.spec Inv-loop μ-loop (λ c. (refl, omega arith)) (λ c. omega arith) (λ c κs. c .before .before .loop .inv .1) (λ c. omega arith) (λ c. omega arith) loop-again returns)
+    (tie.spec Inv-loop μ-loop (λ c. (refl, omega arith)) (λ c. omega arith) (λ c κs. c .before .before .loop .inv .1) (λ c. omega arith) (λ c. omega arith)
+    loop-again returns)

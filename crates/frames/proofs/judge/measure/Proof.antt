@@ -30,5 +30,5 @@ returns c =
 pub measure-spec : {M : Type 1} → statement M
 measure-spec =
     tie.close
-    (tie.spec (λ c κs. omega (arith, c .before .before .before .before .before .pre .words-room, c .before .before .before .before .before .pre .pixels-room)) (λ c κs. tt) (λ c κs. tt) (λ c. search needs)
-    (λ c. search needs) returns)
+    (tie.spec (λ c κs. omega (arith, c .before .before .before .before .before .pre .words-room, c .before .before .before .before .before .pre .pixels-room))
+    (λ c κs. tt) (λ c κs. tt) (λ c. search needs) (λ c. search needs) returns)

@@ -67,6 +67,7 @@ returns-2 c =
 pub totals-spec : {M : Type 1} → statement M
 totals-spec =
     tie.close
-    (tie.spec (λ c κs. tt) (λ c. search needs) (λ c. search needs) (λ c κs. tt) returns (λ c. omega (arith, few _ _ _ _ _ (whole c))) (λ c. omega (arith, whole c .ends))
-    (λ c. omega (arith, whole c .ends)) (λ c. search needs) (λ c. omega (arith, whole (c .before) .few)) (λ c. sym (lent (start (c .before .before) .args .words .now) _ (whole (c .before .before)))) measure-requires
-    (λ c. search needs) (λ c. search needs) returns-2)
+    (tie.spec (λ c κs. tt) (λ c. search needs) (λ c. search needs) (λ c κs. tt) returns (λ c. omega (arith, few _ _ _ _ _ (whole c)))
+    (λ c. omega (arith, whole c .ends)) (λ c. omega (arith, whole c .ends)) (λ c. search needs) (λ c. omega (arith, whole (c .before) .few))
+    (λ c. sym (lent (start (c .before .before) .args .words .now) _ (whole (c .before .before)))) measure-requires (λ c. search needs) (λ c. search needs)
+    returns-2)

@@ -24,4 +24,5 @@ returns-3 c =
 pub in-record-spec : {M : Type 1} → statement M
 in-record-spec =
     tie.close
-    (tie.spec (λ c. search needs) returns (λ c. search needs) returns-2 (λ c κs. tt) (λ c. search needs) (λ c. omega arith) (λ c κs. c .bits-of .ensures .1) returns-3)
+    (tie.spec (λ c. search needs) returns (λ c. search needs) returns-2 (λ c κs. tt) (λ c. search needs) (λ c. omega arith) (λ c κs. c .bits-of .ensures .1)
+    returns-3)

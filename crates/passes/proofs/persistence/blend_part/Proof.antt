@@ -75,7 +75,11 @@ returns c =
 pub blend-part-spec : {M : Type 1} → statement M
 blend-part-spec =
     tie.close
-    (tie.spec (λ c κs. tt) (λ c. search needs) (λ c. sym (front _ _ _ (c .before .short .ensures) (c .before .before .before .before .before .pre .0))) mix-line-requires (λ c κs. tt) (λ c. search needs)
-    (λ c. sym (front _ _ _ (c .before .short2 .ensures) (c .before .before .before .before .before .before .before .before .before .before .pre .0))) mix-line-requires-2 (λ c κs. tt) (λ c. search needs)
-    (λ c. sym (front _ _ _ (c .before .short3 .ensures) (c .before .before .before .before .before .before .before .before .before .before .before .before .before .before .before .pre .0))) mix-line-requires-3 (λ c. sym (reds (first (second (c .before .before .before))) .long))
-    (λ c. sym (greens (second (c .before .before .before .before)) .long)) (λ c. sym (blues (c .before .before .before .before .before) .long)) finish-part-requires (λ c. search needs) returns)
+    (tie.spec (λ c κs. tt) (λ c. search needs) (λ c. sym (front _ _ _ (c .before .short .ensures) (c .before .before .before .before .before .pre .0)))
+    mix-line-requires (λ c κs. tt) (λ c. search needs)
+    (λ c. sym (front _ _ _ (c .before .short2 .ensures) (c .before .before .before .before .before .before .before .before .before .before .pre .0)))
+    mix-line-requires-2 (λ c κs. tt) (λ c. search needs)
+    (λ c. sym (front _ _ _ (c .before .short3 .ensures) (c .before .before .before .before .before .before .before .before .before .before .before .before .before .before .before .pre .0)))
+    mix-line-requires-3 (λ c. sym (reds (first (second (c .before .before .before))) .long))
+    (λ c. sym (greens (second (c .before .before .before .before)) .long)) (λ c. sym (blues (c .before .before .before .before .before) .long))
+    finish-part-requires (λ c. search needs) returns)

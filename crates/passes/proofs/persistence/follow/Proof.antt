@@ -102,4 +102,5 @@ follow-spec =
     tie.close
     (tie.spec (λ c κs. search needs) (λ c κs. tt) (λ c κs. tt) (λ c. search needs) (λ c. sym (part (c .before))) (λ c κs. tt)
     (λ c. simp length-append (omega (arith, c .before .before .weights .kept .0, part (c .before .before .before .before))))
-    (λ c. sym (many (c .before .before .before))) blend-parts-requires (λ c κs. search needs) shift-requires (λ c. search needs) (λ c. search needs) (λ c. search needs) returns)
+    (λ c. sym (many (c .before .before .before))) blend-parts-requires (λ c κs. search needs) shift-requires (λ c. search needs) (λ c. search needs)
+    (λ c. search needs) returns)
