@@ -2,7 +2,7 @@
 //! seeds.rs writes them; what a program writes must be the model's.
 
 use super::card;
-use super::cards::{Given, Way, LONGEST};
+use super::cards::{neither, Given, Way, LONGEST};
 use super::cases::OfCard;
 use super::files::{File, Flag, Run};
 use super::filter;
@@ -132,14 +132,16 @@ fn given(argument: &str, files: &Files) -> Given {
     let file = files.iter().find(|(name, _)| name == argument);
     let (argument, way, card) = match (argument.len(), decoded(argument.as_bytes()), file) {
         // Not even its name can be told.
-        (length, ..) if length > LONGEST => ("argument", Way::Missing, TOO_LONG),
+        (length, ..) if length > LONGEST => {
+            ("argument", Way::Missing, TOO_LONG.map_err(str::to_string))
+        }
         (_, Some(bytes), _) if bytes.is_empty() => (argument, Way::NoByte, Ok(bytes)),
         (_, Some(bytes), _) => (argument, Way::Anyhow, Ok(bytes)),
         // A path is ended by a byte 0.
-        (LONGEST, ..) => (argument, Way::Missing, TOO_LONG),
+        (LONGEST, ..) => (argument, Way::Missing, TOO_LONG.map_err(neither)),
         (_, _, Some((_, Ok(bytes)))) => (argument, Way::File, Ok(bytes.clone())),
-        (_, _, Some(_)) => (argument, Way::Folder, FOLDER),
-        (_, _, None) => (argument, Way::Missing, MISSING),
+        (_, _, Some(_)) => (argument, Way::Folder, FOLDER.map_err(neither)),
+        (_, _, None) => (argument, Way::Missing, MISSING.map_err(neither)),
     };
     Given {
         way,
