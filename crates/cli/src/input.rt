@@ -99,6 +99,9 @@ pub fn named(i: usize, out: &mut [u8]) -> Loaded
 {
     let mut name = io::buffer();
     let given = argument(i, &mut name);
+    if !given.ok {
+        return failed();
+    }
     let n = given.length;
     file(&name[..n], b"", out)
 }
