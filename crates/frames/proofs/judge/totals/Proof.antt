@@ -1,4 +1,5 @@
--- `frames::judge::totals` meets its contract: a frame that is taken lies whole in the file, and its words in the scratch. Assumes nothing.
+-- `frames::judge::totals` meets its contract: a frame that is taken lies whole in the file, and its words in the scratch. The frame in the file as in `filter`.
+-- Assumes nothing.
 use borrow.Author.Needs.{needs}
 use Prim.Native.Nat.{ℕ, _*_}
 use mathlib.Core.List.{List, _++_}
