@@ -2,7 +2,7 @@
 //! written out here, with no model beside them.
 
 use super::cards;
-use super::sides::Held;
+use super::sides::Checked;
 use super::station::HEIGHT_END;
 use super::still;
 use crate::bridge::{self, Answer, Lent, State};
@@ -59,7 +59,7 @@ pub fn compare(card: &Vec<u8>, at: usize, tally: &mut RunTally, met: &mut Met<To
     }
 }
 
-const LISTS: [(&str, fn(&mut Desk) -> Held); 7] = [
+const LISTS: [(&str, fn(&mut Desk) -> Checked); 7] = [
     ("asked once", once),
     ("asked for what is not there", absent),
     ("asked for as it stands", present),
@@ -70,7 +70,7 @@ const LISTS: [(&str, fn(&mut Desk) -> Held); 7] = [
 ];
 
 /// One switch is asked for, and no other until it is committed.
-fn once(desk: &mut Desk) -> Held {
+fn once(desk: &mut Desk) -> Checked {
     desk.refuses("commit", 18, COMMIT)?;
     for kind in desk.kinds() {
         for on in [0, 1, 255] {
@@ -92,7 +92,7 @@ fn once(desk: &mut Desk) -> Held {
 }
 
 /// A kind that is not in the chain, and bytes that are no kind.
-fn absent(desk: &mut Desk) -> Held {
+fn absent(desk: &mut Desk) -> Checked {
     for kind in 0..=255 {
         if !desk.kinds().contains(&kind) {
             desk.refuses_to_ask(kind, 0, 12)?;
@@ -103,7 +103,7 @@ fn absent(desk: &mut Desk) -> Held {
 }
 
 /// The position in which a switch stands: nothing is another after the commit, not even what is held.
-fn present(desk: &mut Desk) -> Held {
+fn present(desk: &mut Desk) -> Checked {
     for kind in desk.kinds() {
         desk.frame()?;
         let before = desk.state;
@@ -116,7 +116,7 @@ fn present(desk: &mut Desk) -> Held {
 }
 
 /// A plain switch leaves the record, and the commit still does what was asked.
-fn between(desk: &mut Desk) -> Held {
+fn between(desk: &mut Desk) -> Checked {
     for kind in desk.kinds() {
         for on in [0, 1] {
             desk.ask(kind, on)?;
@@ -137,7 +137,7 @@ fn between(desk: &mut Desk) -> Held {
 }
 
 /// Each other call gives what it gives where nothing is pending, and leaves the record. So a card shows the switches as they are.
-fn kept(desk: &mut Desk) -> Held {
+fn kept(desk: &mut Desk) -> Checked {
     for kind in desk.kinds() {
         for on in [0, 1] {
             desk.ask(kind, on)?;
@@ -158,7 +158,7 @@ fn kept(desk: &mut Desk) -> Held {
 }
 
 /// Persistence of 0.5 and depth 1 that is to be off: the ghost is shown up to the commit, and the frame after it as it is.
-fn shown(desk: &mut Desk) -> Held {
+fn shown(desk: &mut Desk) -> Checked {
     if desk.state[1..8] != still::card(0.5, 1) {
         return Ok(());
     }
@@ -176,7 +176,7 @@ fn shown(desk: &mut Desk) -> Held {
 }
 
 /// A record that no station has: a kind that is not in the chain, a position without a kind or above 1, a byte behind it.
-fn broken(desk: &mut Desk) -> Held {
+fn broken(desk: &mut Desk) -> Checked {
     let kinds = desk.kinds();
     let mut records = vec![[255, 1, 0], [0, 1, 0], [0, 2, 0], [0, 0, 1], [0, 0, 255]];
     for kind in 1..=11 {
@@ -284,7 +284,7 @@ struct Desk<'a> {
 }
 
 impl<'a> Desk<'a> {
-    fn opened(card: &[u8], tally: &'a mut RunTally, met: &'a mut Met<Told>) -> Held<Self> {
+    fn opened(card: &[u8], tally: &'a mut RunTally, met: &'a mut Met<Told>) -> Checked<Self> {
         let mut desk = Desk {
             state: [0xa5; 80],
             lent: Buffers::new(),
@@ -315,7 +315,7 @@ impl<'a> Desk<'a> {
         what: &str,
         asked: Answer,
         call: impl FnOnce(&mut State, &mut Buffers) -> Answer,
-    ) -> Held {
+    ) -> Checked {
         let (state, lent) = (self.state, self.lent.clone());
         let here = call(&mut self.state, &mut self.lent);
         same(what, here, asked)?;
@@ -332,21 +332,25 @@ impl<'a> Desk<'a> {
     }
 
     /// One that is accepted and reports nothing.
-    fn takes(&mut self, what: &str, call: impl FnOnce(&mut State, &mut Buffers) -> Answer) -> Held {
+    fn takes(
+        &mut self,
+        what: &str,
+        call: impl FnOnce(&mut State, &mut Buffers) -> Answer,
+    ) -> Checked {
         self.call(what, Ok(0), call)
     }
 
-    fn refuses(&mut self, what: &str, number: u32, call: Call) -> Held {
+    fn refuses(&mut self, what: &str, number: u32, call: Call) -> Checked {
         self.call(what, Err(number), call)
     }
 
-    fn refuses_to_ask(&mut self, kind: u8, on: u8, number: u32) -> Held {
+    fn refuses_to_ask(&mut self, kind: u8, on: u8, number: u32) -> Checked {
         let what = format!("ask {kind} {on}");
         self.call(&what, Err(number), |state, _| bridge::ask(state, kind, on))
     }
 
     /// Asks for a switch: the record is another, and nothing else.
-    fn ask(&mut self, kind: u8, on: u8) -> Held {
+    fn ask(&mut self, kind: u8, on: u8) -> Checked {
         let after = with_record(&self.state, [kind, u8::from(on != 0), 0]);
         let what = format!("ask {kind} {on}");
         self.takes(&what, |state, _| bridge::ask(state, kind, on))?;
@@ -354,7 +358,7 @@ impl<'a> Desk<'a> {
     }
 
     /// Commits: the state is that of a switch at once, and nothing is pending.
-    fn commit(&mut self) -> Held {
+    fn commit(&mut self) -> Checked {
         let [kind, on, _] = self.record();
         let mut after = with_record(&self.state, NONE);
         same("switch", bridge::set_enabled(&mut after, kind, on), Ok(0))?;
@@ -362,26 +366,26 @@ impl<'a> Desk<'a> {
         self.stands(&after)
     }
 
-    fn is_on(&mut self, kind: u8, on: bool) -> Held {
+    fn is_on(&mut self, kind: u8, on: bool) -> Checked {
         let what = format!("the switch of kind {kind}");
         self.call(&what, Ok(on.into()), |state, _| {
             bridge::enabled(state, kind)
         })
     }
 
-    fn stands(&self, asked: &State) -> Held {
+    fn stands(&self, asked: &State) -> Checked {
         same("state", self.state, *asked)
     }
 
     /// A frame, so that something is held where persistence is on.
-    fn frame(&mut self) -> Held {
+    fn frame(&mut self) -> Checked {
         still::accepted(self.lent.frame(&mut self.state, SIZE), self.tally)?;
         self.tally.frame(COUNT);
         Ok(())
     }
 
     /// A frame of one word, and what is shown of it.
-    fn shows(&mut self, word: u32, picture: u32) -> Held {
+    fn shows(&mut self, word: u32, picture: u32) -> Checked {
         self.lent.framebuffer[0] = word;
         still::accepted(self.lent.frame(&mut self.state, (1, 1)), self.tally)?;
         self.tally.frame(1);
@@ -389,7 +393,7 @@ impl<'a> Desk<'a> {
     }
 }
 
-fn same<T: PartialEq + std::fmt::Debug>(what: &str, here: T, asked: T) -> Held {
+fn same<T: PartialEq + std::fmt::Debug>(what: &str, here: T, asked: T) -> Checked {
     if here == asked {
         return Ok(());
     }
