@@ -44,7 +44,7 @@ fn with<T>(act: impl FnOnce(&mut Running) -> T) -> T {
 ///
 /// # Safety
 /// `main` is that of a program whose object file calls the functions below.
-pub unsafe fn held(main: Main, world: &World, asked: &Said) {
+pub unsafe fn compare(main: Main, world: &World, asked: &Said) {
     for most in [usize::MAX, 1 + asked.output.len() % 7] {
         let here = run(main, world.clone(), most);
         assert!(

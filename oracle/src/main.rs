@@ -27,6 +27,7 @@ mod inside;
 #[cfg(all(with_original, not(fuzz)))]
 mod measure;
 mod met;
+mod pages;
 #[cfg(with_original)]
 mod passes;
 mod patterns;

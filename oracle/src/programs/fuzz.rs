@@ -72,7 +72,7 @@ extern "C" fn fuzz_card(data: *const u8, len: usize) -> i32 {
         },
     };
     // SAFETY: it is the program's.
-    unsafe { inside::held(card_main, &world, &asked) };
+    unsafe { inside::compare(card_main, &world, &asked) };
     fuzz::guide(met);
     fuzz::guide_from(OfCard::ALL.len(), of_pair);
     0
@@ -193,7 +193,7 @@ extern "C" fn fuzz_filter(data: *const u8, len: usize) -> i32 {
         input: Vec::new(),
     };
     // SAFETY: it is the program's.
-    unsafe { inside::held(filter_main, &world, &asked) };
+    unsafe { inside::compare(filter_main, &world, &asked) };
     fuzz::guide(met);
     0
 }

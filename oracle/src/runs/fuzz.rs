@@ -5,7 +5,7 @@ use super::calls::{Call, Frame};
 use super::cases::Case;
 use super::noise::Noise;
 use super::run::open_both;
-use super::sides::{Held, Sides};
+use super::sides::{Checked, Sides};
 use super::station::{float_room, Lengths, Station};
 use crate::bridge::State;
 use crate::cards::paper::Size;
@@ -62,7 +62,7 @@ extern "C" fn fuzz_bridge(data: *const u8, len: usize) -> i32 {
     0
 }
 
-fn play(input: &[u8], met: &mut Met<Case>) -> Held {
+fn play(input: &[u8], met: &mut Met<Case>) -> Checked {
     let tape = &mut Tape { rest: input };
     let random = &mut Random::new(tape.byte().into());
     let Some(state) = begin(tape, random, met)? else {
@@ -92,7 +92,7 @@ fn play(input: &[u8], met: &mut Met<Case>) -> Held {
 }
 
 /// The state that the bytes begin with, or that of their card; none where the card is refused.
-fn begin(tape: &mut Tape, random: &mut Random, met: &mut Met<Case>) -> Held<Option<State>> {
+fn begin(tape: &mut Tape, random: &mut Random, met: &mut Met<Case>) -> Checked<Option<State>> {
     let length = tape.byte();
     if length >= STATE {
         let mut state = [0; 80];

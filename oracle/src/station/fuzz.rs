@@ -22,7 +22,7 @@ extern "C" fn fuzz_station(data: *const u8, len: usize) -> i32 {
         ..World::default()
     };
     // SAFETY: it is the program's.
-    unsafe { inside::held(station_main, &world, &asked) };
+    unsafe { inside::compare(station_main, &world, &asked) };
     fuzz::guide(met);
     0
 }
