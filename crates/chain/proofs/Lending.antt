@@ -1,10 +1,13 @@
 -- What a ready pass may rely on, and what it leaves when it is one pass of the chain. Assumes nothing.
 use Prim.Native.Nat.{ℕ, _+_, _*_, _≤_}
 use native.Mathlib.Nat.{zero-add, add-zero}
-use native.Mathlib.Omega.{arith}
+pub use native.Mathlib.Omega.{arith}
+pub use mathlib.Core.Path.{refl}
 use mathlib.Core.Path.{_≡_, sym, ap, subst, _∙_}
 use mathlib.Core.Bool.{Bool, true, false, cond, _&&_}
-use mathlib.Core.List.{List}
+use mathlib.Core.List.{List, [], _∷_}
+use denote.Enum.Declared.{tagOf}
+use types.Run.{OneOf}
 use borrow.Author.Tests.{leb-true}
 use lib.Dec.{leb}
 use lib.ListN.{length}
@@ -12,48 +15,73 @@ use lib.Ieee.{Float}
 use Rattle.num.specs.Const.{c0·0, c0·95, c1·0}
 use Rattle.passes.specs as Text
 use Rattle.num.specs.Held.{Held, sized, sameHeld}
-use Rattle.passes.specs.ColorCorrection.{Enough}
+use Rattle.passes.specs.ColorCorrection.{curved}
 use Rattle.passes.specs.Flow.{Flow, flow}
 use Rattle.passes.specs.Laws.Fold.{Folded}
 use Rattle.passes.specs.Painted.{Painted, painted, onto}
 use Rattle.passes.specs.Plain.Persistence.{persistence, blend, shifted, refilled}
 use Rattle.passes.specs.Rows.{Frame}
-use Rattle.chain.specs.Chain.{wash, over, overBy, turn, turnBy, reads}
+pub use Rattle.passes.specs.Laws.Rows.{frame-small}
+use Rattle.chain.specs.Chain.{wash, paint, over, overBy, turn, turnBy, depthOf, reads}
 use Rattle.chain.specs.Lent.{Lent, Ready}
 use Rattle.cards.specs.Normal.{normalPass, settled, counted}
 use Rattle.cards.specs.declared.station.Pass.{Pass}
 use Rattle.cards.specs.declared.station.Pass.the-variants.{Ntsc, Bloom, Persistence, ColorCorrection}
 use Rattle.cards.specs.declared.station.Record.{Record}
+use Rattle.cards.proofs.station.Pass.{the-type}
 use Rattle.num.specs.Laws.Bools.{both}
-use Rattle.chain.proofs.PassCases.{by-memory, over-few}
+use Rattle.chain.proofs.PassCases.{by-memory, over-few, over-paints, no-depth, not-persistence}
 
 -- ## What a ready pass may rely on
 
-module _ {w h room lent : ℕ} {pass : Pass} (r : Ready w h pass room lent) where
-  pub bleed-fine : {strength : Float} {bleed : ℕ} → pass ≡ Ntsc strength bleed → bleed ≤ 64
-  unfolding normalPass
-  bleed-fine {strength} {bleed} e =
-      let normal : settled c0·0 c1·0 strength && counted 64 bleed ≡ true = ap normalPass (sym e) ∙ r .normal in
-      leb-true bleed 64 (both (leb 1 bleed) (leb bleed 64) (both (settled c0·0 c1·0 strength) (counted 64 bleed) normal .1) .1)
+pub bleed-fine : (w h room lent : ℕ) (pass : Pass) (strength : Float) (bleed : ℕ) → pass ≡ Ntsc strength bleed → Ready w h pass room lent → bleed ≤ 64
+unfolding normalPass
+bleed-fine w h room lent pass strength bleed e r =
+    let normal : settled c0·0 c1·0 strength && counted 64 bleed ≡ true = ap normalPass (sym e) ∙ r .normal in
+    leb-true bleed 64 (both (leb 1 bleed) (leb bleed 64) (both (settled c0·0 c1·0 strength) (counted 64 bleed) normal .1) .1)
 
-  pub radius-fine : {threshold : ℕ} {strength : Float} {radius : ℕ} → pass ≡ Bloom threshold strength radius → radius ≤ 64
-  unfolding normalPass
-  radius-fine {threshold} {strength} {radius} e =
-      let normal : settled c0·0 c1·0 strength && counted 64 radius ≡ true = ap normalPass (sym e) ∙ r .normal in
-      leb-true radius 64 (both (leb 1 radius) (leb radius 64) (both (settled c0·0 c1·0 strength) (counted 64 radius) normal .1) .1)
+pub radius-fine : (w h room lent : ℕ) (pass : Pass) (threshold : ℕ) (strength : Float) (radius : ℕ) → pass ≡ Bloom threshold strength radius
+    → Ready w h pass room lent → radius ≤ 64
+unfolding normalPass
+radius-fine w h room lent pass threshold strength radius e r =
+    let normal : settled c0·0 c1·0 strength && counted 64 radius ≡ true = ap normalPass (sym e) ∙ r .normal in
+    leb-true radius 64 (both (leb 1 radius) (leb radius 64) (both (settled c0·0 c1·0 strength) (counted 64 radius) normal .1) .1)
 
-  pub depth-fine : {amount : Float} {depth : ℕ} {frame : List ℕ} → Frame w h frame → pass ≡ Persistence amount depth → (depth ≤ 8) × (depth * length frame ≤ room)
-  unfolding normalPass
-  depth-fine {amount} {depth} {frame} s e =
-      let normal : settled c0·0 c0·95 amount && counted 8 depth ≡ true = ap normalPass (sym e) ∙ r .normal in
-      let known : Ready w h (Persistence amount depth) room lent = subst (λ (p : Pass). Ready w h p room lent) e r in (
-        leb-true depth 8 (both (leb 1 depth) (leb depth 8) (both (settled c0·0 c0·95 amount) (counted 8 depth) normal .1) .1),
-        subst (λ (n : ℕ). depth * n ≤ room) (sym (s .area)) (known .past-room),
-      )
+pub curve-fine : (w h room lent : ℕ) (pass : Pass) (brightness contrast saturation gamma : Float) → pass ≡ ColorCorrection brightness contrast saturation gamma
+    → Ready w h pass room lent → curved gamma ≡ true → 256 ≤ lent
+curve-fine w h room lent pass brightness contrast saturation gamma e r c = r .curve-room (ap reads e ∙ c)
 
-  pub curve-fine : {brightness contrast saturation gamma : Float} (curve : List Float) → lent ≡ length curve
-      → pass ≡ ColorCorrection brightness contrast saturation gamma → Enough gamma curve
-  curve-fine curve n e c = subst (λ (k : ℕ). 256 ≤ k) n (r .curve-room (ap reads e ∙ c))
+pub depth-fine : (w h room lent : ℕ) (pass : Pass) (amount : Float) (depth : ℕ) → pass ≡ Persistence amount depth → Ready w h pass room lent → depth ≤ 8
+unfolding normalPass
+depth-fine w h room lent pass amount depth e r =
+    let normal : settled c0·0 c0·95 amount && counted 8 depth ≡ true = ap normalPass (sym e) ∙ r .normal in
+    leb-true depth 8 (both (leb 1 depth) (leb depth 8) (both (settled c0·0 c0·95 amount) (counted 8 depth) normal .1) .1)
+
+pub depth-room : (w h room lent : ℕ) (pass : Pass) (amount : Float) (depth : ℕ) (frame : List ℕ) → pass ≡ Persistence amount depth
+    → Ready w h pass room lent → Frame w h frame → depth * length frame ≤ room
+depth-room w h room lent pass amount depth frame e r s =
+    subst (λ (k : ℕ). k * length frame ≤ room) (ap depthOf e) (subst (λ (n : ℕ). depthOf pass * n ≤ room) (sym (s .area)) (r .past-room))
+
+-- any pass but persistence asks for no history
+pub ready-without : (w h room lent : ℕ) (pass : Pass) → OneOf (0 ∷ 1 ∷ 2 ∷ 4 ∷ 5 ∷ 6 ∷ 7 ∷ 8 ∷ 9 ∷ []) (tagOf the-type pass)
+    → Ready w h pass room lent → Ready w h pass 0 lent
+ready-without w h room lent pass t r =
+    let no : depthOf pass ≡ 0 = no-depth pass (not-persistence pass t) in
+    record { normal = r .normal; past-room = rw no (omega arith); curve-room = r .curve-room }
+
+-- ## A pass that keeps nothing
+
+-- the pass was `case`, which left `new`
+pub was : (w h : ℕ) (curve : List Float) (frame : List ℕ) (pass case : Pass) (new : Painted)
+    → pass ≡ case → new ≡ paint w h curve case frame → new ≡ paint w h curve pass frame
+was w h curve frame pass case new e n = n ∙ ap (λ (p : Pass). paint w h curve p frame) (sym e)
+
+-- words of a pass that clips nothing
+pub none-clipped : (words other : List ℕ) → words ≡ other → painted words 0 ≡ painted other 0
+none-clipped words other e = ap (λ (l : List ℕ). painted l 0) e
+
+-- `search paintings` closes what each arm of `paint` asks of its pass, and its return
+pub ruleset paintings = (was, none-clipped, refl, bleed-fine, radius-fine, curve-fine, frame-small, arith)
 
 -- ## What a pass leaves
 
@@ -61,19 +89,24 @@ module _ {w h room lent : ℕ} {pass : Pass} (r : Ready w h pass room lent) wher
 fresh : (t : Painted) → t ≡ painted (t .words) (0 + t .clipped)
 fresh t = ap (painted (t .words)) (sym (zero-add (t .clipped)))
 
--- a pass without memory was `case`, and left `new`
-pub washed : (w h : ℕ) (curve : List Float) (frame : List ℕ) (paint : List ℕ → Painted) {held : Held} {pass case : Pass} {new : Painted} {past : List ℕ}
-    → pass ≡ case → new ≡ paint frame → over w h curve case (flow (painted frame 0) held past) ≡ wash paint (flow (painted frame 0) held past)
-    → flow new held past ≡ over w h curve pass (flow (painted frame 0) held past)
-unfolding wash
-washed w h curve frame paint {held} {pass} {case} {new} {past} e n o =
-    ap (λ (y : Painted). flow y held past) (n ∙ fresh (paint frame)) ∙ sym o ∙ ap (λ (p : Pass). over w h curve p (flow (painted frame 0) held past)) (sym e)
-
 -- persistence, by the frame's size
-pub persisted : (w h : ℕ) (curve : List Float) (x : Flow) {pass : Pass} {amount : Float} {depth : ℕ} {size : Held} {y : Flow} → size ≡ sized w h
-    → pass ≡ Persistence amount depth → y ≡ persistence amount depth size x → y ≡ over w h curve pass x
+pub persisted : (w h : ℕ) (curve : List Float) (x y : Flow) (pass : Pass) (amount : Float) (depth : ℕ) (size : Held) → pass ≡ Persistence amount depth
+    → size ≡ sized w h → y ≡ persistence amount depth size x → y ≡ over w h curve pass x
 unfolding overBy
-persisted w h curve x {pass} {amount} {depth} s e o = o ∙ ap (λ (n : Held). persistence amount depth n x) s ∙ ap (λ (p : Pass). over w h curve p x) (sym e)
+persisted w h curve x y pass amount depth size e s o =
+    o ∙ ap (λ (n : Held). persistence amount depth n x) s ∙ ap (λ (p : Pass). over w h curve p x) (sym e)
+
+-- any other pass, by the frame that it paints
+pub washed : (w h : ℕ) (curve : List Float) (frame words : List ℕ) (clipped : ℕ) (held : Held) (past : List ℕ) (pass : Pass)
+    → OneOf (0 ∷ 1 ∷ 2 ∷ 4 ∷ 5 ∷ 6 ∷ 7 ∷ 8 ∷ 9 ∷ []) (tagOf the-type pass) → painted words clipped ≡ paint w h curve pass frame
+    → flow (painted words clipped) held past ≡ over w h curve pass (flow (painted frame 0) held past)
+unfolding wash
+washed w h curve frame words clipped held past pass t e =
+    ap (λ (y : Painted). flow y held past) (e ∙ fresh (paint w h curve pass frame))
+    ∙ sym (over-paints w h curve (flow (painted frame 0) held past) pass (not-persistence pass t))
+
+-- `search runs` closes what `run_pass` asks and its returns
+pub ruleset runs = (persisted, washed, depth-fine, depth-room, ready-without, frame-small, arith)
 
 pub turn-on : (w h : ℕ) (curve : List Float) (x : Flow) (r : Record) {y : Flow} → r .on ≡ true → y ≡ over w h curve (r .pass) x → y ≡ turn w h curve x r
 unfolding turnBy
@@ -116,7 +149,7 @@ module _ (w h n : ℕ) (curve : List Float) (words : List ℕ) (held : Held) (pa
   over-adds =
       by-memory (λ p. over w h curve p (before n) ≡ adding n (over w h curve p (before 0))) persistence-adds
       (λ p m.
-      let t : Painted = m .paint w h curve words in
+      let t : Painted = paint w h curve p words in
       m .whole w h curve (before n) ∙ ap (λ (y : Painted). flow (painted (y .words) (n + y .clipped)) held past) (fresh t)
       ∙ sym (ap (adding n) (m .whole w h curve (before 0))))
 

@@ -6,7 +6,7 @@ ghost use lib.ListN.{length, take};
 ghost use Rattle.num.specs.Held.{sized};
 ghost use Rattle.passes.specs.Flow.{flow};
 ghost use Rattle.passes.specs.Painted.{painted};
-ghost use Rattle.chain.specs.Chain.{over, turn, chain};
+ghost use Rattle.chain.specs.Chain.{paint as paintOf, over, turn, chain};
 ghost use Rattle.chain.specs.Lent.{Lent, Ready, Readies};
 use cards::station::Pass;
 use cards::station::Record;
@@ -34,7 +34,76 @@ pub(crate) fn size_of(width: usize, height: usize) -> Size
     }
 }
 
-// One pass.
+// A pass that keeps nothing, and how many channels it clipped; persistence is none, and leaves the frame.
+pub(crate) fn paint(
+    pass: Pass,
+    frame: &mut [u32],
+    floats: &mut [f32],
+    ints: &mut [u32],
+    curve: &[f32],
+    width: usize,
+    height: usize,
+) -> u32
+    requires { ⌜ Lent width height (now frame) (now floats) (now ints) ⌝ ∗ ⌜ Ready width height pass 0 (length (now curve)) ⌝ }
+    ensures { λ r. ⌜ painted (now (frame .exit)) r ≡ paintOf width height (now (curve .entry)) pass (now (frame .entry)) ⌝ }
+{
+    match pass {
+        Pass::Ntsc { strength, bleed } => ntsc::apply(
+            frame,
+            width,
+            height,
+            strength,
+            bleed as usize,
+        ),
+        Pass::Bloom {
+            threshold,
+            strength,
+            radius,
+        } => bloom::apply(
+            frame,
+            floats,
+            width,
+            height,
+            threshold,
+            strength,
+            radius as usize,
+        ),
+        Pass::AutoGradient {
+            strength,
+            vertical,
+            horizontal,
+        } => auto_gradient::apply(frame, width, height, strength, vertical, horizontal),
+        Pass::Persistence {
+            amount: _,
+            depth: _,
+        } => 0,
+        Pass::Lut { preset, strength } => lut::apply(frame, preset, strength),
+        Pass::Curvature { amount } => {
+            curvature::apply(frame, ints, width, height, amount);
+            0
+        }
+        Pass::ColorCorrection {
+            brightness,
+            contrast,
+            saturation,
+            gamma,
+        } => color_correction::apply(frame, curve, brightness, contrast, saturation, gamma),
+        Pass::Crt { strength } => {
+            crt::apply(frame, width, height, strength);
+            0
+        }
+        Pass::Vignette { strength } => {
+            vignette::apply(frame, floats, width, height, strength);
+            0
+        }
+        Pass::Scanlines { strength } => {
+            scanlines::apply(frame, width, height, strength);
+            0
+        }
+    }
+}
+
+// One pass: persistence by what is held, any other paints the frame.
 pub(crate) fn run_pass(
     pass: Pass,
     frame: &mut [u32],
@@ -51,83 +120,12 @@ pub(crate) fn run_pass(
     ensures { λ r. ⌜ flow (painted (now (frame .exit)) (r .clipped)) (r .held) (now (history .exit))
         ≡ over width height (now (curve .entry)) pass (flow (painted (now (frame .entry)) 0) held (now (history .entry))) ⌝ }
 {
-    match pass {
-        Pass::Ntsc { strength, bleed } => {
-            let clipped = ntsc::apply(frame, width, height, strength, bleed as usize);
-            Kept { held, clipped }
-        }
-        Pass::Bloom {
-            threshold,
-            strength,
-            radius,
-        } => {
-            let clipped = bloom::apply(
-                frame,
-                floats,
-                width,
-                height,
-                threshold,
-                strength,
-                radius as usize,
-            );
-            Kept { held, clipped }
-        }
-        Pass::AutoGradient {
-            strength,
-            vertical,
-            horizontal,
-        } => {
-            let clipped = auto_gradient::apply(
-                frame,
-                width,
-                height,
-                strength,
-                vertical,
-                horizontal,
-            );
-            Kept { held, clipped }
-        }
-        Pass::Persistence { amount, depth } => {
-            let size = size_of(width, height);
-            persistence::apply(frame, history, ints, amount, depth, held, size)
-        }
-        Pass::Lut { preset, strength } => {
-            let clipped = lut::apply(frame, preset, strength);
-            Kept { held, clipped }
-        }
-        Pass::Curvature { amount } => {
-            curvature::apply(frame, ints, width, height, amount);
-            Kept { held, clipped: 0 }
-        }
-        Pass::ColorCorrection {
-            brightness,
-            contrast,
-            saturation,
-            gamma,
-        } => {
-            let clipped = color_correction::apply(
-                frame,
-                curve,
-                brightness,
-                contrast,
-                saturation,
-                gamma,
-            );
-            Kept { held, clipped }
-        }
-        Pass::Crt { strength } => {
-            crt::apply(frame, width, height, strength);
-            Kept { held, clipped: 0 }
-        }
-        Pass::Vignette { strength } => {
-            vignette::apply(frame, floats, width, height, strength);
-            Kept { held, clipped: 0 }
-        }
-        Pass::Scanlines { strength } => {
-            scanlines::apply(frame, width, height, strength);
-            Kept { held, clipped: 0 }
-        }
+    if let Pass::Persistence { amount, depth } = pass {
+        let size = size_of(width, height);
+        return persistence::apply(frame, history, ints, amount, depth, held, size);
     }
+    let clipped = paint(pass, frame, floats, ints, curve, width, height);
+    Kept { held, clipped }
 }
 
 // A record: its pass, where it is on.
