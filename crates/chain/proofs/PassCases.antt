@@ -78,7 +78,8 @@ module _ (w h : ℕ) (curve : List Float) (x : Flow) where
   pub over-few : (p : Pass) → over w h curve p x .frame .clipped ≤ x .frame .clipped + 3 * length (x .frame .words)
   unfolding overBy wash
   over-few =
-      by-memory (λ p. over w h curve p x .frame .clipped ≤ x .frame .clipped + 3 * length (x .frame .words)) (λ amount k. persistence-few amount k (sized w h) x)
+      by-memory (λ p. over w h curve p x .frame .clipped ≤ x .frame .clipped + 3 * length (x .frame .words))
+      (λ amount k. persistence-few amount k (sized w h) x)
       (λ p m. rw (m .whole w h curve x) (omega (arith, m .paints w h curve (x .frame .words) .few)))
 
   pub over-past : (p : Pass) → depthOf p * length (x .frame .words) ≤ length (x .past) → length (over w h curve p x .past) ≡ length (x .past)
@@ -176,7 +177,11 @@ not-among others tag out p t e =
     let here : tagOf the-type p ≡ tag = omega (arith, tag-kind p) in
     miss others tag out (subst (OneOf others) here t)
 
-pub not-persistence : Not (0 ∷ 1 ∷ 2 ∷ 4 ∷ 5 ∷ 6 ∷ 7 ∷ 8 ∷ 9 ∷ []) 4
+-- any pass but persistence
+abbrev pub Painter : Pass → Type 0
+Painter p = OneOf (0 ∷ 1 ∷ 2 ∷ 4 ∷ 5 ∷ 6 ∷ 7 ∷ 8 ∷ 9 ∷ []) (tagOf the-type p)
+
+pub not-persistence : (p : Pass) → Painter p → kindOf p ≡ 4 → ⊥
 not-persistence = not-among (0 ∷ 1 ∷ 2 ∷ 4 ∷ 5 ∷ 6 ∷ 7 ∷ 8 ∷ 9 ∷ []) 3 tt
 
 pub not-lut : Not (0 ∷ 1 ∷ 2 ∷ 3 ∷ 5 ∷ 6 ∷ 7 ∷ 8 ∷ 9 ∷ []) 5
