@@ -104,20 +104,18 @@ pub fn apply(
     }
     let count = height * width;
     let room = 3 * count + 3 * width;
-    let n = station.n;
-    let records = station.records;
-    let before = station.held;
+    let size = Size {
+        width: width as u16,
+        height: height as u16,
+    };
     let run = run_chain(
-        records,
-        n,
+        station,
+        size,
         &mut framebuffer[..count],
         history,
         &mut floats[..room],
         &mut ints[..count],
         curve,
-        width,
-        height,
-        before,
     );
     let held = run.held;
     let clipped = run.clipped;
