@@ -129,7 +129,8 @@ fn digit(byte: &u8) -> Option<u8> {
 
 /// The card that an argument gives beside these files.
 fn given(argument: &str, files: &Files) -> Given {
-    let file = files.iter().find(|(name, _)| name == argument);
+    let there = |(name, bytes): &&(String, Bytes)| name == argument && *bytes != MISSING;
+    let file = files.iter().find(there);
     let (argument, way, card) = match (argument.len(), decoded(argument.as_bytes()), file) {
         // Not even its name can be told.
         (length, ..) if length > LONGEST => {
