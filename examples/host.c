@@ -2,9 +2,10 @@
    It prints a checksum of the last picture of each round and how the switches stand then, as a front end shows them, and of the whole
    the channels that were clipped on the way and the totals of the last picture's middle. */
 #include <stdio.h>
+#include <stdlib.h>
 #include "hedgemallow.h"
 
-enum { WIDTH = 64, HEIGHT = 48, COUNT = WIDTH * HEIGHT, DEPTH = 8, ROUND = 4, FRAMES = 6 };
+enum { WIDTH = 64, HEIGHT = 48, COUNT = WIDTH * HEIGHT, ROUND = 4, FRAMES = 6 };
 
 /* Persistence 0.5 over 3 frames, LUT preset 1 at 0.75, scanlines 0.5, all on. */
 static const uint8_t card[] = {0x13, 0x49, 0xF8, 0x00, 0x00, 0x00, 0x1A, 0xC9, 0xFA,
@@ -14,10 +15,17 @@ static const uint16_t middle[] = {16, 12, 32, 24};
 /* By the kinds' numbers. */
 static const char *const names[] = {"", "NTSC", "bloom", "gradient", "persistence", "LUT", "curvature", "colour", "CRT", "vignette",
                                     "scanlines"};
-static uint32_t frame[COUNT], history[DEPTH * COUNT], ints[COUNT];
+static uint32_t frame[COUNT], history[HEDGEMALLOW_DEPTH * COUNT], ints[COUNT];
 static float floats[HEDGEMALLOW_FLOATS(WIDTH, HEIGHT)];
 /* The card has no colour, so no word of a curve is read: its length is 0. */
 static const float curve[1];
+
+/* What a call reports. A refusal ends the host, which has nothing to show then. */
+static uint32_t must(const char *what, uint32_t answer) {
+    if (answer < HEDGEMALLOW_REFUSED) return answer;
+    fprintf(stderr, "%s is refused: %u\n", what, (unsigned)(answer - HEDGEMALLOW_REFUSED));
+    exit(1);
+}
 
 static void paint(uint32_t number) {
     for (uint32_t y = 0; y < HEIGHT; y++)
@@ -49,40 +57,29 @@ static void show(const uint8_t *state) {
 
 int main(void) {
     uint8_t state[HEDGEMALLOW_STATE];
-    uint32_t answer = hedgemallow_open(card, sizeof card, state);
-    if (answer >= HEDGEMALLOW_REFUSED) {
-        printf("the card is refused: %u\n", (unsigned)(answer - HEDGEMALLOW_REFUSED));
-        return 1;
-    }
+    must("the card", hedgemallow_open(card, sizeof card, state));
+    size_t words = must("the depth", hedgemallow_depth(state)) * (size_t)COUNT;
     uint32_t preset = 0, clipped[1], sum = 0;
     for (uint32_t number = 0; number < FRAMES; number++) {
         /* Between the rounds what was asked for takes hold. */
         if (number == ROUND) {
             printf("first round: frames %d, picture %08X\n", ROUND, (unsigned)checksum());
             show(state);
-            hedgemallow_commit(state);
+            must("the commit", hedgemallow_commit(state));
         }
         paint(number);
         /* During play: the pictures of this round keep their scanlines. */
-        if (number == 2) hedgemallow_ask(state, HEDGEMALLOW_SCANLINES, 0);
-        if (number == 3) preset = hedgemallow_cycle_lut(state);
-        answer = hedgemallow_apply(state, frame, COUNT, WIDTH, HEIGHT, history, hedgemallow_depth(state) * (size_t)COUNT,
-                                   floats, HEDGEMALLOW_FLOATS(WIDTH, HEIGHT), ints, COUNT, curve, 0, clipped);
-        if (answer >= HEDGEMALLOW_REFUSED) {
-            printf("the frame is refused: %u\n", (unsigned)(answer - HEDGEMALLOW_REFUSED));
-            return 1;
-        }
+        if (number == 2) must("what is asked for", hedgemallow_ask(state, HEDGEMALLOW_SCANLINES, 0));
+        if (number == 3) preset = must("the step", hedgemallow_cycle_lut(state));
+        must("the frame", hedgemallow_apply(state, frame, COUNT, WIDTH, HEIGHT, history, words, floats,
+                                            HEDGEMALLOW_FLOATS(WIDTH, HEIGHT), ints, COUNT, curve, 0, clipped));
         sum += clipped[0];
     }
     uint8_t again[HEDGEMALLOW_CARD];
-    uint32_t length = hedgemallow_write(state, again, sizeof again);
+    uint32_t length = must("the writing", hedgemallow_write(state, again, sizeof again));
     uint64_t totals[3];
     uint32_t read[1];
-    answer = hedgemallow_areas(frame, COUNT, WIDTH, HEIGHT, middle, 4, totals, 3, read);
-    if (answer >= HEDGEMALLOW_REFUSED) {
-        printf("the area is refused: %u\n", (unsigned)(answer - HEDGEMALLOW_REFUSED));
-        return 1;
-    }
+    must("the area", hedgemallow_areas(frame, COUNT, WIDTH, HEIGHT, middle, 4, totals, 3, read));
     printf("frames %d, preset %u, card %u bytes, picture %08X, clipped %u\n", FRAMES, (unsigned)preset, (unsigned)length,
            (unsigned)checksum(), (unsigned)sum);
     printf("middle: %u words, red %lu, green %lu, blue %lu\n", (unsigned)read[0], (unsigned long)totals[0], (unsigned long)totals[1],

@@ -2,12 +2,24 @@
 // frame always gives the same bytes: the compression is this file's own (matches by a hash of three bytes, fixed codes).
 use std::io::{self, Read, Write};
 
-/// The header's three numbers and the rest. `filter` writes headers without comments.
+/// What comes after white space and comments, each from `#` to the end of its line.
+fn after_gap(mut rest: &[u8]) -> &[u8] {
+    loop {
+        let gap = match rest.first() {
+            Some(b' ' | b'\t'..=b'\r') => 1,
+            Some(b'#') => rest.iter().take_while(|b| !b"\n\r".contains(b)).count(),
+            _ => return rest,
+        };
+        rest = &rest[gap..];
+    }
+}
+
+/// The header's three numbers and the rest.
 fn header(bytes: &[u8]) -> Option<([usize; 3], &[u8])> {
     let mut rest = bytes.strip_prefix(b"P6")?;
     let mut numbers = [0; 3];
     for number in &mut numbers {
-        rest = rest.trim_ascii_start();
+        rest = after_gap(rest);
         let digits = rest.iter().take_while(|b| b.is_ascii_digit()).count();
         *number = std::str::from_utf8(&rest[..digits]).ok()?.parse().ok()?;
         rest = &rest[digits..];

@@ -24,9 +24,10 @@
  * is refused by the number answer - 256, and every byte and word is as it was before the call.
  *
  * Sizes. count is width * height, each side 1 to 1024. A frame takes
- *     framebuffer  count words, one pixel each, 0xRRGGBB, row after row; the top byte may be set: a pass
- *                  that rewrites a pixel clears it, and what no pass rewrites keeps it (the even rows
- *                  under scanlines, for one)
+ *     framebuffer  count words, one pixel each, 0xRRGGBB, row after row; the top byte may be set.
+ *                  Curvature takes it along with the pixel that it reads, every other pass clears it
+ *                  in the pixels that it works out, and what no pass works out keeps it: the even rows
+ *                  under scanlines, a frame with which persistence begins its history
  *     history      hedgemallow_depth(state) * count words: the same ones at each frame, at first with
  *                  anything in them
  *     floats       3 * count + 3 * width words of scratch, whatever they hold (HEDGEMALLOW_FLOATS)
@@ -41,14 +42,15 @@
  * The curve. Where gamma is not 1, colour begins with word k of the curve for a channel k, 0 to 255, in
  * place of k/255: that word is meant to be k/255 to the power gamma. It is data, since the powf of two
  * machines need not agree in the last bit, and then their pictures may differ. A league that wants equal
- * pictures hands out the curve with the card, as words.
+ * pictures hands out the curve with the card, as a file of 1,024 bytes: word after word, the low byte of each
+ * first.
  *
  * Areas. A rectangle of a picture is four numbers of a list: left, top, width, height. It has three
  * totals: the sums of its words' red, green and blue bytes.
  *
  * The caller promises, as always in C: a pointer is aligned and not null, with a length of 0 too (any
  * aligned address will do then: nothing is read there), as many elements as its length says are there
- * (80 bytes for a state), no two arguments of a call overlap, and no
+ * (80 bytes for a state), no argument that is written through overlaps another one, and no
  * other thread reads or writes what is written, or writes what is read, during the call.
  *
  * Floats. The thread's control word (MXCSR) must be as at the start of a program: rounding to
@@ -58,8 +60,9 @@
  * subnormal numbers are flushed, a card's subnormal setting opens as 0, which normalises to another
  * card, and a state with such a setting may be refused by 13.
  *
- * Stack. hedgemallow_apply was measured at 45,320 bytes (2026-11-16), whatever the card and the size of the
- * frame. A thread that is made with a small stack should have 64 KiB left for it.
+ * Stack. hedgemallow_apply takes less than 48 KiB, whatever the card and the size of the frame, and
+ * hedgemallow_areas less than 44 KiB (45,336 and 41,288 bytes were measured on 2026-11-17). A thread that is
+ * made with a small stack should have 64 KiB left for either.
  *
  * No function keeps a pointer, allocates, or has state of its own, so calls on different buffers
  * may run at the same time.
@@ -88,6 +91,9 @@ extern "C" {
 
 /* The words of a curve: one for each number that a channel may be. */
 #define HEDGEMALLOW_CURVE 256
+
+/* The most areas of one call. */
+#define HEDGEMALLOW_AREAS 64
 
 /* The words of `floats` that a frame takes. */
 #define HEDGEMALLOW_FLOATS(width, height) (3 * (size_t)(width) * (size_t)(height) + 3 * (size_t)(width))
@@ -186,7 +192,8 @@ uint32_t hedgemallow_commit(uint8_t state[HEDGEMALLOW_STATE]);
 /* Steps the LUT to its next preset, and reports it, 0 to 6. Refusals 13, 12. */
 uint32_t hedgemallow_cycle_lut(uint8_t state[HEDGEMALLOW_STATE]);
 
-/* Reports how many frames of count words the history must have room for, 0 to 8. Refusal 13. */
+/* Reports how many frames of count words the history must have room for, 0 to 8. Refusal 13: look at the answer
+   before it is multiplied. */
 uint32_t hedgemallow_depth(const uint8_t state[HEDGEMALLOW_STATE]);
 
 /* Reports whether the pass of that kind, 1 to 10, is on: 1, or 0 where it is off. Nothing is switched.

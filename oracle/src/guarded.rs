@@ -5,31 +5,12 @@
 #[path = "bridge.rs"]
 mod plain;
 
-use std::ffi::c_void;
-
 pub use plain::{Answer, Lent, State};
 
-const PAGE: usize = 4096;
+use crate::pages::{self, NONE, PAGE, READ_WRITE};
 
 /// Bytes for the longest buffer that the fuzzer lends: history and floats.
 const BYTES: usize = 16 * PAGE;
-
-extern "C" {
-    fn mmap(
-        at: *mut c_void,
-        len: usize,
-        access: i32,
-        flags: i32,
-        file: i32,
-        from: i64,
-    ) -> *mut c_void;
-    fn mprotect(at: *mut c_void, len: usize, access: i32) -> i32;
-}
-
-/// Of Linux on x86-64: no access, reading and writing; a mapping of one's own, of no file.
-const NONE: i32 = 0;
-const READ_WRITE: i32 = 3;
-const PRIVATE_ANONYMOUS: i32 = 0x22;
 
 /// Which end of a copy touches the guarded page.
 #[derive(Clone, Copy)]
@@ -45,11 +26,9 @@ impl Room {
     fn new() -> Self {
         // SAFETY: new pages, of which those between the first and the last are opened.
         unsafe {
-            let all = BYTES + 2 * PAGE;
-            let start = mmap(std::ptr::null_mut(), all, NONE, PRIVATE_ANONYMOUS, -1, 0);
-            assert_ne!(start as isize, -1, "no pages");
-            let inner = start.byte_add(PAGE);
-            assert_eq!(mprotect(inner, BYTES, READ_WRITE), 0, "no pages to write");
+            let inner = pages::map(BYTES + 2 * PAGE, NONE).byte_add(PAGE);
+            let opened = pages::mprotect(inner, BYTES, READ_WRITE);
+            assert_eq!(opened, 0, "no pages to write");
             Room(inner.cast())
         }
     }

@@ -21,10 +21,13 @@ mod clipped;
 mod constants;
 #[cfg(fuzz)]
 mod fuzz;
+#[cfg(fuzz)]
+mod inside;
 // Not in the fuzzer, which is guided by the branches of all that is compiled: those of its allocator would be among them.
 #[cfg(all(with_original, not(fuzz)))]
 mod measure;
 mod met;
+mod pages;
 #[cfg(with_original)]
 mod passes;
 mod patterns;
@@ -58,9 +61,7 @@ fn main() -> ExitCode {
         #[cfg(with_original)]
         ["record", file] => told(std::fs::write(file, station::record::all())),
         #[cfg(with_original)]
-        ["seeds", "station", folder] => told(seeds::station(Path::new(folder))),
-        #[cfg(with_original)]
-        ["seeds", "bridge", folder] => told(seeds::bridge(Path::new(folder))),
+        ["seeds", target, folder] => told(seeds::write(target, Path::new(folder))),
         ["quick"] => compare(Mode::Quick, None),
         ["full"] => compare(Mode::Full, None),
         ["quick", original] => compare(Mode::Quick, Some(Path::new(original))),
@@ -73,7 +74,7 @@ fn main() -> ExitCode {
 
 fn misused() -> ExitCode {
     eprintln!(
-        "expected: bench; measure and what; record and a file; seeds, station or bridge, and a folder; \
+        "expected: bench; measure and what; record and a file; seeds, a fuzz target and a folder; \
          steps, cards, areas, station, programs, passes, runs or still, and quick or full; quick or full and then the original's folder, if any"
     );
     ExitCode::from(2)

@@ -5,15 +5,87 @@ use std::fmt;
 
 use crate::cards::paper::Size;
 
-/// How many differing inputs of a step or pass are printed.
+/// How many differences of a count are printed.
 const SHOWN: usize = 5;
 
-/// The end of a count's line: the place of the first difference, if there is one. Each thread keeps the first ones that it
-/// meets, and takes place after place.
-fn first(shown: &[(usize, String)]) -> String {
-    match shown.first() {
-        Some((at, _)) => format!(", first at {at}"),
-        None => String::new(),
+/// What differed: how often, and the first few times, each with its place. A thread takes place after place.
+#[derive(Default)]
+struct Differences {
+    count: u64,
+    shown: Vec<(usize, String)>,
+}
+
+impl Differences {
+    /// Counts one. It is the rare case of a loop over billions.
+    #[cold]
+    fn note(&mut self, at: usize, text: impl FnOnce() -> String) {
+        self.count += 1;
+        if self.shown.len() < SHOWN {
+            self.shown.push((at, text()));
+        }
+    }
+
+    /// Adds those of another thread. What was met twice is shown once.
+    fn join(&mut self, other: Differences) {
+        self.count += other.count;
+        self.shown.extend(other.shown);
+        self.shown.sort_by_key(|&(at, _)| at);
+        self.shown.dedup();
+        self.shown.truncate(SHOWN);
+    }
+
+    /// The first few, a line each.
+    fn list(&self, f: &mut fmt::Formatter) -> fmt::Result {
+        for (_, text) in &self.shown {
+            writeln!(f, "    different at {text}")?;
+        }
+        Ok(())
+    }
+}
+
+/// The end of a count's line, and the lines under it.
+impl fmt::Display for Differences {
+    fn fmt(&self, f: &mut fmt::Formatter) -> fmt::Result {
+        write!(f, "{} different", self.count)?;
+        if let Some((at, _)) = self.shown.first() {
+            write!(f, ", first at {at}")?;
+        }
+        writeln!(f)?;
+        self.list(f)
+    }
+}
+
+/// The number of the last refusal.
+const LAST: usize = 19;
+
+/// How often a call had to be refused, by the number.
+#[derive(Default)]
+struct Refused([u64; LAST + 1]);
+
+impl Refused {
+    fn note(&mut self, number: u32) {
+        self.0[number as usize] += 1;
+    }
+
+    fn count(&self) -> u64 {
+        self.0.iter().sum()
+    }
+
+    /// Adds those of another thread.
+    fn join(&mut self, other: Refused) {
+        for (count, more) in self.0.iter_mut().zip(other.0) {
+            *count += more;
+        }
+    }
+}
+
+impl fmt::Display for Refused {
+    fn fmt(&self, f: &mut fmt::Formatter) -> fmt::Result {
+        write!(f, "refused")?;
+        for (number, count) in self.0.iter().enumerate().filter(|(_, &count)| count > 0) {
+            write!(f, " {number}: {count}")?;
+        }
+        Ok(())
     }
 }
 
@@ -57,9 +129,8 @@ pub enum Asked<T> {
 pub struct Tally<const K: usize> {
     name: &'static str,
     compared: u64,
-    different: u64,
-    /// The first few differences.
-    shown: Vec<String>,
+    /// By the pattern of the first operand.
+    differences: Differences,
     listed: Vec<Listed<K>>,
 }
 
@@ -80,8 +151,7 @@ impl<const K: usize> Tally<K> {
         Tally {
             name,
             compared: 0,
-            different: 0,
-            shown: Vec::new(),
+            differences: Differences::default(),
             listed: listed.collect(),
         }
     }
@@ -92,7 +162,7 @@ impl<const K: usize> Tally<K> {
         match asked {
             Asked::Rust(rust) => {
                 if !here.same(rust) {
-                    self.differ(|| format!("{}: here {here:?}, Rust {rust:?}", shown(operands)));
+                    self.differ_at(operands, || format!("here {here:?}, Rust {rust:?}"));
                 }
             }
             Asked::Listed(place, promised) => {
@@ -103,9 +173,7 @@ impl<const K: usize> Tally<K> {
                     listed.smallest = Some(patterns);
                 }
                 if !here.same(promised) {
-                    self.differ(|| {
-                        format!("{}: here {here:?}, promised {promised:?}", shown(operands))
-                    });
+                    self.differ_at(operands, || format!("here {here:?}, promised {promised:?}"));
                 }
             }
         }
@@ -119,25 +187,22 @@ impl<const K: usize> Tally<K> {
         }
     }
 
-    /// Counts a difference. Apart from `check`, since it is the rare case of a loop over billions.
-    #[cold]
+    /// Counts a difference at no operands: it comes after all others.
     pub fn differ(&mut self, text: impl FnOnce() -> String) {
-        self.different += 1;
-        if self.shown.len() < SHOWN {
-            self.shown.push(text());
-        }
+        self.differences.note(usize::MAX, text);
+    }
+
+    #[cold]
+    fn differ_at(&mut self, operands: [f32; K], text: impl FnOnce() -> String) {
+        let first = operands.first().map_or(0, |x| x.to_bits());
+        let text = || format!("{}: {}", shown(operands), text());
+        self.differences.note(first as usize, text);
     }
 
     /// Adds the count of another thread for the same step.
     pub fn join(&mut self, other: Tally<K>) {
         self.compared += other.compared;
-        self.different += other.different;
-        self.shown.extend(other.shown);
-        // A text begins with its pattern, so this leaves the smallest. A pattern that was compared
-        // twice is shown once.
-        self.shown.sort();
-        self.shown.dedup();
-        self.shown.truncate(SHOWN);
+        self.differences.join(other.differences);
         for (listed, more) in self.listed.iter_mut().zip(other.listed) {
             listed.values += more.values;
             listed.smallest = listed.smallest.into_iter().chain(more.smallest).min();
@@ -154,14 +219,12 @@ fn shown<const K: usize>(operands: [f32; K]) -> String {
 
 impl<const K: usize> fmt::Display for Tally<K> {
     fn fmt(&self, f: &mut fmt::Formatter) -> fmt::Result {
+        let (name, compared, different) = (self.name, self.compared, self.differences.count);
         writeln!(
             f,
-            "{}: {} values compared, {} different",
-            self.name, self.compared, self.different
+            "{name}: {compared} values compared, {different} different"
         )?;
-        for text in &self.shown {
-            writeln!(f, "    different at {text}")?;
-        }
+        self.differences.list(f)?;
         for listed in &self.listed {
             write!(f, "    listed, {}: {} of them", listed.what, listed.values)?;
             if let Some(smallest) = listed.smallest {
@@ -174,6 +237,7 @@ impl<const K: usize> fmt::Display for Tally<K> {
 }
 
 /// The count for one pass.
+#[derive(Default)]
 pub struct FrameTally {
     name: &'static str,
     frames: u64,
@@ -184,22 +248,14 @@ pub struct FrameTally {
     turned: u64,
     /// Those whose channels start from a curve.
     curved: u64,
-    different: u64,
-    /// The first few differences, each with the place of its case.
-    shown: Vec<(usize, String)>,
+    differences: Differences,
 }
 
 impl FrameTally {
     pub fn new(name: &'static str) -> Self {
         FrameTally {
             name,
-            frames: 0,
-            words: 0,
-            clipped: 0,
-            turned: 0,
-            curved: 0,
-            different: 0,
-            shown: Vec::new(),
+            ..FrameTally::default()
         }
     }
 
@@ -233,7 +289,7 @@ impl FrameTally {
         });
         // The one that is shown is counted already.
         let different = words().filter(|(here, original)| here != original).count();
-        self.different += different as u64 - 1;
+        self.differences.count += different as u64 - 1;
     }
 
     /// Counts a turned frame.
@@ -270,12 +326,8 @@ impl FrameTally {
     }
 
     /// Counts a difference.
-    #[cold]
     pub fn differ(&mut self, at: usize, text: impl FnOnce() -> String) {
-        self.different += 1;
-        if self.shown.len() < SHOWN {
-            self.shown.push((at, text()));
-        }
+        self.differences.note(at, text);
     }
 
     /// Adds the count of another thread for the same pass.
@@ -285,10 +337,7 @@ impl FrameTally {
         self.clipped += other.clipped;
         self.turned += other.turned;
         self.curved += other.curved;
-        self.different += other.different;
-        self.shown.extend(other.shown);
-        self.shown.sort_by_key(|&(at, _)| at);
-        self.shown.truncate(SHOWN);
+        self.differences.join(other.differences);
     }
 }
 
@@ -299,19 +348,13 @@ impl fmt::Display for FrameTally {
             frames,
             words,
             clipped,
-            different,
-            shown,
+            differences,
             ..
         } = self;
-        writeln!(
+        write!(
             f,
-            "{name}: {frames} frames, {words} words, {clipped} clipped channels compared, {different} different{}",
-            first(shown)
-        )?;
-        for (_, text) in shown {
-            writeln!(f, "    different at {text}")?;
-        }
-        Ok(())
+            "{name}: {frames} frames, {words} words, {clipped} clipped channels compared, {differences}"
+        )
     }
 }
 
@@ -319,23 +362,16 @@ impl fmt::Display for FrameTally {
 type Answer = Result<usize, u32>;
 
 /// The count of cards.
+#[derive(Default)]
 pub struct CardTally {
     taken: u64,
-    /// By the refusal's number.
-    refused: [u64; 16],
-    different: u64,
-    /// The first few differences, each with the place of its card.
-    shown: Vec<(usize, String)>,
+    refused: Refused,
+    differences: Differences,
 }
 
 impl CardTally {
     pub fn new() -> Self {
-        CardTally {
-            taken: 0,
-            refused: [0; 16],
-            different: 0,
-            shown: Vec::new(),
-        }
+        CardTally::default()
     }
 
     /// Holds the answer to a card and the buffer after it to the paper's.
@@ -348,43 +384,29 @@ impl CardTally {
     ) {
         match paper.0 {
             Ok(_) => self.taken += 1,
-            Err(number) => self.refused[number as usize] += 1,
+            Err(number) => self.refused.note(number),
         }
         if here == paper {
             return;
         }
-        self.different += 1;
-        if self.shown.len() < SHOWN {
-            let at = self.cards() as usize - 1;
-            let text = format!(
+        let at = self.cards() as usize - 1;
+        self.differences.note(at, || {
+            format!(
                 "card {card:02x?}, held {held:?}: here {:?} and {:02x?}, by the paper {:?} and {:02x?}",
                 here.0, here.1, paper.0, paper.1
-            );
-            self.shown.push((at, text));
-        }
+            )
+        });
     }
 
     fn cards(&self) -> u64 {
-        self.taken + self.refused.iter().sum::<u64>()
+        self.taken + self.refused.count()
     }
 }
 
 impl fmt::Display for CardTally {
     fn fmt(&self, f: &mut fmt::Formatter) -> fmt::Result {
-        let cards = self.cards();
-        let (different, first) = (self.different, first(&self.shown));
-        writeln!(f, "cards: {cards} compared, {different} different{first}")?;
-        write!(f, "    {} taken; refused", self.taken)?;
-        for (number, count) in self.refused.iter().enumerate() {
-            if *count > 0 {
-                write!(f, " {number}: {count}")?;
-            }
-        }
-        writeln!(f)?;
-        for (_, text) in &self.shown {
-            writeln!(f, "    different at {text}")?;
-        }
-        Ok(())
+        write!(f, "cards: {} compared, {}", self.cards(), self.differences)?;
+        writeln!(f, "    {} taken; {}", self.taken, self.refused)
     }
 }
 
@@ -392,15 +414,14 @@ impl fmt::Display for CardTally {
 const SHOWN_BYTES: usize = 400;
 
 /// The count of inputs to a program.
+#[derive(Default)]
 pub struct ProgramTally {
     name: &'static str,
     /// What its inputs are.
     unit: &'static str,
     inputs: u64,
     lines: u64,
-    different: u64,
-    /// The first few differences, each with the place of its input.
-    shown: Vec<(usize, String)>,
+    differences: Differences,
 }
 
 impl ProgramTally {
@@ -412,10 +433,7 @@ impl ProgramTally {
         ProgramTally {
             name,
             unit,
-            inputs: 0,
-            lines: 0,
-            different: 0,
-            shown: Vec::new(),
+            ..ProgramTally::default()
         }
     }
 
@@ -445,8 +463,7 @@ impl ProgramTally {
         if here == asked {
             return;
         }
-        self.different += 1;
-        if self.shown.len() < SHOWN {
+        self.differences.note(at, || {
             let lines = |text: &[u8]| -> Vec<String> {
                 let text = String::from_utf8_lossy(text).into_owned();
                 text.split_inclusive('\n').map(str::to_string).collect()
@@ -456,29 +473,23 @@ impl ProgramTally {
             let line = line.unwrap_or_default();
             let bytes: Vec<String> = input.iter().map(|byte| format!("{byte:02X}")).collect();
             let bytes = &bytes[..bytes.len().min(SHOWN_BYTES)];
-            self.shown.push((
-                at,
-                format!(
-                    "{}, line {}: here {:?}, asked {:?}, input of {} bytes {}",
-                    what(),
-                    line + 1,
-                    here.get(line),
-                    asked.get(line),
-                    input.len(),
-                    bytes.join(" ")
-                ),
-            ));
-        }
+            format!(
+                "{}, line {}: here {:?}, asked {:?}, input of {} bytes {}",
+                what(),
+                line + 1,
+                here.get(line),
+                asked.get(line),
+                input.len(),
+                bytes.join(" ")
+            )
+        });
     }
 
     /// Adds the count of another thread.
     pub fn join(&mut self, other: ProgramTally) {
         self.inputs += other.inputs;
         self.lines += other.lines;
-        self.different += other.different;
-        self.shown.extend(other.shown);
-        self.shown.sort_by_key(|&(at, _)| at);
-        self.shown.truncate(SHOWN);
+        self.differences.join(other.differences);
     }
 }
 
@@ -489,18 +500,12 @@ impl fmt::Display for ProgramTally {
             unit,
             inputs,
             lines,
-            different,
-            shown,
+            differences,
         } = self;
-        writeln!(
+        write!(
             f,
-            "{name}: {inputs} {unit}, {lines} lines compared, {different} different{}",
-            first(shown)
-        )?;
-        for (_, text) in shown {
-            writeln!(f, "    different at {text}")?;
-        }
-        Ok(())
+            "{name}: {inputs} {unit}, {lines} lines compared, {differences}"
+        )
     }
 }
 
@@ -508,27 +513,21 @@ impl fmt::Display for ProgramTally {
 type Written<'a> = (&'a [u8], &'a [u8]);
 
 /// The count of runs of files through a program.
+#[derive(Default)]
 pub struct FileTally {
     name: &'static str,
     runs: u64,
     files: u64,
     frames: u64,
     pixels: u64,
-    different: u64,
-    /// The first few differences, each with the place of its run.
-    shown: Vec<(usize, String)>,
+    differences: Differences,
 }
 
 impl FileTally {
     pub fn new(name: &'static str) -> Self {
         FileTally {
             name,
-            runs: 0,
-            files: 0,
-            frames: 0,
-            pixels: 0,
-            different: 0,
-            shown: Vec::new(),
+            ..FileTally::default()
         }
     }
 
@@ -551,24 +550,20 @@ impl FileTally {
         if here == asked {
             return;
         }
-        self.different += 1;
-        if self.shown.len() < SHOWN {
+        self.differences.note(at, || {
             let place = (0..).find(|&n| here.0.get(n) != asked.0.get(n) || n >= asked.0.len());
             let place = place.unwrap_or_default();
-            self.shown.push((
-                at,
-                format!(
-                    "{}: here {} bytes and {:?}, asked {} bytes and {:?}; byte {place}: here {:02x?}, asked {:02x?}",
-                    what(),
-                    here.0.len(),
-                    String::from_utf8_lossy(here.1),
-                    asked.0.len(),
-                    String::from_utf8_lossy(asked.1),
-                    here.0.get(place),
-                    asked.0.get(place)
-                ),
-            ));
-        }
+            format!(
+                "{}: here {} bytes and {:?}, asked {} bytes and {:?}; byte {place}: here {:02x?}, asked {:02x?}",
+                what(),
+                here.0.len(),
+                String::from_utf8_lossy(here.1),
+                asked.0.len(),
+                String::from_utf8_lossy(asked.1),
+                here.0.get(place),
+                asked.0.get(place)
+            )
+        });
     }
 
     /// Adds the count of another thread.
@@ -577,10 +572,7 @@ impl FileTally {
         self.files += other.files;
         self.frames += other.frames;
         self.pixels += other.pixels;
-        self.different += other.different;
-        self.shown.extend(other.shown);
-        self.shown.sort_by_key(|&(at, _)| at);
-        self.shown.truncate(SHOWN);
+        self.differences.join(other.differences);
     }
 }
 
@@ -592,22 +584,17 @@ impl fmt::Display for FileTally {
             files,
             frames,
             pixels,
-            different,
-            shown,
+            differences,
         } = self;
-        writeln!(
+        write!(
             f,
-            "{name}: {runs} runs of {files} files, {frames} frames of {pixels} pixels compared, {different} different{}",
-            first(shown)
-        )?;
-        for (_, text) in shown {
-            writeln!(f, "    different at {text}")?;
-        }
-        Ok(())
+            "{name}: {runs} runs of {files} files, {frames} frames of {pixels} pixels compared, {differences}"
+        )
     }
 }
 
 /// The count of runs of calls on stations.
+#[derive(Default)]
 pub struct RunTally {
     name: &'static str,
     runs: u64,
@@ -616,25 +603,15 @@ pub struct RunTally {
     /// Of the pictures, and of the history buffers after each call.
     words: u64,
     history: u64,
-    /// By the refusal's number.
-    refused: [u64; 19],
-    different: u64,
-    /// The first few differences, each with the place of its run.
-    shown: Vec<(usize, String)>,
+    refused: Refused,
+    differences: Differences,
 }
 
 impl RunTally {
     pub fn new(name: &'static str) -> Self {
         RunTally {
             name,
-            runs: 0,
-            calls: 0,
-            frames: 0,
-            words: 0,
-            history: 0,
-            refused: [0; 19],
-            different: 0,
-            shown: Vec::new(),
+            ..RunTally::default()
         }
     }
 
@@ -648,7 +625,7 @@ impl RunTally {
         self.calls += 1;
         self.history += history as u64;
         if let Err(number) = asked {
-            self.refused[number as usize] += 1;
+            self.refused.note(number);
         }
     }
 
@@ -659,12 +636,8 @@ impl RunTally {
     }
 
     /// Counts a difference, which ends its run.
-    #[cold]
     pub fn differ(&mut self, at: usize, text: impl FnOnce() -> String) {
-        self.different += 1;
-        if self.shown.len() < SHOWN {
-            self.shown.push((at, text()));
-        }
+        self.differences.note(at, text);
     }
 
     /// Adds the count of another thread.
@@ -674,13 +647,8 @@ impl RunTally {
         self.frames += other.frames;
         self.words += other.words;
         self.history += other.history;
-        for (count, more) in self.refused.iter_mut().zip(other.refused) {
-            *count += more;
-        }
-        self.different += other.different;
-        self.shown.extend(other.shown);
-        self.shown.sort_by_key(|&(at, _)| at);
-        self.shown.truncate(SHOWN);
+        self.refused.join(other.refused);
+        self.differences.join(other.differences);
     }
 }
 
@@ -694,8 +662,7 @@ impl fmt::Display for RunTally {
             words,
             history,
             refused,
-            different,
-            shown,
+            differences,
         } = self;
         write!(
             f,
@@ -704,43 +671,28 @@ impl fmt::Display for RunTally {
         if *history > 0 {
             write!(f, " and {history} history words")?;
         }
-        writeln!(f, " compared, {different} different{}", first(shown))?;
-        write!(f, "    refused")?;
-        for (number, count) in refused.iter().enumerate().filter(|(_, &count)| count > 0) {
-            write!(f, " {number}: {count}")?;
-        }
-        writeln!(f)?;
-        for (_, text) in shown {
-            writeln!(f, "    different at {text}")?;
-        }
-        Ok(())
+        write!(f, " compared, {differences}")?;
+        writeln!(f, "    {refused}")
     }
 }
 
 /// The count of calls on lists of rectangles.
+#[derive(Default)]
 pub struct AreaTally {
     name: &'static str,
     calls: u64,
     areas: u64,
     /// Of the accepted ones.
     words: u64,
-    /// By the refusal's number.
-    refused: [u64; 20],
-    different: u64,
-    /// The first few differences, each with the place of its call.
-    shown: Vec<(usize, String)>,
+    refused: Refused,
+    differences: Differences,
 }
 
 impl AreaTally {
     pub fn new(name: &'static str) -> Self {
         AreaTally {
             name,
-            calls: 0,
-            areas: 0,
-            words: 0,
-            refused: [0; 20],
-            different: 0,
-            shown: Vec::new(),
+            ..AreaTally::default()
         }
     }
 
@@ -757,13 +709,10 @@ impl AreaTally {
         self.areas += areas as u64;
         match asked {
             Ok(words) => self.words += u64::from(words),
-            Err(number) => self.refused[number as usize] += 1,
+            Err(number) => self.refused.note(number),
         }
         if !right {
-            self.different += 1;
-            if self.shown.len() < SHOWN {
-                self.shown.push((at, text()));
-            }
+            self.differences.note(at, text);
         }
     }
 
@@ -772,13 +721,8 @@ impl AreaTally {
         self.calls += other.calls;
         self.areas += other.areas;
         self.words += other.words;
-        for (count, more) in self.refused.iter_mut().zip(other.refused) {
-            *count += more;
-        }
-        self.different += other.different;
-        self.shown.extend(other.shown);
-        self.shown.sort_by_key(|&(at, _)| at);
-        self.shown.truncate(SHOWN);
+        self.refused.join(other.refused);
+        self.differences.join(other.differences);
     }
 }
 
@@ -790,19 +734,13 @@ impl fmt::Display for AreaTally {
             areas,
             words,
             refused,
-            different,
-            shown,
+            differences,
         } = self;
-        writeln!(f, "{name}: {calls} lists of {areas} rectangles, {words} words read, {different} different")?;
-        write!(f, "    refused")?;
-        for (number, count) in refused.iter().enumerate().filter(|(_, &count)| count > 0) {
-            write!(f, " {number}: {count}")?;
-        }
-        writeln!(f)?;
-        for (_, text) in shown {
-            writeln!(f, "    different at {text}")?;
-        }
-        Ok(())
+        write!(
+            f,
+            "{name}: {calls} lists of {areas} rectangles, {words} words read, {differences}"
+        )?;
+        writeln!(f, "    {refused}")
     }
 }
 
@@ -823,32 +761,30 @@ pub struct Total {
     pub unmet: u64,
 }
 
-/// In a list of the comparison at least so many frames have to be turned: else it shows little of them.
-const LEAST_TURNED: u64 = 150;
-
-/// And at least so many have to have a curve.
-const LEAST_CURVED: u64 = 150;
+/// In a list of the comparison at least so many frames have to be turned, and so many have to have a curve: else it shows little of
+/// them.
+const LEAST: u64 = 150;
 
 impl Total {
     /// Prints a step's count and adds it.
     pub fn add<const K: usize>(&mut self, tally: &Tally<K>) {
         print!("{tally}");
         self.compared += tally.compared;
-        self.different += tally.different;
+        self.different += tally.differences.count;
     }
 
     /// Prints the count of cards and adds it.
     pub fn add_cards(&mut self, tally: &CardTally) {
         print!("{tally}");
         self.cards += tally.cards();
-        self.different += tally.different;
+        self.different += tally.differences.count;
     }
 
     /// Prints the count of inputs and adds it.
     pub fn add_programs(&mut self, tally: &ProgramTally) {
         print!("{tally}");
         self.inputs += tally.inputs;
-        self.different += tally.different;
+        self.different += tally.differences.count;
     }
 
     /// Prints the count of runs of files and adds it.
@@ -857,7 +793,7 @@ impl Total {
         self.inputs += tally.runs;
         self.frames += tally.frames;
         self.words += tally.pixels;
-        self.different += tally.different;
+        self.different += tally.differences.count;
     }
 
     /// Prints the count of runs and adds it.
@@ -866,14 +802,14 @@ impl Total {
         self.calls += tally.calls;
         self.frames += tally.frames;
         self.words += tally.words;
-        self.different += tally.different;
+        self.different += tally.differences.count;
     }
 
     /// Prints the count of lists and adds it.
     pub fn add_areas(&mut self, tally: &AreaTally) {
         print!("{tally}");
         self.lists += tally.calls;
-        self.different += tally.different;
+        self.different += tally.differences.count;
     }
 
     /// Prints a pass's count and adds it.
@@ -881,7 +817,7 @@ impl Total {
         print!("{tally}");
         self.frames += tally.frames;
         self.words += tally.words;
-        self.different += tally.different;
+        self.different += tally.differences.count;
     }
 
     /// The same of a pass with memory.
@@ -893,20 +829,21 @@ impl Total {
     /// Prints how many frames of a list came in another shape than the ones before them, with as many words, and adds them. The
     /// original would mix such a frame with those: there it was made to begin anew.
     pub fn add_turned(&mut self, turned: u64) {
-        println!("    turned frames: {turned}");
         self.turned += turned;
-        if turned < LEAST_TURNED {
-            println!("    too few: less than {LEAST_TURNED}");
-            self.unmet += 1;
-        }
+        self.ask_for("turned", turned);
     }
 
     /// Prints how many frames of a list started their channels from a curve, and adds them.
     pub fn add_curved(&mut self, curved: u64) {
-        println!("    curved frames: {curved}");
         self.curved += curved;
-        if curved < LEAST_CURVED {
-            println!("    too few: less than {LEAST_CURVED}");
+        self.ask_for("curved", curved);
+    }
+
+    /// Prints how many of a list's frames are such.
+    fn ask_for(&mut self, such: &str, frames: u64) {
+        println!("    {such} frames: {frames}");
+        if frames < LEAST {
+            println!("    too few: less than {LEAST}");
             self.unmet += 1;
         }
     }

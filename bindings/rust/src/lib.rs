@@ -3,8 +3,8 @@
 //!
 //! The types see to pointers, lengths and threads. Two things are left to the caller, as the header
 //! says: the thread's control word for floats (MXCSR) rounds to nearest, keeps subnormal numbers and
-//! masks all exceptions, as Rust itself takes for granted; and a frame takes 45,320 bytes of stack
-//! (measured on 2026-11-16).
+//! masks all exceptions, as Rust itself takes for granted; and a frame takes less than 48 KiB of stack,
+//! a call of `areas` less than 44 (45,336 and 41,288 bytes were measured on 2026-11-17).
 //!
 //! ```
 //! use hedgemallow::{scratch_words, Kind, Refusal, Station};
@@ -264,6 +264,9 @@ pub const KINDS: [Kind; 10] = [
     Kind::Scanlines,
 ];
 
+/// The bytes of a state.
+pub const STATE: usize = 80;
+
 /// The most bytes that a card has.
 pub const CARD: usize = 72;
 
@@ -276,14 +279,17 @@ pub const DEPTH: usize = 8;
 /// The words of a curve: one for each number that a channel may be.
 pub const CURVE: usize = 256;
 
+/// The most areas of one call.
+pub const AREAS: usize = 64;
+
 /// The version of these bindings: that of the header and of the library that is built beside them.
 pub const VERSION: &str = "0.1.0";
 
-/// A station, as the 80 bytes of its state. It is no `Copy` type: a station that was used by value is gone, so one with the older
+/// A station, as the [`STATE`] bytes of its state. It is no `Copy` type: a station that was used by value is gone, so one with the older
 /// state cannot go on beside it unnoticed. Who wants a second station says `clone`.
 #[derive(Clone, Debug, PartialEq, Eq, Hash)]
 pub struct Station {
-    state: [u8; 80],
+    state: [u8; STATE],
 }
 
 // The calls below hand out pointers of references, so each is valid for its length, aligned, not
@@ -291,21 +297,21 @@ pub struct Station {
 impl Station {
     /// The station of a card.
     pub fn open(card: &[u8]) -> Result<Station, Refusal> {
-        let mut state = [0; 80];
+        let mut state = [0; STATE];
         report(unsafe { exports::hedgemallow_open(card.as_ptr(), card.len(), state.as_mut_ptr()) })?;
         Ok(Station { state })
     }
 
-    /// The station of bytes that were stored, a pending switch included. Lend it the history words that it had then; or reset it, and
-    /// any words will do.
-    pub fn from_bytes(state: [u8; 80]) -> Result<Station, Refusal> {
+    /// The station of bytes that were stored, a pending switch included. Lend it the history words that it had then. Where persistence is
+    /// on its card it may also be reset, and any words will do; a reset of another station is `NotInChain`, and no word is read.
+    pub fn from_bytes(state: [u8; STATE]) -> Result<Station, Refusal> {
         let station = Station { state };
         station.depth()?;
         Ok(station)
     }
 
     /// The bytes of the state, to be stored: docs/REFERENCE.md says what each is.
-    pub fn as_bytes(&self) -> &[u8; 80] {
+    pub fn as_bytes(&self) -> &[u8; STATE] {
         &self.state
     }
 
@@ -464,7 +470,7 @@ impl Station {
     }
 }
 
-/// The totals of up to 64 areas of a picture, in one reading. An area is four numbers of the list: left, top, width and height.
+/// The totals of up to [`AREAS`] areas of a picture, in one reading. An area is four numbers of the list: left, top, width and height.
 /// Its sums of red, green and blue go to the front of the result, in the order given; the answer is how many words were read.
 pub fn areas(picture: &[u32], width: usize, height: usize, areas: &[u16], result: &mut [u64]) -> Result<u32, Refusal> {
     let mut read = [0];

@@ -1,4 +1,4 @@
-// What is refused: a number of document 01's table, 0 for none.
+// What is refused: a number of the papers' tables, 0 for none.
 ghost use mathlib.Core.Path.{_≡_};
 ghost use mathlib.Core.Bool.{_||_};
 ghost use Prim.Native.Nat.{_+_, _≤_};

@@ -24,7 +24,8 @@ use Rattle.cards.specs.declared.station.Answer.{Answer}
 use Rattle.cards.specs.declared.station.Answer.the-variants.{Accepted, Refused}
 use Rattle.cards.specs.declared.station.Station.{Station}
 use Rattle.cards.specs.declared.writer.Written.{Written}
-use Rattle.bridge.specs.Outcomes.{Outcome, outcome, answered, damaged, opening, onState, questionOf, writeTold, writeLeft, Shown, shown, framedNumber, framedShown, frameShown, freed, Frames}
+use Rattle.bridge.specs.Outcomes.{Outcome, outcome, answered, damaged, opening, onState, questionOf, writeTold, writeLeft, Shown, shown, framedNumber}
+use Rattle.bridge.specs.Outcomes.{framedShown, frameShown, freed, Frames}
 use Rattle.bridge.specs.State.{encoded, stationIn, isState, decoded}
 
 pub opens : (card b : List ℕ) (o : Opened) (x : Outcome) → opened o ≡ openOf card → x ≡ answered b (opened o) → x ≡ opening card b

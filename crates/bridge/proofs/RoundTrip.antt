@@ -27,7 +27,8 @@ use Rattle.cards.specs.Laws.Good.{good, is-good}
 use Rattle.cards.proofs.Longest.{station-short}
 use Rattle.cards.proofs.Survives.{survives}
 use Rattle.bridge.specs.Claims.{Whole, RoundTrip}
-use Rattle.bridge.specs.State.{padded, kindByte, positionByte, keptBytes, laid, encoded, cardIn, heldIn, pendingOf, pendingIn, stationIn, sameBytes, isState}
+use Rattle.bridge.specs.State.{padded, kindByte, positionByte, keptBytes, laid, encoded, cardIn, heldIn, pendingOf, pendingIn, stationIn, sameBytes}
+use Rattle.bridge.specs.State.{isState}
 use Rattle.bridge.proofs.Bytes.{same-itself}
 use Rattle.bridge.proofs.Laid.{padded-long}
 

@@ -1,6 +1,6 @@
 // The station in the 80 bytes that a host lends: written, and read back where they are a state.
 ghost use mathlib.Core.Path.{_≡_};
-ghost use Prim.Native.Nat.{_*_, _+_, _≤_, min};
+ghost use Prim.Native.Nat.{_*_, _+_, min};
 ghost use Rattle.cards.specs.Answers.{opened};
 ghost use Rattle.bridge.specs.State.{heldIn, kindByte, positionByte, pendingOf, encoded, sameBytes, decoded};
 use cards::reader::Opened;

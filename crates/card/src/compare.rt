@@ -10,6 +10,7 @@ use cards::station::Record;
 use cards::station::Station;
 use cards::station::kind_of;
 use cli::names as called;
+use cli::output::end;
 use inspect::difference::Difference;
 use inspect::difference::first_difference;
 use inspect::settings::setting_at;
@@ -39,26 +40,26 @@ fn place(i: usize) {
     }
 }
 
-fn length(i: usize, a: Station) {
+fn length(i: usize, a: Station) -> bool {
     place(i);
     if i < a.n {
-        text(b" is on the first card only\n");
+        end(b" is on the first card only\n")
     } else {
-        text(b" is on the second card only\n");
+        end(b" is on the second card only\n")
     }
 }
 
 // The order of the passes is the same on every card, so the cards have different passes.
-fn kinds(i: usize, a: Station, b: Station) {
+fn kinds(i: usize, a: Station, b: Station) -> bool {
     place(i);
     text(b" is ");
     called::kind(STDOUT_FILENO, kind(record(a, i)));
     text(b" and ");
     called::kind(STDOUT_FILENO, kind(record(b, i)));
-    text(b": not the same passes, which stand by ascending kind on every card\n");
+    end(b": not the same passes, which stand by ascending kind on every card\n")
 }
 
-fn switches(i: usize, a: Station, b: Station) {
+fn switches(i: usize, a: Station, b: Station) -> bool {
     let r = record(a, i);
     let s = record(b, i);
     place(i);
@@ -68,10 +69,10 @@ fn switches(i: usize, a: Station, b: Station) {
     names::switch(r.on);
     text(b" and ");
     names::switch(s.on);
-    text(b"\n");
+    end(b"\n")
 }
 
-fn settings(i: usize, j: usize, a: Station, b: Station) {
+fn settings(i: usize, j: usize, a: Station, b: Station) -> bool {
     let r = record(a, i);
     place(i);
     text(b", ");
@@ -82,7 +83,7 @@ fn settings(i: usize, j: usize, a: Station, b: Station) {
     setting(r, j);
     text(b" and ");
     setting(record(b, i), j);
-    text(b"\n");
+    end(b"\n")
 }
 
 // How many older frames are mixed into a picture: none where persistence is off or not in the chain.
@@ -102,20 +103,51 @@ fn mixed(station: Station) -> usize {
     0
 }
 
-// From when on two stations with these settings show the same picture.
-fn alike(station: Station) {
-    let frames = mixed(station);
-    text(b"alike: the same settings; the pictures are the same ");
+// Whether a picture depends on the curve that is lent with its frame: colour is in the chain with a gamma other than 1. (Where it is off, the curve decides
+// a refusal still.)
+fn is_curved(station: Station) -> bool {
+    let n = station.n;
+    let mut i: usize = 0;
+    while i < 10 {
+        let r = record(station, i);
+        let pass = r.pass;
+        if i < n {
+            if let Pass::ColorCorrection {
+                brightness: _,
+                contrast: _,
+                saturation: _,
+                gamma,
+            } = pass {
+                return gamma != 1.0;
+            }
+        }
+        i += 1;
+    }
+    false
+}
+
+// From which frame on.
+fn begin(frames: usize) {
     if frames == 0 {
-        text(b"from the first shared frame on\n");
+        text(b"from the first shared frame on");
         return;
     }
     text(b"after ");
     numbers::whole(frames);
-    text(b" shared frames, or from a shared reset on\n");
+    text(b" shared frames, or from a shared reset on");
 }
 
-fn opened(a: Station, b: Station) {
+// From when on two stations with these settings show the same picture.
+fn alike(station: Station) -> bool {
+    text(b"alike: the same settings; the pictures are the same ");
+    begin(mixed(station));
+    if is_curved(station) {
+        text(b", where both are lent the same curve");
+    }
+    end(b"\n")
+}
+
+fn opened(a: Station, b: Station) -> bool {
     match first_difference(a, b) {
         Difference::Alike => alike(a),
         Difference::Length(i) => length(i, a),
@@ -133,20 +165,18 @@ fn is_accepted(answer: Answer) -> bool {
 }
 
 // Only cards that are accepted are compared: a refused one shows no picture.
-pub fn compared(card: &[u8], other: &[u8]) {
+pub fn compared(card: &[u8], other: &[u8]) -> bool {
     let one = reader::open(card);
     let two = reader::open(other);
     let first = one.answer;
     let second = two.answer;
     if !is_accepted(first) {
-        text(b"not compared: the first card is refused\n");
-        return;
+        return end(b"not compared: the first card is refused\n");
     }
     if !is_accepted(second) {
-        text(b"not compared: the second card is refused\n");
-        return;
+        return end(b"not compared: the second card is refused\n");
     }
     let a = one.station;
     let b = two.station;
-    opened(a, b);
+    opened(a, b)
 }

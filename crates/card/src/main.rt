@@ -1,11 +1,13 @@
 // Program `card`: prints one card or two in words. What it prints of a card is decided by proved functions: whether it is opened and where reading stopped
 // (cards::reader), its normalised bytes (cards::writer), its settings one by one, their exact decimal digits, and the first difference of two cards (inspect).
+// A function that writes lines says whether it wrote them; after a line that was not written no other is.
 mod names; // passes, settings and presets by name
 mod numbers; // numbers in decimal and hexadecimal
 mod show; // a card in words
 mod compare; // two cards
 
 use cli::input;
+use cli::output;
 use libc::STDERR_FILENO;
 
 fn usage() {
@@ -22,7 +24,12 @@ fn one() {
         return;
     }
     let n = loaded.length;
-    show::titled(1, &card[..n]);
+    output::told(show::titled(1, &card[..n]));
+}
+
+// Both cards, and how they compare.
+fn both(card: &[u8], other: &[u8]) -> bool {
+    show::titled(1, card) && show::titled(2, other) && compare::compared(card, other)
 }
 
 fn two() {
@@ -38,9 +45,7 @@ fn two() {
         return;
     }
     let m = loaded.length;
-    show::titled(1, &card[..n]);
-    show::titled(2, &other[..m]);
-    compare::compared(&card[..n], &other[..m]);
+    output::told(both(&card[..n], &other[..m]));
 }
 
 fn main() {

@@ -11,6 +11,7 @@ use cards::writer;
 use cards::writer::Writing;
 use cli::input;
 use cli::names as called;
+use cli::output::end;
 use cli::words;
 use inspect::settings::Setting;
 use inspect::settings::setting_at;
@@ -57,7 +58,7 @@ fn setting(r: Record, j: usize) {
 }
 
 // A line for the pass at place i, counted from 1. No pass has more than four settings.
-fn record(r: Record, i: usize) {
+fn record(r: Record, i: usize) -> bool {
     text(b"  ");
     numbers::whole(i);
     text(b"  ");
@@ -70,28 +71,31 @@ fn record(r: Record, i: usize) {
     setting(r, 1);
     setting(r, 2);
     setting(r, 3);
-    text(b"\n");
+    end(b"\n")
 }
 
 // A line for each pass of the chain.
-fn passes(station: Station) {
+fn passes(station: Station) -> bool {
     let n = station.n;
     let records = station.records;
     if n == 0 {
-        text(b"  no pass: the picture is the frame\n");
+        return end(b"  no pass: the picture is the frame\n");
     }
     let mut i = 0;
     while i < 10 {
         if i < n {
             let r = records[i];
-            record(r, i + 1);
+            if !record(r, i + 1) {
+                return false;
+            }
         }
         i += 1;
     }
+    true
 }
 
 // The card as every card of this station is written.
-fn normalised(station: Station) {
+fn normalised(station: Station) -> bool {
     let mut card = [0u8; 72];
     let written = writer::write(station, &mut card);
     let answer = written.answer;
@@ -99,9 +103,9 @@ fn normalised(station: Station) {
         Writing::Length(n) => {
             text(b"  normalised:");
             prefix(&card, n);
-            text(b"\n");
+            end(b"\n")
         }
-        Writing::Refused(_) => text(b"  no card\n"),
+        Writing::Refused(_) => end(b"  no card\n"),
     }
 }
 
@@ -113,28 +117,24 @@ fn prefix(card: &[u8], n: usize) {
 }
 
 // The card in words.
-fn described(card: &[u8]) {
+fn described(card: &[u8]) -> bool {
     let opened = reader::open(card);
     let answer = opened.answer;
     let station = opened.station;
     match answer {
-        Answer::Accepted => {
-            passes(station);
-            normalised(station);
-        }
+        Answer::Accepted => passes(station) && normalised(station),
         Answer::Refused(k) => {
             text(b"  ");
-            words::refused(STDOUT_FILENO, card, k);
+            words::refused(STDOUT_FILENO, card, k)
         }
     }
 }
 
 // The card that argument i gave, below that argument.
-pub fn titled(i: usize, card: &[u8]) {
+pub fn titled(i: usize, card: &[u8]) -> bool {
     let mut name = io::buffer();
     let given = input::argument(i, &mut name);
     let n = given.length;
     text(&name[..n]);
-    text(b"\n");
-    described(card);
+    end(b"\n") && described(card)
 }

@@ -3,7 +3,7 @@ use Prim.Native.Nat.{ℕ, zero, suc, _+_, _*_, _^_, _≤_, _<_}
 use native.Mathlib.Omega.{arith}
 use native.Mathlib.Nat.{add-zero}
 use mathlib.Core.Path.{_≡_, refl, ap, sym, subst, _∙_}
-use mathlib.Core.Bool.{Bool, true, false, cond, not, _&&_}
+use mathlib.Core.Bool.{Bool, true, false, cond, not}
 use mathlib.Core.List.{List, [], _++_, append-nil}
 use lib.ListN.{length, length-append}
 use lib.IntN.{pos, negsuc}
@@ -14,7 +14,8 @@ use lib.Ieee.{Float, nan, inf, fin, binary32, fits, toBits, ofBits, lt, eq, up, 
 use lib.Ieee.Bits.{ofBits-toBits, toBits-lt}
 use lib.Ieee.Fits.{up-pos}
 use lib.Ieee.Scale.{finite}
-use Rattle.cards.specs.Step.{Step, took, Reader, andThen, _>>=_, _>>_, ret, here, refuseIf}
+use Rattle.num.specs.Laws.Bools.{both}
+use Rattle.cards.specs.Step.{Step, took, Reader, andThen, _>>=_, ret, here, refuseIf}
 use Rattle.cards.specs.Bits.{fieldAt}
 use Rattle.cards.specs.Settings.{finiteAt, limitedAt, withinAt, raisedAt, countAt, presetAt}
 use Rattle.num.specs.Const.{c0·0, c4·0}
@@ -61,10 +62,6 @@ pub record Settled (low high x : Float) : Type 0 where
   pub below : lt high x ≡ false
   pub plain : negZero x ≡ false
 
-and-true : (a b : Bool) → (a && b) ≡ true → a ≡ true
-and-true true b e = refl
-and-true false b e = e
-
 -- what equals zero and is not negative is +0
 is-zero : (x : Float) → T (fits binary32 x) → negZero x ≡ false → eq x c0·0 ≡ true → x ≡ c0·0
 unfolding fits eq ofBits
@@ -74,7 +71,7 @@ is-zero (fin s zero (pos zero)) h z e = ap (λ (b : Bool). fin b 0 (pos 0)) z
 is-zero (fin s zero (pos (suc k))) h z e = absurd (omega (arith, eqb→eq (2 ^ suc k * 1) 1 h, pow-pos k))
 is-zero (fin s zero (negsuc k)) h z e = absurd (omega (arith, eqb→eq (1 * 2 ^ suc k) 1 h, pow-pos k))
 is-zero (fin s (suc m) d) h z e =
-    absurd (omega (arith, eqb-true (suc m * up d * 1) (0 * 1 * down d) (and-true (eqb (suc m * up d * 1) (0 * 1 * down d)) _ e), up-pos d))
+    absurd (omega (arith, eqb-true (suc m * up d * 1) (0 * 1 * down d) (both (eqb (suc m * up d * 1) (0 * 1 * down d)) _ e .0), up-pos d))
 
 plus-kept : (x : Float) → T (fits binary32 x) → negZero x ≡ false → plusZeroOf x ≡ x
 unfolding plusZeroOf

@@ -8,18 +8,21 @@ use lib.ListN.{length, getD, length-append, List·getD-eq-default}
 use lib.Dec.{ltb, eqb}
 use borrow.Author.Tests.{eq-eqb}
 use lib.Ieee.{neg}
-use Rattle.cards.specs.Step.{took, _>>=_, _>>_}
+use Rattle.cards.specs.Step.{took}
 use Rattle.cards.specs.Bits.{bitAt, valueAt}
 use Rattle.num.specs.Const.{c0·0, c0·01, c0·5, c0·95, c1·0, c4·0}
-use Rattle.cards.specs.Passes.{ntscAt, bloomAt, autoGradientAt, persistenceAt, lutAt, curvatureAt, colorCorrectionAt, crtAt, vignetteAt, scanlinesAt, passAt, kindOf}
+use Rattle.cards.specs.Passes.{ntscAt, bloomAt, autoGradientAt, persistenceAt, lutAt, curvatureAt, colorCorrectionAt, crtAt, vignetteAt, scanlinesAt}
+use Rattle.cards.specs.Passes.{passAt, kindOf}
 use Rattle.cards.specs.Records.{kinds, among, lastOf, recordAt}
 use Rattle.cards.specs.Card.{stationOf, recordsAt, endsAt, stationAt}
 use Rattle.cards.specs.Written.{bits, passBits, recordBits, recordsBits, chainBits, chainCard}
 use Rattle.cards.specs.declared.station.Pass.{Pass}
-use Rattle.cards.specs.declared.station.Pass.the-variants.{Ntsc, Bloom, AutoGradient, Persistence, Lut, Curvature, ColorCorrection, Crt, Vignette, Scanlines}
+use Rattle.cards.specs.declared.station.Pass.the-variants.{Ntsc, Bloom, AutoGradient, Persistence, Lut, Curvature, ColorCorrection, Crt, Vignette}
+use Rattle.cards.specs.declared.station.Pass.the-variants.{Scanlines}
 use Rattle.cards.specs.declared.station.Record.{Record}
 use Rattle.cards.proofs.Packed.{IsBits, joined-bits, bits-bits, length-bits, bit-packed, length-pack, Holds, holds-front, holds-back}
-use Rattle.cards.proofs.Back.{Reads, reads-then, reads-last, reads-after, reads-ret, reads-as, reads-here, reads-guard, reads-field, Settled, Counted, reads-limited, reads-within, reads-raised, reads-count, reads-preset}
+use Rattle.cards.proofs.Back.{Reads, reads-then, reads-last, reads-after, reads-ret, reads-as, reads-here, reads-guard, reads-field, Settled, Counted}
+use Rattle.cards.proofs.Back.{reads-limited, reads-within, reads-raised, reads-count, reads-preset}
 use Rattle.cards.proofs.Opening.{header-took, opens}
 
 -- a normalised pass, whose values their types hold

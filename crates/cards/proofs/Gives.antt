@@ -1,5 +1,5 @@
 -- What opening gives is normalised. Assumes nothing.
-use Prim.Native.Nat.{ℕ, zero, suc, _+_, _*_, _≤_, _<_}
+use Prim.Native.Nat.{ℕ, zero, suc, _*_, _≤_, _<_}
 use native.Mathlib.Omega.{arith}
 use mathlib.Core.Path.{_≡_, refl, ap, sym, subst, _∙_}
 use mathlib.Core.Bool.{Bool, true, false, cond}
@@ -10,11 +10,12 @@ use borrow.Author.Tests.{ltb-false, eq-eqb, eqb-false, not-false}
 use lib.Ieee.{Float, nan, inf, fin, binary32, fits, ofBits, lt, eq, up, down, neg}
 use lib.Ieee.Bits.{ofBits-fits}
 use lib.Ieee.Scale.{finite}
-use Rattle.cards.specs.Step.{_>>=_, _>>_}
+use Rattle.cards.specs.Step.{}
 use Rattle.cards.specs.Settings.{finiteAt, limitedAt, withinAt, raisedAt, countAt, presetAt}
 use Rattle.num.specs.Steps.{clampOf, plusZeroOf, limitOf}
 use Rattle.num.specs.Const.{c0·0, c0·01, c0·5, c0·95, c1·0, c4·0}
-use Rattle.cards.specs.Passes.{ntscAt, bloomAt, autoGradientAt, persistenceAt, lutAt, curvatureAt, colorCorrectionAt, crtAt, vignetteAt, scanlinesAt, passAt, kindOf}
+use Rattle.cards.specs.Passes.{ntscAt, bloomAt, autoGradientAt, persistenceAt, lutAt, curvatureAt, colorCorrectionAt, crtAt, vignetteAt, scanlinesAt}
+use Rattle.cards.specs.Passes.{passAt, kindOf}
 use Rattle.cards.specs.Records.{kinds, among, lastOf, recordAt}
 use Rattle.cards.specs.Card.{stationOf, recordsAt, endAt, stationAt}
 use Rattle.cards.specs.Normal.{negZero}

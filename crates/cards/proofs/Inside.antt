@@ -7,10 +7,11 @@ use mathlib.Core.List.{List, [], _∷_, _++_}
 use lib.ListN.{length, getD}
 use lib.Dec.{leb}
 use borrow.Author.Tests.{leb-true}
-use Rattle.cards.specs.Step.{Step, took, refused, stop, Reader, andThen, _>>=_, _>>_, ret, here, refuse, refuseIf}
+use Rattle.cards.specs.Step.{Step, took, refused, stop, Reader, andThen, _>>=_, ret, here, refuse, refuseIf}
 use Rattle.cards.specs.Bits.{valueAt, fieldAt}
 use Rattle.cards.specs.Settings.{finiteAt, limitedAt, withinAt, raisedAt, countAt, presetAt}
-use Rattle.cards.specs.Passes.{ntscAt, bloomAt, autoGradientAt, persistenceAt, lutAt, curvatureAt, colorCorrectionAt, crtAt, vignetteAt, scanlinesAt, byKind, passAt}
+use Rattle.cards.specs.Passes.{ntscAt, bloomAt, autoGradientAt, persistenceAt, lutAt, curvatureAt, colorCorrectionAt, crtAt, vignetteAt, scanlinesAt}
+use Rattle.cards.specs.Passes.{byKind, passAt}
 use Rattle.cards.specs.Records.{kinds, recordAt}
 use Rattle.cards.specs.Card.{headerAt, recordsAt, endsAt, endAt, stationAt, placeOf, stoppedOf}
 use Rattle.cards.specs.Claims.{StoppedWithin}

@@ -2,24 +2,24 @@
 use Prim.Native.Nat.{ℕ, _+_, _/_, _≤_}
 use native.Mathlib.Omega.{arith}
 use mathlib.Core.Path.{_≡_, refl, sym, subst, _∙_}
-use mathlib.Core.Bool.{Bool, true, false, cond, not, _&&_, _||_}
+use mathlib.Core.Bool.{Bool, true, false, cond, _||_}
 use mathlib.Core.List.{List, [], _∷_, _++_}
 use lib.ListN.{length, take, length-append}
 use lib.Dec.{T, eqb}
 use borrow.Author.Tests.{eqb-true, eq-eqb}
-use lib.Ieee.Fits.{and-l, and-r}
 use Rattle.cards.specs.Passes.{kindOf}
 use Rattle.cards.specs.Records.{among}
-use Rattle.cards.specs.Normal.{normalPass, normalChain}
+use Rattle.cards.specs.Normal.{normalChain}
 use Rattle.cards.specs.Claims.{Longest}
 use Rattle.cards.specs.Written.{bits, recordBits, recordsBits, chainBits, chainCard, cardOf}
 use Rattle.cards.specs.declared.station.Pass.{Pass}
-use Rattle.cards.specs.declared.station.Pass.the-variants.{Ntsc, Bloom, AutoGradient, Persistence, Lut, Curvature, ColorCorrection, Crt, Vignette, Scanlines}
+use Rattle.cards.specs.declared.station.Pass.the-variants.{Ntsc, Bloom, AutoGradient, Persistence, Lut, Curvature, ColorCorrection, Crt, Vignette}
+use Rattle.cards.specs.declared.station.Pass.the-variants.{Scanlines}
 use Rattle.cards.specs.declared.station.Record.{Record}
 use Rattle.cards.specs.Laws.Good.{headed}
 use Rattle.cards.proofs.Packed.{length-bits, length-pack}
 use Rattle.cards.proofs.Records.{width, record-long}
-use Rattle.cards.proofs.Tests.{held-true}
+use Rattle.num.specs.Laws.Bools.{is-true}
 use Rattle.cards.proofs.Writing.{good-parts}
 
 -- the kinds
@@ -85,7 +85,7 @@ unfolding recordsBits normalChain
 records-long [] seen h = omega arith
 records-long (r ∷ rs) seen h =
     let k = kindOf (r .pass) in
-    let q = headed seen r rs (held-true (normalChain seen (r ∷ rs)) h) in
+    let q = headed seen r rs (is-true (normalChain seen (r ∷ rs)) h) in
     omega (
       arith,
       length-append (recordBits r) (recordsBits rs),

@@ -8,7 +8,7 @@ use mathlib.Core.List.{List, [], _∷_, _++_}
 use lib.ListN.{length, take, drop, set, replicate, length-set, take-append-drop}
 use lib.Seq.{take-suc-set, drop-set-lt, drop-drop, length-take-le}
 use Rattle.num.specs.Held.{nothing}
-use Rattle.cards.specs.Step.{Step, took, refused, andThen, _>>=_, _>>_, stop, refuseIf}
+use Rattle.cards.specs.Step.{Step, took, refused, andThen, stop, refuseIf}
 use Rattle.cards.specs.Bits.{fieldAt}
 use Rattle.cards.specs.Records.{kinds, recordAt}
 use Rattle.cards.specs.Card.{unused, stationOf, headerAt, recordsAt, endsAt, endAt, stationAt, readingOf}

@@ -1,7 +1,7 @@
 -- Laws of the settings: a binary32's bits are finite exactly where the exponent's field is not all ones. Assumes nothing.
 use Prim.Native.Nat.{ℕ, zero, suc, _+_, _*_, _%_, _/_, _^_}
 use mathlib.Core.Path.{_≡_, refl, ap, sym, _∙_}
-use mathlib.Core.Bool.{Bool, true, false, cond, not, _&&_}
+use mathlib.Core.Bool.{Bool, true, false, cond, not}
 use lib.Dec.{T, eqb, eqb→eq}
 use lib.Pow.{pow-pos}
 use lib.IntN.{pos, negsuc}
@@ -9,9 +9,8 @@ use native.Mathlib.Omega.{arith}
 use borrow.Author.Tests.{eqb-true, eqb-false}
 use lib.Ieee.Bits.{ofBits-toBits}
 use lib.Ieee.Compare.{nan-differs}
-use lib.Ieee.Fits.{and-l}
-use Rattle.cards.specs.Normal.{negZero, settled}
-use lib.Ieee.{Float, nan, inf, fin, binary32, odd, ofFields, ofBits, toBits, nanBits, fits, isNan, ne, lt}
+use Rattle.cards.specs.Normal.{negZero}
+use lib.Ieee.{Float, nan, inf, fin, binary32, odd, ofFields, ofBits, toBits, nanBits, fits, isNan, ne}
 use lib.Ieee.Scale.{finite}
 
 odd-finite : (d : ℕ) (s : Bool) (q k l : ℕ) → finite (odd d s q k l) ≡ true
@@ -74,19 +73,3 @@ neg-bits x h = go (negZero x) refl (eqb (toBits binary32 x) 0x8000_0000) refl
     go true ea false eb = absurd (eqb-false _ _ eb (ap (toBits binary32) (neg-zero-is x h ea) ∙ bits-neg))
     go false ea true eb =
         sym ea ∙ ap negZero (sym (ofBits-toBits binary32 x h) ∙ ap (ofBits binary32) (eqb-true _ _ eb) ∙ is-neg)
-
-pub and-2 : (a b c : Bool) → a ≡ true → b ≡ true → (a && b && c) ≡ c
-and-2 a b c ea eb = simp (ea, eb)
-
-pub finite-number : (x : Float) → T (finite x) → T (not (isNan x))
-unfolding isNan
-finite-number nan h = h
-finite-number (inf s) h = absurd h
-finite-number (fin s m d) h = tt
-
--- a settled value is finite
-pub settled-finite : (low high x : Float) → T (settled low high x) → T (finite x)
-unfolding settled
-settled-finite low high x h =
-    and-l (finite x) (not (lt x low))
-    (and-l (finite x && not (lt x low)) (not (lt high x)) (and-l (finite x && not (lt x low) && not (lt high x)) (not (negZero x)) h))

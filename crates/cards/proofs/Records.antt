@@ -7,7 +7,8 @@ use lib.ListN.{length, getD, length-append}
 use Rattle.cards.specs.Passes.{kindOf}
 use Rattle.cards.specs.Written.{bits, passBits, recordBits}
 use Rattle.cards.specs.declared.station.Pass.{Pass}
-use Rattle.cards.specs.declared.station.Pass.the-variants.{Ntsc, Bloom, AutoGradient, Persistence, Lut, Curvature, ColorCorrection, Crt, Vignette, Scanlines}
+use Rattle.cards.specs.declared.station.Pass.the-variants.{Ntsc, Bloom, AutoGradient, Persistence, Lut, Curvature, ColorCorrection, Crt, Vignette}
+use Rattle.cards.specs.declared.station.Pass.the-variants.{Scanlines}
 use Rattle.cards.specs.declared.station.Record.{Record}
 use Rattle.cards.proofs.Packed.{length-bits}
 

@@ -8,7 +8,8 @@ use lib.Ieee.{Float, nan}
 use Rattle.cards.specs.Alike.{floats, wholes, chainOf, order, switches, settings, Alike}
 use Rattle.cards.specs.Passes.{kindOf}
 use Rattle.cards.specs.declared.station.Pass.{Pass}
-use Rattle.cards.specs.declared.station.Pass.the-variants.{Ntsc, Bloom, AutoGradient, Persistence, Lut, Curvature, ColorCorrection, Crt, Vignette, Scanlines}
+use Rattle.cards.specs.declared.station.Pass.the-variants.{Ntsc, Bloom, AutoGradient, Persistence, Lut, Curvature, ColorCorrection, Crt, Vignette}
+use Rattle.cards.specs.declared.station.Pass.the-variants.{Scanlines}
 use Rattle.cards.specs.declared.station.Record.{Record}
 use Rattle.cards.specs.declared.station.Station.{Station}
 

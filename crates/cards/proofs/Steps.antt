@@ -2,7 +2,7 @@
 use Prim.Native.Nat.{ℕ, _+_, _-_, _≤_, _<_}
 use native.Mathlib.Omega.{arith}
 use mathlib.Core.Path.{_≡_, refl, ap, sym, subst, _∙_}
-use mathlib.Core.Bool.{Bool, true, false, cond, not, _||_}
+use mathlib.Core.Bool.{Bool, true, false, cond}
 pub use borrow.Author.Tests.{eq-eqb, ne-eqb, lt-ltb, le-ltb}
 use mathlib.Core.List.{List}
 use lib.Dec.{T, leb, ltb, leb→le}
@@ -10,7 +10,7 @@ pub use lib.Dec.{lit≤}
 use lib.Ieee.{Float}
 use Rattle.num.specs.Steps.{limitOf}
 pub use Rattle.num.specs.Laws.Bools.{not-held, not-failed, or-left, or-right, or-neither}
-use Rattle.cards.specs.Step.{Step, took, refused, Reader, andThen, _>>=_, _>>_, stop, ret, here, refuseIf, byteStep, realStep, passStep, recordStep, refusalOf}
+use Rattle.cards.specs.Step.{Step, took, refused, Reader, andThen, _>>=_, stop, ret, here, refuseIf, byteStep, realStep, passStep, recordStep, refusalOf}
 use Rattle.cards.specs.Bits.{fieldAt}
 use Rattle.cards.specs.Records.{lastOf}
 use Rattle.cards.specs.Settings.{finiteAt, limitedAt, withinAt, raisedAt, countAt, presetAt}
@@ -189,4 +189,43 @@ pub weaken : (p j m : ℕ) → p < j → T (leb j m) → p < m
 weaken p j m h t = omega (arith, leb→le j m t)
 
 -- `search steps` closes each return of a reader, and what the next field requires of its place
-pub ruleset steps = (refl, here-then, real-then, real-stops, byte-then, byte-stops, pass-then, pass-stops, real-kept, real-back, byte-kept, byte-back, cond-yes, cond-no, limit-is, guard-then, guard-stops, not-held, not-failed, or-left, or-right, or-neither, via, eq-eqb, ne-eqb, lt-ltb, le-ltb, limited-near, within-near, raised-near, count-near, preset-near, field-near, weaken, lit≤, tt, below-last, from-last)
+pub ruleset steps = (
+  refl,
+  here-then,
+  real-then,
+  real-stops,
+  byte-then,
+  byte-stops,
+  pass-then,
+  pass-stops,
+  real-kept,
+  real-back,
+  byte-kept,
+  byte-back,
+  cond-yes,
+  cond-no,
+  limit-is,
+  guard-then,
+  guard-stops,
+  not-held,
+  not-failed,
+  or-left,
+  or-right,
+  or-neither,
+  via,
+  eq-eqb,
+  ne-eqb,
+  lt-ltb,
+  le-ltb,
+  limited-near,
+  within-near,
+  raised-near,
+  count-near,
+  preset-near,
+  field-near,
+  weaken,
+  lit≤,
+  tt,
+  below-last,
+  from-last,
+)

@@ -1,5 +1,5 @@
 -- Any good station survives writing and opening: refusal 13's test is what the round trip needs. Assumes nothing.
-use Prim.Native.Nat.{ℕ, _+_, _-_}
+use Prim.Native.Nat.{ℕ, _-_}
 use native.Mathlib.Omega.{arith}
 use mathlib.Core.Path.{_≡_, ap, ap₂, sym, subst, _∙_}
 use mathlib.Core.Bool.{not, _&&_}
@@ -20,7 +20,8 @@ use Rattle.cards.specs.Typed.{Typed, TypedChain}
 use Rattle.cards.specs.Claims.{Survives}
 use Rattle.cards.specs.Written.{cardOf}
 use Rattle.cards.specs.declared.station.Pass.{Pass}
-use Rattle.cards.specs.declared.station.Pass.the-variants.{Ntsc, Bloom, AutoGradient, Persistence, Lut, Curvature, ColorCorrection, Crt, Vignette, Scanlines}
+use Rattle.cards.specs.declared.station.Pass.the-variants.{Ntsc, Bloom, AutoGradient, Persistence, Lut, Curvature, ColorCorrection, Crt, Vignette}
+use Rattle.cards.specs.declared.station.Pass.the-variants.{Scanlines}
 use Rattle.cards.specs.declared.station.Pending.{Pending}
 use Rattle.cards.specs.declared.station.Pending.the-variants.{Nothing}
 use Rattle.cards.specs.declared.station.Record.{Record}
@@ -30,7 +31,8 @@ use Rattle.cards.proofs.Back.{Settled, Counted}
 use Rattle.cards.proofs.Chain.{NormalPass, NormalChain}
 use Rattle.cards.proofs.Writing.{good-parts}
 use Rattle.num.specs.Held.{Held, nothing}
-use Rattle.cards.proofs.Tests.{held-true, held-not}
+use Rattle.num.specs.Laws.Bools.{is-true}
+use Rattle.cards.proofs.Tests.{held-not}
 use Rattle.cards.proofs.Theorems.{chain-opens}
 
 settled-of : (low high x : Float) → T (fits binary32 x) → T (settled low high x) → Settled low high x
@@ -40,7 +42,7 @@ settled-of low high x t h =
     let ab = and-l (finite x && not (lt x low)) (not (lt high x)) abc in
     record {
       held = t;
-      number = held-true (finite x) (and-l (finite x) (not (lt x low)) ab);
+      number = is-true (finite x) (and-l (finite x) (not (lt x low)) ab);
       above = held-not (lt x low) (and-r (finite x) (not (lt x low)) ab);
       below = held-not (lt high x) (and-r (finite x && not (lt x low)) (not (lt high x)) abc);
       plain = held-not (negZero x) (and-r (finite x && not (lt x low) && not (lt high x)) (not (negZero x)) h);
@@ -57,7 +59,7 @@ normal-of (AutoGradient a b c) t h =
     let ab = and-l (settled c0·0 c1·0 a && settled c0·0 c1·0 b) _ h in
     (settled-of c0·0 c1·0 a (t .0) (and-l (settled c0·0 c1·0 a) _ ab), settled-of c0·0 c1·0 b (t .1) (and-r (settled c0·0 c1·0 a) _ ab), settled-of c0·0 c1·0 c (t .2) (and-r (settled c0·0 c1·0 a && settled c0·0 c1·0 b) _ h))
 normal-of (Persistence a b) t h = (settled-of c0·0 c0·95 a t (and-l (settled c0·0 c0·95 a) _ h), counted-of 8 b (and-r (settled c0·0 c0·95 a) _ h))
-normal-of (Lut a b) t h = (ltb-true a 7 (held-true _ (and-l (ltb a 7) _ h)), settled-of c0·0 c1·0 b t (and-r (ltb a 7) _ h))
+normal-of (Lut a b) t h = (ltb-true a 7 (is-true _ (and-l (ltb a 7) _ h)), settled-of c0·0 c1·0 b t (and-r (ltb a 7) _ h))
 normal-of (Curvature a) t h = settled-of c0·0 c0·5 a t h
 normal-of (ColorCorrection a b c d) t h =
     let abc = and-l (settled (neg c1·0) c1·0 a && settled c0·0 c4·0 b && settled c0·0 c4·0 c) _ h in
@@ -75,7 +77,7 @@ chain-of : (rs done : List Record) → TypedChain rs → T (normalChain (kinds d
 unfolding normalChain
 chain-of [] done t h = tt
 chain-of (r ∷ rs) done t h =
-    let q = headed (kinds done) r rs (held-true (normalChain (kinds done) (r ∷ rs)) h) in (
+    let q = headed (kinds done) r rs (is-true (normalChain (kinds done) (r ∷ rs)) h) in (
       normal-of (r .pass) (t .0) (subst T (sym (q .normal)) tt),
       q .new,
       q .rises,

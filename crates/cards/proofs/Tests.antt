@@ -2,6 +2,7 @@
 use Prim.Native.Nat.{ℕ}
 use mathlib.Core.Path.{_≡_, refl, sym, _∙_}
 use mathlib.Core.Bool.{Bool, true, false, not, _&&_, _||_}
+pub use Rattle.num.specs.Laws.Bools.{and-last, or-held, or-last}
 pub use borrow.Author.Tests.{eq-eqb, ne-eqb, le-leb, lt-leb, lt-ltb, le-ltb, not-true, not-false}
 use mathlib.Core.List.{List}
 use lib.Dec.{T}
@@ -28,11 +29,7 @@ pub asked-held : (held : Held) (rs : List Record) (b c : Bool) → b ≡ (sameHe
     → (sameHeld held nothing || persists rs) ≡ c
 asked-held held rs b c e h = sym e ∙ h
 
--- a test that holds, and one whose opposite holds
-pub held-true : (b : Bool) → T b → b ≡ true
-held-true true h = refl
-held-true false h = absurd h
-
+-- a test whose opposite holds
 pub held-not : (b : Bool) → T (not b) → b ≡ false
 held-not true h = absurd h
 held-not false h = refl
@@ -46,10 +43,6 @@ and-no a b e = rw e refl
 pub and-not : (a b : Bool) → a ≡ true → b ≡ false → (a && b) ≡ false
 and-not a b e h = rw (e, h) refl
 
--- the last test is the answer
-pub last : (r a b : Bool) → a ≡ true → r ≡ b → r ≡ (a && b)
-last r a b e h = rw e h
-
 -- a test that failed is the answer
 pub failed : (a : Bool) → a ≡ false → false ≡ a
 failed a e = sym e
@@ -61,12 +54,6 @@ failed-first r a b e h = h ∙ sym (and-no a b (sym e ∙ h))
 pub pass-is : (p q : Pass) (b : Bool) → p ≡ q → b ≡ normalPass q → b ≡ normalPass p
 pass-is p q b e h = rw e h
 
-pub or-held : (a b : Bool) → a ≡ true → true ≡ (a || b)
-or-held a b e = rw e refl
+pub ruleset tests = (asked, and-both, and-no, and-not, and-last, failed, failed-first, pass-is, lt-ltb, le-ltb, not-true, not-false)
 
-pub or-last : (r a b : Bool) → a ≡ false → r ≡ b → r ≡ (a || b)
-or-last r a b e h = rw e h
-
-pub ruleset tests = (asked, and-both, and-no, and-not, last, failed, failed-first, pass-is, lt-ltb, le-ltb, not-true, not-false)
-
-pub ruleset goods = (asked-chain, asked-fine, asked-same, asked-held, and-both, and-no, and-not, last, failed, or-held, or-last, le-leb, lt-leb, eq-eqb, ne-eqb, not-true, not-false)
+pub ruleset goods = (asked-chain, asked-fine, asked-same, asked-held, and-both, and-no, and-not, and-last, failed, or-held, or-last, le-leb, lt-leb, eq-eqb, ne-eqb, not-true, not-false)

@@ -3,8 +3,9 @@ use Prim.Native.Nat.{ℕ, zero, suc, _+_, _≤_}
 use native.Mathlib.Omega.{arith}
 use mathlib.Core.Path.{_≡_, refl}
 use mathlib.Core.List.{List}
-use Rattle.cards.specs.Step.{Step, took, refused, Reader, andThen, _>>=_, _>>_, here, refuse}
-use Rattle.cards.specs.Passes.{ntscAt, bloomAt, autoGradientAt, persistenceAt, lutAt, curvatureAt, colorCorrectionAt, crtAt, vignetteAt, scanlinesAt, passAt}
+use Rattle.cards.specs.Step.{Step, took, refused, Reader, andThen, _>>=_, here, refuse}
+use Rattle.cards.specs.Passes.{ntscAt, bloomAt, autoGradientAt, persistenceAt, lutAt, curvatureAt, colorCorrectionAt, crtAt, vignetteAt, scanlinesAt}
+use Rattle.cards.specs.Passes.{passAt}
 use Rattle.cards.specs.Records.{recordAt}
 use Rattle.cards.specs.declared.station.Pass.{Pass}
 use Rattle.cards.proofs.Steps.{Wide, field-wide, ret-wide, refuseIf-wide, then-wide, limited-wide, within-wide, raised-wide, count-wide, preset-wide}

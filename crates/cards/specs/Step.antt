@@ -1,4 +1,4 @@
--- Reading a card: a reader is given the card's bytes and a bit place, and takes a value, with the next place, or refuses by a number of document 01 and
+-- Reading a card: a reader is given the card's bytes and a bit place, and takes a value, with the next place, or refuses by a number of the papers and
 -- the place of what is refused. Assumes nothing.
 use Prim.Native.Nat.{ℕ}
 use mathlib.Core.List.{List}

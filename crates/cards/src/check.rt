@@ -3,14 +3,14 @@ ghost use mathlib.Core.Path.{_≡_};
 ghost use mathlib.Core.Bool.{_||_};
 ghost use Prim.Native.Nat.{_<_, _≤_};
 ghost use Rattle.num.specs.Held.{nothing, sameHeld};
-ghost use Rattle.cards.specs.Normal.{settled, counted, normalPass, normalChain, persists, askable, goodStation};
+ghost use Rattle.cards.specs.Normal.{settled, counted, normalPass, normalChain, persists as persistsIn, askable, goodStation};
 ghost use mathlib.Core.List.{[]};
 ghost use lib.ListN.{take};
 use super::station::Pass;
 use super::station::Pending;
 use super::station::Record;
 use super::station::Station;
-use super::station::holds;
+use super::station::is_among;
 use super::station::kind_of;
 use super::station::last_kind;
 use num::size::Size;
@@ -109,7 +109,7 @@ pub(crate) fn is_chain(records: [Record; 10], n: usize) -> bool
             return false;
         }
         let kind = kind_of(pass);
-        if holds(records, i, kind) {
+        if is_among(records, i, kind) {
             return false;
         }
         if kind < last_kind(records, i) {
@@ -121,9 +121,9 @@ pub(crate) fn is_chain(records: [Record; 10], n: usize) -> bool
 }
 
 // Whether persistence is among the first n records, and on.
-pub(crate) fn remembers(records: [Record; 10], n: usize) -> bool
+pub(crate) fn persists(records: [Record; 10], n: usize) -> bool
     requires { ⌜ n ≤ 10 ⌝ }
-    ensures { λ r. ⌜ r ≡ persists (take n records) ⌝ }
+    ensures { λ r. ⌜ r ≡ persistsIn (take n records) ⌝ }
 {
     let mut i: usize = 0;
     while i < n {
@@ -143,7 +143,7 @@ pub(crate) fn remembers(records: [Record; 10], n: usize) -> bool
 // Whether the first n records may hold that: nothing, or frames where persistence is on.
 pub(crate) fn may_hold(records: [Record; 10], n: usize, held: Size) -> bool
     requires { ⌜ n ≤ 10 ⌝ }
-    ensures { λ r. ⌜ r ≡ (sameHeld held nothing || persists (take n records)) ⌝ }
+    ensures { λ r. ⌜ r ≡ (sameHeld held nothing || persistsIn (take n records)) ⌝ }
 {
     let nothing = Size {
         width: 0,
@@ -152,7 +152,7 @@ pub(crate) fn may_hold(records: [Record; 10], n: usize, held: Size) -> bool
     if same(held, nothing) {
         return true;
     }
-    remembers(records, n)
+    persists(records, n)
 }
 
 // Whether that may be asked of the first n records: nothing, or a switch of one of them.
@@ -161,7 +161,7 @@ pub(crate) fn may_ask(records: [Record; 10], n: usize, pending: Pending) -> bool
     ensures { λ r. ⌜ r ≡ askable pending (take n records) ⌝ }
 {
     if let Pending::Switch { kind, on: _ } = pending {
-        return holds(records, n, kind);
+        return is_among(records, n, kind);
     }
     true
 }

@@ -5,7 +5,7 @@ ghost use Rattle.cards.specs.Step.{fieldStep, byteStep, realStep, refusa
 ghost use Rattle.cards.specs.Bits.{bitAt, fieldAt};
 ghost use Rattle.cards.specs.Settings.{finiteAt, limitedAt, withinAt, raisedAt, countAt, presetAt};
 
-// Why a card is refused, by the number of document 01, and where: `at` is the first bit of the field that is refused, and for 7 the
+// Why a card is refused, by the number of the papers, and where: `at` is the first bit of the field that is refused, and for 7 the
 // bit after the last field.
 pub struct Refusal {
     pub number: u8,

@@ -26,7 +26,7 @@ use super::station::Pass;
 use super::station::Pending;
 use super::station::Record;
 use super::station::Station;
-use super::station::holds;
+use super::station::is_among;
 use super::station::last_kind;
 use num::size::Size;
 
@@ -265,7 +265,7 @@ pub(crate) fn read_record(card: &[u8], at: usize, records: [Record; 10], n: usiz
     if 10 < kind {
         return RecordRead::Refused(Refusal { number: 4, at });
     }
-    if holds(records, n, kind) {
+    if is_among(records, n, kind) {
         return RecordRead::Refused(Refusal { number: 5, at });
     }
     if kind < last_kind(records, n) {

@@ -1,4 +1,5 @@
-// The station: its passes with their settings, and the records in chain order.
+// What a station is: the records in chain order, each a pass with its settings and its switch; the size that its history holds; the pending switch. And what is
+// asked of kinds.
 ghost use mathlib.Core.Path.{_≡_};
 ghost use Prim.Native.Nat.{_<_, _≤_, min};
 ghost use Rattle.cards.specs.Alike.{chainOf};
@@ -130,7 +131,7 @@ pub(crate) fn last_kind(records: [Record; 10], n: usize) -> u8
 }
 
 // Whether a pass of that kind is among the first n records.
-pub(crate) fn holds(records: [Record; 10], n: usize, kind: u8) -> bool
+pub(crate) fn is_among(records: [Record; 10], n: usize, kind: u8) -> bool
     requires { ⌜ n ≤ 10 ⌝ }
     ensures { λ r. ⌜ r ≡ among kind (kinds (take n records)) ⌝ }
 {
@@ -158,5 +159,5 @@ pub fn has_kind(station: Station, kind: u8) -> bool
     ensures { λ r. ⌜ r ≡ among kind (kinds (chainOf station)) ⌝ }
 {
     let records = station.records;
-    holds(records, few(station.n), kind)
+    is_among(records, few(station.n), kind)
 }

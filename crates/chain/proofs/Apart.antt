@@ -4,7 +4,7 @@ use Prim.Native.Nat.{ℕ, suc, _+_, _*_, _≤_}
 use native.Mathlib.Nat.{zero-add}
 use native.Mathlib.Omega.{arith}
 use mathlib.Core.Path.{_≡_, refl, ap, sym, _∙_}
-use mathlib.Core.Bool.{Bool, true, false, not, _&&_, _||_}
+use mathlib.Core.Bool.{Bool, true, false, _&&_, _||_}
 use mathlib.Core.List.{List, [], _∷_, _++_}
 use borrow.Author.Tests.{leb-true}
 use lib.Dec.{leb, eqb}
@@ -17,7 +17,7 @@ use Rattle.passes.specs.Painted.{Painted, onto}
 use Rattle.passes.specs.Fold.{fold}
 use Rattle.passes.specs.Laws.Lengths.{persistence-length, history-length, persistence-held}
 use Rattle.passes.specs.Plain.Persistence.{persistence}
-use Rattle.chain.specs.Chain.{wash, overBy, turnBy, chain, depthOf, depth}
+use Rattle.chain.specs.Chain.{wash, paint, overBy, turnBy, chain, depthOf, depth}
 use Rattle.cards.specs.Normal.{settled, normalPass, normalChain, persists}
 use Rattle.cards.specs.Passes.{kindOf}
 use Rattle.cards.specs.Records.{kinds, among}
@@ -72,7 +72,7 @@ washed r m = go (r .on) refl
     go : (b : Bool) → r .on ≡ b → Washes (r ∷ [])
     go true e =
         record {
-          paint = λ w h curve. onto (m .paint w h curve);
+          paint = λ w h curve. onto (paint w h curve (r .pass));
           keeps = λ w h curve frame. m .paints w h curve (frame .words) .long;
           whole = λ w h curve x. rw e (m .whole w h curve x);
         }

@@ -1,22 +1,16 @@
 -- Switches that are asked for: what other calls leave of them, what asking leaves of all else, and that committing one is making it. Assumes nothing.
-use Prim.Native.Nat.{ℕ, zero, suc}
-use mathlib.Core.Path.{_≡_, refl, ap, sym, _∙_}
+use Prim.Native.Nat.{ℕ}
+use mathlib.Core.Path.{_≡_, refl, ap, sym}
 use mathlib.Core.Bool.{Bool, true, false}
-use mathlib.Core.List.{List, []}
-use lib.Ieee.{Float}
 use lib.ListN.{take}
-use Rattle.num.specs.Refusals.{unless}
 use Rattle.num.specs.Laws.Bools.{false-true}
-use Rattle.num.specs.Laws.Refusals.{accepts}
-use Rattle.cards.specs.Answers.{acceptance, Reply, reply, refusing}
-use Rattle.chain.specs.Calls.{pend, lacks, askStops, switched, switchReply, commitReply, shownBy, frameReplyBy}
+use Rattle.cards.specs.Answers.{Reply, reply}
+use Rattle.chain.specs.Calls.{pend, switchReply, commitReply, shownBy, frameReplyBy}
 use Rattle.chain.specs.Claims.{asked, isAsking, Asking}
-use Rattle.chain.specs.Machine.{Call, frame, reset, switch, ask, commit, step, State, still, call, after}
+use Rattle.chain.specs.Machine.{Call, frame, reset, switch, ask, commit, step, State, call, after}
 use Rattle.cards.specs.Normal.{goodStation}
-use Rattle.cards.specs.declared.station.Pending.{Pending}
 use Rattle.cards.specs.declared.station.Pending.the-variants.{Nothing, Switch}
-use Rattle.cards.specs.declared.station.Station.{Station}
-use Rattle.chain.proofs.Replies.{asked-there, commits}
+use Rattle.chain.proofs.Replies.{commits}
 use Rattle.chain.proofs.Sound.{by-lack, by-stop}
 
 -- ## Every other call

@@ -7,7 +7,7 @@ use mathlib.Core.List.{List, [], _∷_, _++_, map}
 use borrow.Author.Tests.{eqb-true, ltb-true, lt-ltb}
 use lib.Dec.{ltb, eqb}
 use Rattle.num.specs.Const.{c0·0, c1·0}
-use Rattle.chain.specs.Calls.{onFirst, turned, next, steppedPass, stepped}
+use Rattle.chain.specs.Calls.{onFirst, withSwitch, next, steppedPass, stepped}
 use Rattle.chain.specs.Chain.{depthOf, depth}
 use Rattle.cards.specs.Normal.{settled, normalPass, normalChain, persists}
 use Rattle.cards.specs.Passes.{kindOf}
@@ -49,8 +49,8 @@ pub record Gentle (f : Record → Record) : Type 0 where
   pub shape : (r : Record) → blank (f r .pass) ≡ blank (r .pass)
   pub normal : (r : Record) → normalPass (r .pass) ≡ true → normalPass (f r .pass) ≡ true
 
-pub turned-gentle : (on : Bool) → Gentle (turned on)
-turned-gentle on = record { shape = λ r. refl; normal = λ r e. e }
+pub with-switch-gentle : (on : Bool) → Gentle (withSwitch on)
+with-switch-gentle on = record { shape = λ r. refl; normal = λ r e. e }
 
 next-small : (preset : ℕ) → ltb preset 7 ≡ true → ltb (next preset) 7 ≡ true
 next-small preset e = go (ltb preset 6) refl

@@ -1,22 +1,19 @@
 -- Two curves with the same first 256 words, where there are as many: a frame makes the same of them. Assumes nothing.
 use Prim.Native.Nat.{ℕ, zero, suc, _+_, _*_}
-use mathlib.Core.Path.{_≡_, refl, ap, ap₂, sym, _∙_}
-use mathlib.Core.Bool.{Bool, true, false, not, _&&_, _||_, cond}
+use mathlib.Core.Path.{_≡_, refl, ap, _∙_}
+use mathlib.Core.Bool.{true, cond}
 use mathlib.Core.List.{List, [], _∷_, _++_}
-use lib.Dec.{ltb}
 use lib.Ieee.{Float}
 use lib.ListN.{length, take, drop}
 use Rattle.num.specs.Laws.Bools.{or-left, or-second}
-use Rattle.num.specs.Refusals.{badSide, unless}
+use Rattle.num.specs.Refusals.{unless}
 use Rattle.passes.specs.Arith.{plain}
-use Rattle.passes.specs.ColorCorrection.{goodCurve}
 use Rattle.passes.specs.Flow.{Flow, flow}
 use Rattle.passes.specs.Fold.{fold}
 use Rattle.passes.specs.Laws.Curves.{curve-long, same-good, color-correction-same}
 use Rattle.passes.specs.Painted.{Painted, painted}
 use Rattle.cards.specs.Alike.{chainOf}
 use Rattle.cards.specs.Answers.{acceptance}
-use Rattle.cards.specs.Normal.{goodStation}
 use Rattle.cards.specs.declared.station.Pass.{Pass}
 use Rattle.cards.specs.declared.station.Pass.the-variants.{Ntsc, Bloom, AutoGradient, Persistence, Lut, Curvature}
 use Rattle.cards.specs.declared.station.Pass.the-variants.{ColorCorrection, Crt, Vignette, Scanlines}

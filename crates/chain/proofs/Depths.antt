@@ -8,6 +8,8 @@ use mathlib.Core.Bool.{true}
 use mathlib.Core.List.{List, [], _∷_, _++_}
 use lib.ListN.{length, take, getD}
 use lib.Seq.{getD-take, length-take-le}
+use Rattle.num.specs.Held.{area}
+use Rattle.num.specs.declared.size.Size.{Size}
 use Rattle.cards.specs.Alike.{chainOf}
 use Rattle.chain.specs.Chain.{depth, depthOf, reads, readsCurve}
 use Rattle.chain.specs.Lent.{Readies}
@@ -45,11 +47,11 @@ reads-at (r ∷ rs) zero d l e = or-left (reads (r .pass)) (readsCurve rs) e
 reads-at (r ∷ rs) (suc i) d l e = or-second (reads (r .pass)) (readsCurve rs) (reads-at rs i d (le-of-suc-le-suc l) e)
 
 -- a good station's records are ready where the history is long enough, and the curve where it is read
-pub readies : (s : Station) (w h room lent : ℕ) → goodStation s ≡ true → length (s .records) ≡ 10 → depth (chainOf s) * (h * w) ≤ room
-    → (readsCurve (chainOf s) ≡ true → 256 ≤ lent) → Readies w h (s .n) (s .records) room lent
-readies s w h room lent e long fits read =
+pub readies : (s : Station) (size : Size) (room lent : ℕ) → goodStation s ≡ true → length (s .records) ≡ 10 → depth (chainOf s) * area size ≤ room
+    → (readsCurve (chainOf s) ≡ true → 256 ≤ lent) → Readies size s room lent
+readies s size room lent e long fits read =
     let g = good s e in
-    let size : length (chainOf s) ≡ s .n = length-take-le (s .n) (s .records) (omega (arith, g .few)) in
+    let many : length (chainOf s) ≡ s .n = length-take-le (s .n) (s .records) (omega (arith, g .few)) in
     record {
       few = g .few;
       each = λ i d l.
@@ -57,7 +59,8 @@ readies s w h room lent e long fits read =
           let inside : i < length (chainOf s) = omega arith in
           record {
             normal = subst (λ (r : Record). normalPass (r .pass) ≡ true) same (normal-at [] (chainOf s) (g .normal) i d inside);
-            past-room = subst (λ (r : Record). depthOf (r .pass) * (h * w) ≤ room) same (le-trans (mul-le-mul-right (h * w) (deepest (chainOf s) i d inside)) fits);
+            past-room = subst (λ (r : Record). depthOf (r .pass) * area size ≤ room) same
+                (le-trans (mul-le-mul-right (area size) (deepest (chainOf s) i d inside)) fits);
             curve-room = subst (λ (r : Record). reads (r .pass) ≡ true → 256 ≤ lent) same (λ c. read (reads-at (chainOf s) i d inside c));
           };
     }

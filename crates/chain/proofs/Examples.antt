@@ -99,8 +99,8 @@ shows =
     ∷ []
 
 -- persistence 0.3 of depth 1, which clips a white frame over a white one, since its weights add up to more than 1
-abbrev tube : Station
-tube = stationOf (record { on = true; pass = Persistence c0·30 1 } ∷ [])
+abbrev mixing : Station
+mixing = stationOf (record { on = true; pass = Persistence c0·30 1 } ∷ [])
 
 abbrev white : Call
 white = frame 1 1 (0xffffff ∷ []) 1 6 1 []
@@ -109,8 +109,8 @@ white = frame 1 1 (0xffffff ∷ []) 1 6 1 []
 -- numbers: the first shared frame is mixed by one, and fills the history of the other.
 abbrev reports : List (List Report × List Report)
 reports =
-    (answers (saw (run (opened tube (7 ∷ [])) (white ∷ [])) (white ∷ white ∷ [])), acceptance (3 ∷ []) ∷ acceptance (3 ∷ []) ∷ [])
-    ∷ (answers (saw (opened tube (7 ∷ [])) (white ∷ white ∷ [])), acceptance (0 ∷ []) ∷ acceptance (3 ∷ []) ∷ [])
+    (answers (saw (run (opened mixing (7 ∷ [])) (white ∷ [])) (white ∷ white ∷ [])), acceptance (3 ∷ []) ∷ acceptance (3 ∷ []) ∷ [])
+    ∷ (answers (saw (opened mixing (7 ∷ [])) (white ∷ white ∷ [])), acceptance (0 ∷ []) ∷ acceptance (3 ∷ []) ∷ [])
     ∷ (answers (saw (opened station (90 ∷ 91 ∷ 92 ∷ [])) own), acceptance (0 ∷ []) ∷ refusal 10 ∷ map (λ p. acceptance (p ∷ [])) (0 ∷ 1 ∷ 2 ∷ 3 ∷ 4 ∷ 5 ∷ 6 ∷ []))
     ∷ []
 

@@ -12,7 +12,7 @@ use Rattle.num.specs.Held.{Held, nothing, sameHeld, fineHeld}
 use Rattle.num.specs.Laws.Held.{same-held}
 use Rattle.cards.specs.Alike.{chainOf}
 use Rattle.chain.specs.Calls.{hold, rechain, pend}
-use Rattle.chain.specs.Calls.{onFirst, turned, switched, committed, stepped, stepLut}
+use Rattle.chain.specs.Calls.{onFirst, withSwitch, switched, committed, stepped, stepLut}
 use Rattle.cards.specs.Card.{accepted, openOf}
 use Rattle.chain.specs.Chain.{depth}
 use Rattle.cards.specs.Normal.{normalChain, persists, askable, goodStation}
@@ -24,7 +24,8 @@ use Rattle.cards.specs.declared.station.Pending.the-variants.{Nothing, Switch}
 use Rattle.cards.specs.declared.station.Record.{Record}
 use Rattle.cards.specs.declared.station.Station.{Station}
 use Rattle.num.specs.Laws.Bools.{or-first-only, or-map}
-use Rattle.chain.proofs.Changed.{shapes, kinds-are, depths, depth-is, Gentle, turned-gentle, stepped-gentle, first-shapes, first-normal, first-persists}
+use Rattle.chain.proofs.Changed.{shapes, kinds-are, depths, depth-is, Gentle, with-switch-gentle, stepped-gentle, first-shapes, first-normal}
+use Rattle.chain.proofs.Changed.{first-persists}
 use Rattle.cards.specs.Laws.Good.{Good, good, is-good, nothing-fine, nothing-idle}
 use Rattle.chain.proofs.PassCases.{blank}
 use Rattle.cards.proofs.OpensGood.{opens-good}
@@ -133,9 +134,9 @@ module _ (s : Station) (fit : Fit s) where
       stays true t z = refl
       stays false t z = sym (rw t at z)
 
-      go : (b : Bool) → eqb kind 4 && not on ≡ b → After s (hold (cond b nothing (s .held)) (rechain (onFirst kind (turned on) (chainOf s)) s))
-      go true e = after-first kind (turned on) (turned-gentle on) nothing nothing-fine (nothing-idle (persists (onFirst kind (turned on) (chainOf s))))
-      go false e = after-kept kind (turned on) (turned-gentle on) (λ four r z. stays on (eq-eqb kind 4 four) e)
+      go : (b : Bool) → eqb kind 4 && not on ≡ b → After s (hold (cond b nothing (s .held)) (rechain (onFirst kind (withSwitch on) (chainOf s)) s))
+      go true e = after-first kind (withSwitch on) (with-switch-gentle on) nothing nothing-fine (nothing-idle (persists (onFirst kind (withSwitch on) (chainOf s))))
+      go false e = after-kept kind (withSwitch on) (with-switch-gentle on) (λ four r z. stays on (eq-eqb kind 4 four) e)
 
   pub after-step : After s (rechain (stepLut (chainOf s)) s)
   after-step = after-kept 5 stepped stepped-gentle (λ four r z. z)

@@ -2,26 +2,30 @@
 use Prim.Native.Nat.{ℕ, zero, suc, _*_, _≤_, _<_}
 use native.Mathlib.Omega.{arith}
 use mathlib.Core.Path.{_≡_, refl, sym, ap, _∙_}
-use mathlib.Core.Bool.{Bool, true, false, not, _&&_, _||_, cond}
+use mathlib.Core.Bool.{Bool, true, not, _&&_, _||_}
 use mathlib.Core.List.{List, [], _∷_, _++_}
 use borrow.Author.Tests.{ltb-false, not-false}
 use lib.Dec.{ltb}
 use lib.Ieee.{Float}
 use lib.ListN.{length, take, drop}
-use Rattle.num.specs.Held.{Held}
+use lib.Seq.{length-take-le, drop-at}
+use Rattle.num.specs.Held.{Held, sized}
 use Rattle.num.specs.Refusals.{badSide, unless}
 use Rattle.num.specs.Laws.Bools.{neither}
 use Rattle.num.specs.Laws.Refusals.{by, side-fine}
 use Rattle.passes.specs.ColorCorrection.{goodCurve}
 use Rattle.passes.specs.Flow.{Flow, flow}
+use Rattle.passes.specs.Laws.Curves.{curve-long}
 use Rattle.passes.specs.Painted.{painted}
 use Rattle.cards.specs.Alike.{chainOf}
 use Rattle.cards.specs.Answers.{refusal, acceptance}
 use Rattle.chain.specs.Calls.{floatRoom, hold, stops, framed, refusingFrame, shown, shownBy}
 use Rattle.chain.specs.Calls.{frameReply, frameReplyBy}
 use Rattle.chain.specs.Chain.{chain, depth, readsCurve}
+use Rattle.chain.specs.Lent.{Lent, Readies}
 use Rattle.cards.specs.Normal.{goodStation}
 use Rattle.cards.specs.declared.station.Station.{Station}
+use Rattle.chain.proofs.Depths.{readies}
 
 pub record Goes (s : Station) (w h words history floats ints : ℕ) (curve : List Float) : Type 0 where
   pub good : goodStation s ≡ true
@@ -56,19 +60,42 @@ goes s w h words history floats ints curve e =
       curve-good = λ r. not-false _ (sym (ap (λ (b : Bool). b && not (goodCurve curve)) r) ∙ k .0);
     }
 
--- a frame's reply by its refusal: everything as it was given
-pub refused-frame : (k w h : ℕ) (s : Station) (words past : List ℕ) (floats ints : ℕ) (curve : List Float) → (k ≡ 0 → ⊥)
-    → k ≡ stops s w h (length words) (length past) floats ints curve → framed (refusal k) s words past ≡ frameReply w h s words past floats ints curve
-unfolding frameReplyBy unless
-refused-frame zero w h s words past floats ints curve n e = absurd (n refl)
-refused-frame (suc k) w h s words past floats ints curve n e = ap (λ (m : ℕ). unless m (refusingFrame s words past) (shown w h s words past curve)) e
+-- past the refusals, what the chain is lent: the first words of each buffer
+pub lends : (s : Station) (w h : ℕ) (words past : List ℕ) (floats : List Float) (ints : List ℕ) (curve : List Float)
+    → Goes s w h (length words) (length past) (length floats) (length ints) curve → length (s .records) ≡ 10
+    → Lent (sized w h) (take (h * w) words) (take (floatRoom w h) floats) (take (h * w) ints) × Readies (sized w h) s (length past) (length curve)
+lends s w h words past floats ints curve g long = (
+  record {
+    shape = record { area = length-take-le _ _ (g .frame-room); wide = g .wide .1; high = g .high .1 };
+    some-wide = g .wide .0;
+    some-high = g .high .0;
+    floats-room = length-take-le _ _ (g .floats-room);
+    ints-room = length-take-le _ _ (g .ints-room);
+  },
+  readies s (sized w h) (length past) (length curve) (g .good) long (g .past-room) (λ r. curve-long curve (g .curve-good r)),
+)
 
--- or what the chain makes of it
-pub shown-frame : (w h : ℕ) (s : Station) (words past : List ℕ) (floats ints : ℕ) (curve : List Float) {frame′ past′ : List ℕ} {held′ : Held} {clipped′ : ℕ}
-    → stops s w h (length words) (length past) floats ints curve ≡ 0
-    → flow (painted frame′ clipped′) held′ past′ ≡ chain w h curve (chainOf s) (flow (painted (take (h * w) words) 0) (s .held) past)
-    → framed (acceptance (clipped′ ∷ [])) (hold held′ s) (frame′ ++ drop (h * w) words) past′ ≡ frameReply w h s words past floats ints curve
-unfolding frameReplyBy unless shownBy
-shown-frame w h s words past floats ints curve e x =
-    ap (λ (y : Flow). framed (acceptance (y .frame .clipped ∷ [])) (hold (y .held) s) (y .frame .words ++ drop (h * w) words) (y .past)) x
-    ∙ ap (λ (m : ℕ). unless m (refusingFrame s words past) (shown w h s words past curve)) (sym e)
+-- the words behind the first k stay
+pub stays : {X : Type 0} (k : ℕ) (new old : List X) → k ≤ length old → length new ≡ length (take k old) → drop k (new ++ drop k old) ≡ drop k old
+stays k new old l e = drop-at new (drop k old) k (e ∙ length-take-le k old l)
+
+module _ (k w h : ℕ) (s : Station) (words past : List ℕ) (floats ints : ℕ) (curve : List Float)
+    (e : k ≡ stops s w h (length words) (length past) floats ints curve) where
+  -- a frame's reply by its refusal: everything as it was given
+  pub refused-frame : (k ≡ 0 → ⊥) → framed (refusal k) s words past ≡ frameReply w h s words past floats ints curve
+  unfolding frameReplyBy unless
+  refused-frame = go k e
+    where
+      go : (j : ℕ) → j ≡ stops s w h (length words) (length past) floats ints curve → (j ≡ 0 → ⊥)
+          → framed (refusal j) s words past ≡ frameReply w h s words past floats ints curve
+      go zero q n = absurd (n refl)
+      go (suc j) q n = ap (λ (m : ℕ). unless m (refusingFrame s words past) (shown w h s words past curve)) q
+
+  -- or what the chain makes of it
+  pub shown-frame : k ≡ 0 → {frame′ past′ : List ℕ} {held′ : Held} {clipped′ : ℕ}
+      → flow (painted frame′ clipped′) held′ past′ ≡ chain w h curve (chainOf s) (flow (painted (take (h * w) words) 0) (s .held) past)
+      → framed (acceptance (clipped′ ∷ [])) (hold held′ s) (frame′ ++ drop (h * w) words) past′ ≡ frameReply w h s words past floats ints curve
+  unfolding frameReplyBy unless shownBy
+  shown-frame z x =
+      ap (λ (y : Flow). framed (acceptance (y .frame .clipped ∷ [])) (hold (y .held) s) (y .frame .words ++ drop (h * w) words) (y .past)) x
+      ∙ ap (λ (m : ℕ). unless m (refusingFrame s words past) (shown w h s words past curve)) (sym z ∙ e)

@@ -1,92 +1,113 @@
--- What a ready pass may rely on, and what it leaves when it is one pass of the chain. Assumes nothing.
-use Prim.Native.Nat.{ℕ, _+_, _*_, _≤_}
+-- The way of a frame through the chain, over plain variables: what a ready pass may rely on, what a pass and a record leave, and the loop over the
+-- records. The functions of `run` cite these laws, and `search` finds their premises among the places of a function. Assumes nothing.
+use Prim.Native.Nat.{ℕ, _+_, _*_, _≤_, _<_}
 use native.Mathlib.Nat.{zero-add, add-zero}
 use native.Mathlib.Omega.{arith}
-use mathlib.Core.Path.{_≡_, sym, ap, subst, _∙_}
+use mathlib.Core.Path.{_≡_, refl, sym, ap, subst, _∙_}
 use mathlib.Core.Bool.{Bool, true, false, cond, _&&_}
 use mathlib.Core.List.{List}
 use borrow.Author.Tests.{leb-true}
+use mir.Syntax.{w32}
+use mir.Val.{Fits}
 use lib.Dec.{leb}
-use lib.ListN.{length}
+use lib.ListN.{length, take, getD}
 use lib.Ieee.{Float}
 use Rattle.num.specs.Const.{c0·0, c0·95, c1·0}
-use Rattle.passes.specs as Text
 use Rattle.num.specs.Held.{Held, sized, sameHeld}
-use Rattle.passes.specs.ColorCorrection.{Enough}
+use Rattle.num.specs.Laws.Bools.{both}
+use Rattle.num.specs.declared.size.Size.{Size}
+use Rattle.passes.specs as Text
+use Rattle.passes.specs.ColorCorrection.{curved}
 use Rattle.passes.specs.Flow.{Flow, flow}
-use Rattle.passes.specs.Laws.Fold.{Folded}
+use Rattle.passes.specs.Laws.Fold.{Folded, none, more}
 use Rattle.passes.specs.Painted.{Painted, painted, onto}
 use Rattle.passes.specs.Plain.Persistence.{persistence, blend, shifted, refilled}
 use Rattle.passes.specs.Rows.{Frame}
-use Rattle.chain.specs.Chain.{wash, over, overBy, turn, turnBy, reads}
-use Rattle.chain.specs.Lent.{Lent, Ready}
+use Rattle.passes.specs.Laws.Rows.{frame-small}
+use Rattle.chain.specs.Chain.{wash, paint, over, overBy, turn, turnBy, chain, depthOf, reads}
+use Rattle.chain.specs.Lent.{Lent, Ready, Readies}
 use Rattle.cards.specs.Normal.{normalPass, settled, counted}
 use Rattle.cards.specs.declared.station.Pass.{Pass}
 use Rattle.cards.specs.declared.station.Pass.the-variants.{Ntsc, Bloom, Persistence, ColorCorrection}
 use Rattle.cards.specs.declared.station.Record.{Record}
-use Rattle.num.specs.Laws.Bools.{both}
-use Rattle.chain.proofs.PassCases.{by-memory, over-few}
-
--- ## What a ready pass may rely on
-
-module _ {w h room lent : ℕ} {pass : Pass} (r : Ready w h pass room lent) where
-  pub bleed-fine : {strength : Float} {bleed : ℕ} → pass ≡ Ntsc strength bleed → bleed ≤ 64
-  unfolding normalPass
-  bleed-fine {strength} {bleed} e =
-      let normal : settled c0·0 c1·0 strength && counted 64 bleed ≡ true = ap normalPass (sym e) ∙ r .normal in
-      leb-true bleed 64 (both (leb 1 bleed) (leb bleed 64) (both (settled c0·0 c1·0 strength) (counted 64 bleed) normal .1) .1)
-
-  pub radius-fine : {threshold : ℕ} {strength : Float} {radius : ℕ} → pass ≡ Bloom threshold strength radius → radius ≤ 64
-  unfolding normalPass
-  radius-fine {threshold} {strength} {radius} e =
-      let normal : settled c0·0 c1·0 strength && counted 64 radius ≡ true = ap normalPass (sym e) ∙ r .normal in
-      leb-true radius 64 (both (leb 1 radius) (leb radius 64) (both (settled c0·0 c1·0 strength) (counted 64 radius) normal .1) .1)
-
-  pub depth-fine : {amount : Float} {depth : ℕ} {frame : List ℕ} → Frame w h frame → pass ≡ Persistence amount depth → (depth ≤ 8) × (depth * length frame ≤ room)
-  unfolding normalPass
-  depth-fine {amount} {depth} {frame} s e =
-      let normal : settled c0·0 c0·95 amount && counted 8 depth ≡ true = ap normalPass (sym e) ∙ r .normal in
-      let known : Ready w h (Persistence amount depth) room lent = subst (λ (p : Pass). Ready w h p room lent) e r in (
-        leb-true depth 8 (both (leb 1 depth) (leb depth 8) (both (settled c0·0 c0·95 amount) (counted 8 depth) normal .1) .1),
-        subst (λ (n : ℕ). depth * n ≤ room) (sym (s .area)) (known .past-room),
-      )
-
-  pub curve-fine : {brightness contrast saturation gamma : Float} (curve : List Float) → lent ≡ length curve
-      → pass ≡ ColorCorrection brightness contrast saturation gamma → Enough gamma curve
-  curve-fine curve n e c = subst (λ (k : ℕ). 256 ≤ k) n (r .curve-room (ap reads e ∙ c))
-
--- ## What a pass leaves
+use Rattle.cards.specs.declared.station.Station.{Station}
+use Rattle.chain.proofs.PassCases.{by-memory, over-few, over-paints, Painter, no-depth, not-persistence}
 
 -- on a frame of which nothing was clipped yet
 fresh : (t : Painted) → t ≡ painted (t .words) (0 + t .clipped)
 fresh t = ap (painted (t .words)) (sym (zero-add (t .clipped)))
 
--- a pass without memory was `case`, and left `new`
-pub washed : (w h : ℕ) (curve : List Float) (frame : List ℕ) (paint : List ℕ → Painted) {held : Held} {pass case : Pass} {new : Painted} {past : List ℕ}
-    → pass ≡ case → new ≡ paint frame → over w h curve case (flow (painted frame 0) held past) ≡ wash paint (flow (painted frame 0) held past)
-    → flow new held past ≡ over w h curve pass (flow (painted frame 0) held past)
-unfolding wash
-washed w h curve frame paint {held} {pass} {case} {new} {past} e n o =
-    ap (λ (y : Painted). flow y held past) (n ∙ fresh (paint frame)) ∙ sym o ∙ ap (λ (p : Pass). over w h curve p (flow (painted frame 0) held past)) (sym e)
+-- ## What a ready pass may rely on
 
--- persistence, by the frame's size
-pub persisted : (w h : ℕ) (curve : List Float) (x : Flow) {pass : Pass} {amount : Float} {depth : ℕ} {size : Held} {y : Flow} → size ≡ sized w h
-    → pass ≡ Persistence amount depth → y ≡ persistence amount depth size x → y ≡ over w h curve pass x
+-- a counted setting, after one that is none
+count-fine : (other : Bool) (most n : ℕ) → other && counted most n ≡ true → n ≤ most
+count-fine other most n e = leb-true n most (both (leb 1 n) (leb n most) (both other (counted most n) e .1) .1)
+
+module _ (size : Size) (pass : Pass) (room lent : ℕ) where
+  pub bleed-fine : (strength : Float) (bleed : ℕ) → pass ≡ Ntsc strength bleed → Ready size pass room lent → bleed ≤ 64
+  unfolding normalPass
+  bleed-fine strength bleed e r = count-fine (settled c0·0 c1·0 strength) 64 bleed (ap normalPass (sym e) ∙ r .normal)
+
+  pub radius-fine : (threshold : ℕ) (strength : Float) (radius : ℕ) → pass ≡ Bloom threshold strength radius → Ready size pass room lent → radius ≤ 64
+  unfolding normalPass
+  radius-fine threshold strength radius e r = count-fine (settled c0·0 c1·0 strength) 64 radius (ap normalPass (sym e) ∙ r .normal)
+
+  pub curve-fine : (brightness contrast saturation gamma : Float) → pass ≡ ColorCorrection brightness contrast saturation gamma
+      → Ready size pass room lent → curved gamma ≡ true → 256 ≤ lent
+  curve-fine brightness contrast saturation gamma e r c = r .curve-room (ap reads e ∙ c)
+
+  pub depth-fine : (amount : Float) (depth : ℕ) → pass ≡ Persistence amount depth → Ready size pass room lent → depth ≤ 8
+  unfolding normalPass
+  depth-fine amount depth e r = count-fine (settled c0·0 c0·95 amount) 8 depth (ap normalPass (sym e) ∙ r .normal)
+
+  pub depth-room : (amount : Float) (depth : ℕ) (frame : List ℕ) → pass ≡ Persistence amount depth → Ready size pass room lent
+      → Frame (size .width) (size .height) frame → depth * length frame ≤ room
+  depth-room amount depth frame e r s =
+      subst (λ (k : ℕ). k * length frame ≤ room) (ap depthOf e) (subst (λ (n : ℕ). depthOf pass * n ≤ room) (sym (s .area)) (r .past-room))
+
+  -- any pass but persistence is ready without a history
+  pub ready-without : Painter pass → Ready size pass room lent → Ready size pass 0 lent
+  ready-without t r =
+      let no : depthOf pass ≡ 0 = no-depth pass (not-persistence pass t) in
+      record { normal = r .normal; past-room = rw no (omega arith); curve-room = r .curve-room }
+
+-- ## What a pass leaves
+
+module _ (w h : ℕ) (curve : List Float) (pass : Pass) where
+  -- the frame that a pass paints was `case`'s
+  pub painted-by : (case : Pass) (frame : List ℕ) (new : Painted) → pass ≡ case → new ≡ paint w h curve case frame → new ≡ paint w h curve pass frame
+  painted-by case frame new e n = n ∙ ap (λ (p : Pass). paint w h curve p frame) (sym e)
+
+  -- any pass but persistence, by the frame that it paints
+  pub washed : (frame words : List ℕ) (clipped : ℕ) (held : Held) (past : List ℕ) → Painter pass → painted words clipped ≡ paint w h curve pass frame
+      → flow (painted words clipped) held past ≡ over w h curve pass (flow (painted frame 0) held past)
+  unfolding wash
+  washed frame words clipped held past t e =
+      ap (λ (y : Painted). flow y held past) (e ∙ fresh (paint w h curve pass frame))
+      ∙ sym (over-paints w h curve (flow (painted frame 0) held past) pass (not-persistence pass t))
+
+-- the words alone, where a pass clips nothing
+pub none-clipped : (words other : List ℕ) → words ≡ other → painted words 0 ≡ painted other 0
+none-clipped words other e = ap (λ (l : List ℕ). painted l 0) e
+
+pub persisted : (size : Size) (curve : List Float) (pass : Pass) (amount : Float) (depth : ℕ) (x y : Flow) → pass ≡ Persistence amount depth
+    → y ≡ persistence amount depth size x → y ≡ over (size .width) (size .height) curve pass x
 unfolding overBy
-persisted w h curve x {pass} {amount} {depth} s e o = o ∙ ap (λ (n : Held). persistence amount depth n x) s ∙ ap (λ (p : Pass). over w h curve p x) (sym e)
+persisted size curve pass amount depth x y e o = o ∙ ap (λ (p : Pass). over (size .width) (size .height) curve p x) (sym e)
 
-pub turn-on : (w h : ℕ) (curve : List Float) (x : Flow) (r : Record) {y : Flow} → r .on ≡ true → y ≡ over w h curve (r .pass) x → y ≡ turn w h curve x r
-unfolding turnBy
-turn-on w h curve x r e o = o ∙ ap (λ (b : Bool). cond b (over w h curve (r .pass) x) x) (sym e)
+module _ (w h : ℕ) (curve : List Float) (x : Flow) (r : Record) where
+  pub turn-on : (y : Flow) → r .on ≡ true → y ≡ over w h curve (r .pass) x → y ≡ turn w h curve x r
+  unfolding turnBy
+  turn-on y e o = o ∙ ap (λ (b : Bool). cond b (over w h curve (r .pass) x) x) (sym e)
 
-pub turn-off : (w h : ℕ) (curve : List Float) (x : Flow) (r : Record) → r .on ≡ false → x ≡ turn w h curve x r
-unfolding turnBy
-turn-off w h curve x r e = ap (λ (b : Bool). cond b (over w h curve (r .pass) x) x) (sym e)
+  pub turn-off : r .on ≡ false → x ≡ turn w h curve x r
+  unfolding turnBy
+  turn-off e = ap (λ (b : Bool). cond b (over w h curve (r .pass) x) x) (sym e)
 
 -- ## What was clipped before
 
 -- n channels more
-abbrev pub adding : ℕ → Flow → Flow
+abbrev adding : ℕ → Flow → Flow
 adding n x = flow (painted (x .frame .words) (n + x .frame .clipped)) (x .held) (x .past)
 
 module _ (w h n : ℕ) (curve : List Float) (words : List ℕ) (held : Held) (past : List ℕ) where
@@ -116,12 +137,12 @@ module _ (w h n : ℕ) (curve : List Float) (words : List ℕ) (held : Held) (pa
   over-adds =
       by-memory (λ p. over w h curve p (before n) ≡ adding n (over w h curve p (before 0))) persistence-adds
       (λ p m.
-      let t : Painted = m .paint w h curve words in
+      let t : Painted = paint w h curve p words in
       m .whole w h curve (before n) ∙ ap (λ (y : Painted). flow (painted (y .words) (n + y .clipped)) held past) (fresh t)
       ∙ sym (ap (adding n) (m .whole w h curve (before 0))))
 
   -- a record over a frame of which n channels were clipped before: as over one of which none were, and these added
-  pub turn-adds : (r : Record) → turn w h curve (before n) r ≡ adding n (turn w h curve (before 0) r)
+  turn-adds : (r : Record) → turn w h curve (before n) r ≡ adding n (turn w h curve (before 0) r)
   unfolding turnBy
   turn-adds r = of (r .on)
     where
@@ -130,7 +151,7 @@ module _ (w h n : ℕ) (curve : List Float) (words : List ℕ) (held : Held) (pa
       of false = none-added
 
 -- a record clips no more than three channels of each word
-pub turn-few : (w h : ℕ) (curve : List Float) (x : Flow) (r : Record) → turn w h curve x r .frame .clipped ≤ x .frame .clipped + 3 * length (x .frame .words)
+turn-few : (w h : ℕ) (curve : List Float) (x : Flow) (r : Record) → turn w h curve x r .frame .clipped ≤ x .frame .clipped + 3 * length (x .frame .words)
 unfolding turnBy
 turn-few w h curve x r = of (r .on)
   where
@@ -142,17 +163,17 @@ turn-few w h curve x r = of (r .on)
 
 -- the first i of n records have turned the flow x into `frame`, `clipped`, `held` and `past`; `room` is the length of the history
 pub record Running
-    (w h n i room : ℕ) (curve : List Float) (rs : List Record) (x : Flow) (frame : List ℕ) (clipped : ℕ) (held : Held) (past : List ℕ) (floats : List Float) (ints : List ℕ)
-    : Type 0
+    (size : Size) (n i room : ℕ) (curve : List Float) (rs : List Record) (x : Flow)
+    (frame : List ℕ) (clipped : ℕ) (held : Held) (past : List ℕ) (floats : List Float) (ints : List ℕ) : Type 0
   where
     pub near : i ≤ n
-    pub so-far : Folded i (turn w h curve) x rs (flow (painted frame clipped) held past)
+    pub so-far : Folded i (turn (size .width) (size .height) curve) x rs (flow (painted frame clipped) held past)
     pub few : clipped ≤ 3145728 * i
-    pub lent : Lent w h frame floats ints
+    pub lent : Lent size frame floats ints
     pub kept : length past ≡ room
 
-pub relent : {w h : ℕ} {frame ints frame′ ints′ : List ℕ} {floats floats′ : List Float} → Lent w h frame floats ints
-    → length frame′ ≡ length frame → length floats′ ≡ length floats → length ints′ ≡ length ints → Lent w h frame′ floats′ ints′
+relent : {size : Size} {frame ints frame′ ints′ : List ℕ} {floats floats′ : List Float} → Lent size frame floats ints
+    → length frame′ ≡ length frame → length floats′ ≡ length floats → length ints′ ≡ length ints → Lent size frame′ floats′ ints′
 relent l f g k = record {
   shape = record { area = f ∙ l .shape .area; wide = l .shape .wide; high = l .shape .high };
   some-wide = l .some-wide;
@@ -160,3 +181,47 @@ relent l f g k = record {
   floats-room = g ∙ l .floats-room;
   ints-room = k ∙ l .ints-room;
 }
+
+module _ {size : Size} {n : ℕ} {curve : List Float} {rs : List Record} where
+  -- before the first record
+  pub running-none : {frame : List ℕ} {held : Held} {past : List ℕ} {floats : List Float} {ints : List ℕ} → Lent size frame floats ints
+      → Running size n 0 (length past) curve rs (flow (painted frame 0) held past) frame 0 held past floats ints
+  running-none l = record { near = omega arith; so-far = none _ _ _; few = omega arith; lent = l; kept = refl }
+
+  module _ {i room : ℕ} {x : Flow} {frame : List ℕ} {clipped : ℕ} {held : Held} {past : List ℕ} {floats : List Float} {ints : List ℕ}
+      (t : Running size n i room curve rs x frame clipped held past floats ints) where
+    -- the record at i has done its turn, and clipped `more′` channels; it began at a count of 0, so that `clipped` is added
+    module _ (d : Record) {frame′ : List ℕ} {more′ : ℕ} {held′ : Held} {past′ : List ℕ}
+        (e : flow (painted frame′ more′) held′ past′ ≡ turn (size .width) (size .height) curve (flow (painted frame 0) held past) (getD rs i d)) where
+      few-more : more′ ≤ 3145728
+      few-more =
+          let x = flow (painted frame 0) held past in
+          let same : more′ ≡ turn (size .width) (size .height) curve x (getD rs i d) .frame .clipped = ap (λ (y : Flow). y .frame .clipped) e in
+          omega (arith, turn-few (size .width) (size .height) curve x (getD rs i d), frame-small (t .lent .shape))
+
+      pub running-few : i < n → n ≤ 10 → Fits w32 (clipped + more′)
+      running-few l k = omega (arith, t .few, few-more)
+
+      pub running-more : i < n → n ≤ 10 → length rs ≡ 10 → {floats′ : List Float} {ints′ : List ℕ}
+          → length frame′ ≡ length frame → length past′ ≡ length past → length floats′ ≡ length floats → length ints′ ≡ length ints
+          → Running size n (i + 1) room curve rs x frame′ (clipped + more′) held′ past′ floats′ ints′
+      running-more l k long f p g h =
+          let turned = turn-adds (size .width) (size .height) clipped curve frame held past (getD rs i d) in
+          record {
+            near = omega arith;
+            so-far = more (t .so-far) d (omega arith) (ap (adding clipped) e ∙ sym turned);
+            few = omega (arith, t .few, few-more);
+            lent = relent (t .lent) f g h;
+            kept = p ∙ t .kept;
+          }
+
+    -- after the last one
+    pub running-all : n ≤ i → flow (painted frame clipped) held past ≡ chain (size .width) (size .height) curve (take n rs) x
+    running-all l =
+        let all : i ≡ n = omega (arith, t .near) in
+        t .so-far .done ∙ ap (λ (k : ℕ). chain (size .width) (size .height) curve (take k rs) x) all
+
+-- the record at i is ready
+pub running-ready : (size : Size) (s : Station) (i room lent : ℕ) (past : List ℕ) (d : Record)
+    → Readies size s room lent → i < s .n → length past ≡ room → Ready size (getD (s .records) i d .pass) (length past) lent
+running-ready size s i room lent past d r l e = subst (λ (k : ℕ). Ready size (getD (s .records) i d .pass) k lent) (sym e) (r .each i d l)

@@ -1,7 +1,7 @@
 -- Two stations meet in j places when they differ in what they hold alone and their histories agree in the newest j places. A shared call is accepted by both
 -- or by none; it leaves the j places, and one more where persistence takes it; a reset or a switching-off leaves no place to differ in. Where all places agree
 -- the answers do, and the pictures. Assumes nothing.
-use Prim.Native.Nat.{ℕ, zero, suc, _+_, _*_, _-_, _≤_, zero-le}
+use Prim.Native.Nat.{ℕ, zero, suc, _*_, _≤_, zero-le}
 use native.Mathlib.Nat.{le-of-suc-le-suc, mul-le-mul-right}
 use native.Mathlib.Omega.{arith}
 use mathlib.Core.Path.{_≡_, refl, ap, ap₂, sym, subst, _∙_}
@@ -20,7 +20,7 @@ use Rattle.chain.specs.Agree.{SameFirst, SameCall, frames, resets, switc
 use Rattle.cards.specs.Answers.{Report, acceptance, ok, reply, refusing}
 use Rattle.chain.specs.Agree.{on, takes, switchesOff, ends}
 use Rattle.cards.specs.Alike.{chainOf}
-use Rattle.chain.specs.Calls.{hold, rechain, pend, stops, lacks, waits, askStops, commitStops, onFirst, turned, committed}
+use Rattle.chain.specs.Calls.{hold, rechain, pend, stops, lacks, waits, askStops, commitStops, onFirst, withSwitch, committed}
 use Rattle.chain.specs.Calls.{presets, stepLut, Framed, refusingFrame, incoming, shown, shownBy, frameReplyBy}
 use Rattle.chain.specs.Chain.{chain, depth}
 use Rattle.chain.specs.Machine.{Call, frame, reset, switch, ask, commit, step, State, seen, Done, lend, still, call, after}
@@ -198,7 +198,7 @@ module _ (s : Station) (b : Held) (H G : List ℕ) (fit-s : Fit s) (fit-t : Fit 
       (still G (unless k (refusing (hold b s)) (reply (acceptance []) (committed q (hold b s)))))
   commit-step A n le k Nothing = reply-step A n le k [] false s
   commit-step A n le k (Switch kind position) =
-      reply-step A n le k [] (eqb kind 4 && not position) (pend Nothing (rechain (onFirst kind (turned position) (chainOf s)) s))
+      reply-step A n le k [] (eqb kind 4 && not position) (pend Nothing (rechain (onFirst kind (withSwitch position) (chainOf s)) s))
 
   abbrev Whole : Call → Type 0
   Whole c = ends this c ≡ false → depth (chainOf s) ≤ j
@@ -218,7 +218,7 @@ module _ (s : Station) (b : Held) (H G : List ℕ) (fit-s : Fit s) (fit-t : Fit 
       (frame-step w h l m i curve p q lH lG _ (λ z. z refl) same k refl n le at))
   call-step resets lH lG n le at = rw (← (lacks-same 4)) (reply-step (Whole reset) n at (lacks s 4) [] true s)
   call-step (switches-to {kind} {on = position}) lH lG n le at =
-      let turning = rechain (onFirst kind (turned position) (chainOf s)) s in
+      let turning = rechain (onFirst kind (withSwitch position) (chainOf s)) s in
       rw (← (lacks-same kind)) (reply-step (Whole (switch kind position)) n at (lacks s kind) [] (eqb kind 4 && not position) turning)
   call-step (asks {kind} {on = position}) lH lG n le at =
       rw (← (ask-same kind)) (reply-step (Whole (ask kind position)) n at (askStops s kind) [] false (pend (Switch kind position) s))

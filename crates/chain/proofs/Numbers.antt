@@ -33,13 +33,12 @@ use Rattle.cards.specs.Alike.{chainOf}
 use Rattle.cards.specs.Answers.{acceptance}
 use Rattle.chain.specs.Calls.{framed, hold, incoming, stops, refusingFrame, shown, shownBy}
 use Rattle.chain.specs.Calls.{frameReply, frameReplyBy}
-use Rattle.chain.specs.Chain.{wash, overBy, turn, turnBy, chain, depthOf, depth, over, reads, readsCurve}
+use Rattle.chain.specs.Chain.{wash, overBy, turn, turnBy, chain, depthOf, depth, reads, readsCurve}
 use Rattle.cards.specs.Normal.{negZero, settled, counted, normalPass, normalChain}
 use Rattle.chain.specs.Numbers.{Pass-inside, Numbers-inside, Casts-inside}
 use Rattle.chain.specs.Numbers.{Checked-inside}
 use Rattle.cards.specs.Passes.{kindOf}
 use Rattle.cards.specs.Typed.{Typed, TypedChain}
-use Rattle.cards.specs.declared.station.Pass.{Pass}
 use Rattle.cards.specs.declared.station.Pass.the-variants.{Ntsc, Bloom, AutoGradient, Persistence, Lut, Curvature}
 use Rattle.cards.specs.declared.station.Pass.the-variants.{ColorCorrection, Crt, Vignette, Scanlines}
 use Rattle.cards.specs.declared.station.Record.{Record}

@@ -16,19 +16,10 @@ use Rattle.passes.specs.Flow.{Flow}
 use Rattle.passes.specs.Laws.Lengths.{ntsc-paints, bloom-paints, auto-gradient-paints, lut-paints, color-correction-paints}
 use Rattle.passes.specs.Laws.Lengths.{curvature-length, crt-length, vignette-length, scanlines-length}
 use Rattle.passes.specs.Laws.Lengths.{persistence-length, persistence-few, history-length}
-use Rattle.passes.specs.Painted.{Painted, painted, unclipped}
+use Rattle.passes.specs.Painted.{painted}
 use Rattle.passes.specs.Laws.Painted.{Paints}
-use Rattle.passes.specs.Plain.Ntsc.{ntsc}
-use Rattle.passes.specs.Plain.Bloom.{bloom}
-use Rattle.passes.specs.Plain.AutoGradient.{autoGradient}
-use Rattle.passes.specs.Plain.Lut.{lut}
-use Rattle.passes.specs.Plain.Curvature.{curvature}
-use Rattle.passes.specs.Plain.ColorCorrection.{colorCorrection}
-use Rattle.passes.specs.Plain.Crt.{crt}
-use Rattle.passes.specs.Plain.Vignette.{vignette}
-use Rattle.passes.specs.Plain.Scanlines.{scanlines}
 use Rattle.chain.specs.Calls.{next, steppedPass, presetOf}
-use Rattle.chain.specs.Chain.{wash, over, overBy, depthOf, reads}
+use Rattle.chain.specs.Chain.{wash, paint, over, overBy, depthOf, reads}
 use Rattle.cards.specs.Passes.{kindOf}
 use Rattle.cards.specs.declared.station.Pass.{Pass}
 use Rattle.cards.specs.declared.station.Pass.the-variants.{Ntsc, Bloom, AutoGradient, Persistence, Lut, Curvature}
@@ -38,9 +29,8 @@ use Rattle.cards.proofs.station.Pass.{the-type}
 -- ## Persistence, or a pass that only paints the frame
 
 pub record Plain (p : Pass) : Type 0 where
-  pub paint : (w h : ℕ) → List Float → List ℕ → Painted
-  pub paints : (w h : ℕ) (curve : List Float) (frame : List ℕ) → Paints frame (paint w h curve frame)
-  pub whole : (w h : ℕ) (curve : List Float) (x : Flow) → over w h curve p x ≡ wash (paint w h curve) x
+  pub paints : (w h : ℕ) (curve : List Float) (frame : List ℕ) → Paints frame (paint w h curve p frame)
+  pub whole : (w h : ℕ) (curve : List Float) (x : Flow) → over w h curve p x ≡ wash (paint w h curve p) x
   pub kind : eqb (kindOf p) 4 ≡ false
   pub no-depth : depthOf p ≡ 0
 
@@ -49,32 +39,31 @@ unclipped-paints : (frame words : List ℕ) → length words ≡ length frame �
 unclipped-paints frame words e = record { long = e; few = zero-le }
 
 pub by-memory : (P : Pass → Type 0) → ((amount : Float) (k : ℕ) → P (Persistence amount k)) → ((p : Pass) → Plain p → P p) → (p : Pass) → P p
-unfolding overBy
+unfolding paint overBy
 by-memory P f g (Ntsc s b) =
-    g _ (record { paint = λ w h curve. ntsc w s b; paints = λ w h curve l. ntsc-paints w h s l b; whole = λ w h curve x. refl; kind = refl; no-depth = refl })
+    g _ (record { paints = λ w h curve l. ntsc-paints w h s l b; whole = λ w h curve x. refl; kind = refl; no-depth = refl })
 by-memory P f g (Bloom t s r) =
-    g _ (record { paint = λ w h curve. bloom w h t s r; paints = λ w h curve l. bloom-paints w h s l t r; whole = λ w h curve x. refl; kind = refl; no-depth = refl })
+    g _ (record { paints = λ w h curve l. bloom-paints w h s l t r; whole = λ w h curve x. refl; kind = refl; no-depth = refl })
 by-memory P f g (AutoGradient s u v) =
-    let law : (w h : ℕ) (curve : List Float) (l : List ℕ) → Paints l (autoGradient w h s u v l) = λ w h curve l. auto-gradient-paints w h s l u v in
-    g _ (record { paint = λ w h curve. autoGradient w h s u v; paints = law; whole = λ w h curve x. refl; kind = refl; no-depth = refl })
+    g _ (record { paints = λ w h curve l. auto-gradient-paints w h s l u v; whole = λ w h curve x. refl; kind = refl; no-depth = refl })
 by-memory P f g (Persistence a k) = f a k
 by-memory P f g (Lut p s) =
-    g _ (record { paint = λ w h curve. lut p s; paints = λ w h curve l. lut-paints w h s l p; whole = λ w h curve x. refl; kind = refl; no-depth = refl })
+    g _ (record { paints = λ w h curve l. lut-paints w h s l p; whole = λ w h curve x. refl; kind = refl; no-depth = refl })
 by-memory P f g (Curvature a) =
-    let law : (w h : ℕ) (curve : List Float) (l : List ℕ) → Paints l (unclipped (curvature w h a) l) = λ w h curve l. unclipped-paints l _ (curvature-length w h a l) in
-    g _ (record { paint = λ w h curve. unclipped (curvature w h a); paints = law; whole = λ w h curve x. refl; kind = refl; no-depth = refl })
+    g _ (record { paints = λ w h curve l. unclipped-paints l _ (curvature-length w h a l); whole = λ w h curve x. refl; kind = refl; no-depth = refl })
 by-memory P f g (ColorCorrection b c s y) =
-    let law : (w h : ℕ) (curve : List Float) (l : List ℕ) → Paints l (colorCorrection curve b c s y l) = λ w h curve l. color-correction-paints w h b l curve c s y in
-    g _ (record { paint = λ w h curve. colorCorrection curve b c s y; paints = law; whole = λ w h curve x. refl; kind = refl; no-depth = refl })
+    g _ (record { paints = λ w h curve l. color-correction-paints w h b l curve c s y; whole = λ w h curve x. refl; kind = refl; no-depth = refl })
 by-memory P f g (Crt s) =
-    let law : (w h : ℕ) (curve : List Float) (l : List ℕ) → Paints l (unclipped (crt w h s) l) = λ w h curve l. unclipped-paints l _ (crt-length w h s l) in
-    g _ (record { paint = λ w h curve. unclipped (crt w h s); paints = law; whole = λ w h curve x. refl; kind = refl; no-depth = refl })
+    g _ (record { paints = λ w h curve l. unclipped-paints l _ (crt-length w h s l); whole = λ w h curve x. refl; kind = refl; no-depth = refl })
 by-memory P f g (Vignette s) =
-    let law : (w h : ℕ) (curve : List Float) (l : List ℕ) → Paints l (unclipped (vignette w h s) l) = λ w h curve l. unclipped-paints l _ (vignette-length w h s l) in
-    g _ (record { paint = λ w h curve. unclipped (vignette w h s); paints = law; whole = λ w h curve x. refl; kind = refl; no-depth = refl })
+    g _ (record { paints = λ w h curve l. unclipped-paints l _ (vignette-length w h s l); whole = λ w h curve x. refl; kind = refl; no-depth = refl })
 by-memory P f g (Scanlines s) =
-    let law : (w h : ℕ) (curve : List Float) (l : List ℕ) → Paints l (unclipped (scanlines w s) l) = λ w h curve l. unclipped-paints l _ (scanlines-length w h s l) in
-    g _ (record { paint = λ w h curve. unclipped (scanlines w s); paints = law; whole = λ w h curve x. refl; kind = refl; no-depth = refl })
+    g _ (record { paints = λ w h curve l. unclipped-paints l _ (scanlines-length w h s l); whole = λ w h curve x. refl; kind = refl; no-depth = refl })
+
+-- any pass but persistence paints the frame
+pub over-paints : (w h : ℕ) (curve : List Float) (x : Flow) (p : Pass) → (kindOf p ≡ 4 → ⊥) → over w h curve p x ≡ wash (paint w h curve p) x
+over-paints w h curve x =
+    by-memory (λ p. (kindOf p ≡ 4 → ⊥) → over w h curve p x ≡ wash (paint w h curve p) x) (λ amount k n. absurd (n refl)) (λ p m n. m .whole w h curve x)
 
 -- ## What each pass keeps
 
@@ -89,7 +78,8 @@ module _ (w h : ℕ) (curve : List Float) (x : Flow) where
   pub over-few : (p : Pass) → over w h curve p x .frame .clipped ≤ x .frame .clipped + 3 * length (x .frame .words)
   unfolding overBy wash
   over-few =
-      by-memory (λ p. over w h curve p x .frame .clipped ≤ x .frame .clipped + 3 * length (x .frame .words)) (λ amount k. persistence-few amount k (sized w h) x)
+      by-memory (λ p. over w h curve p x .frame .clipped ≤ x .frame .clipped + 3 * length (x .frame .words))
+      (λ amount k. persistence-few amount k (sized w h) x)
       (λ p m. rw (m .whole w h curve x) (omega (arith, m .paints w h curve (x .frame .words) .few)))
 
   pub over-past : (p : Pass) → depthOf p * length (x .frame .words) ≤ length (x .past) → length (over w h curve p x .past) ≡ length (x .past)
@@ -187,7 +177,11 @@ not-among others tag out p t e =
     let here : tagOf the-type p ≡ tag = omega (arith, tag-kind p) in
     miss others tag out (subst (OneOf others) here t)
 
-pub not-persistence : Not (0 ∷ 1 ∷ 2 ∷ 4 ∷ 5 ∷ 6 ∷ 7 ∷ 8 ∷ 9 ∷ []) 4
+-- any pass but persistence
+abbrev pub Painter : Pass → Type 0
+Painter p = OneOf (0 ∷ 1 ∷ 2 ∷ 4 ∷ 5 ∷ 6 ∷ 7 ∷ 8 ∷ 9 ∷ []) (tagOf the-type p)
+
+pub not-persistence : (p : Pass) → Painter p → kindOf p ≡ 4 → ⊥
 not-persistence = not-among (0 ∷ 1 ∷ 2 ∷ 4 ∷ 5 ∷ 6 ∷ 7 ∷ 8 ∷ 9 ∷ []) 3 tt
 
 pub not-lut : Not (0 ∷ 1 ∷ 2 ∷ 3 ∷ 5 ∷ 6 ∷ 7 ∷ 8 ∷ 9 ∷ []) 5

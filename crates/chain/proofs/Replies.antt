@@ -10,7 +10,8 @@ use Rattle.num.specs.Refusals.{unless}
 use Rattle.num.specs.Laws.Refusals.{accepts}
 use Rattle.cards.specs.Alike.{chainOf}
 use Rattle.cards.specs.Answers.{refusal, acceptance, Reply, reply, refusing}
-use Rattle.chain.specs.Calls.{hold, rechain, pend, lacks, waits, askStops, commitStops, commitReply, onFirst, ofFirst, heldAfter, turned, switched, switchReply, stepped, steppedPass, presetOf, presets, stepLut, stepReply}
+use Rattle.chain.specs.Calls.{hold, rechain, pend, lacks, waits, askStops, commitStops, commitReply, onFirst, ofFirst, heldAfter, withSwitch, switched}
+use Rattle.chain.specs.Calls.{switchReply, stepped, steppedPass, presetOf, presets, stepLut, stepReply}
 use Rattle.chain.specs.Lent.{First, Stands}
 use Rattle.cards.specs.Normal.{askable, goodStation}
 use Rattle.cards.specs.Records.{kinds, among}
@@ -46,10 +47,10 @@ module _ (kind : ℕ) (s : Station) (i : ℕ) (t : First kind (s .n) (s .records
 
   -- its switch
   pub switches : (on : Bool) {held : Held} → held ≡ heldAfter kind on (s .held)
-      → reply (acceptance []) (put i (turned on (getD (s .records) i past)) held s) ≡ switchReply kind on s
+      → reply (acceptance []) (put i (withSwitch on (getD (s .records) i past)) held s) ≡ switchReply kind on s
   switches on {held} e =
-      ap (λ (h : Held). reply (acceptance []) (put i (turned on (getD (s .records) i past)) h s)) e
-      ∙ ap (reply (acceptance [])) (placed (turned on) (heldAfter kind on (s .held)))
+      ap (λ (h : Held). reply (acceptance []) (put i (withSwitch on (getD (s .records) i past)) h s)) e
+      ∙ ap (reply (acceptance [])) (placed (withSwitch on) (heldAfter kind on (s .held)))
       ∙ accepts (lacks s kind) (refusing s) (reply (acceptance []) (switched kind on s)) refl none
 
 -- ## A switch that is asked for

@@ -8,7 +8,7 @@ use lib.ListN.{length, take, drop}
 use lib.Ieee.{Float}
 use Rattle.cards.specs.Alike.{chainOf, switches}
 use Rattle.chain.specs.Answers.{reportedFrame, called, cycled, Applies}
-use Rattle.cards.specs.Answers.{Report, refusal, acceptance, ok, reported}
+use Rattle.cards.specs.Answers.{ok}
 use Rattle.chain.specs.Calls.{resetReply, switchReply, askReply, commitReply, stepReply, presets}
 use Rattle.cards.specs.Card.{accepted, openOf}
 use Rattle.chain.specs.Chain.{depth}

@@ -38,7 +38,7 @@ rechain rs s = record { records = rs ++ drop (s .n) (s .records); n = s .n; held
 abbrev pub pend : Pending → Station → Station
 pend pending s = record { records = s .records; n = s .n; held = s .held; pending = pending }
 
--- ## Refusals: a number of document 01's table, 0 for none
+-- ## Refusals: a number of the papers' tables, 0 for none
 
 -- the f32 words of scratch that a frame asks for: three for each of its words, and three for each of a row's
 abbrev pub floatRoom : (w h : ℕ) → ℕ
@@ -81,15 +81,15 @@ onFirst kind f (r ∷ rs) = cond (eqb (kindOf (r .pass)) kind) (f r ∷ rs) (r �
 abbrev pub resetReply : Station → Reply
 resetReply s = unless (lacks s 4) (refusing s) (reply (acceptance []) (hold nothing s))
 
-abbrev pub turned : Bool → Record → Record
-turned on r = record { on = on; pass = r .pass }
+abbrev pub withSwitch : Bool → Record → Record
+withSwitch on r = record { on = on; pass = r .pass }
 
 -- persistence that is off holds nothing
 abbrev pub heldAfter : ℕ → Bool → Held → Held
 heldAfter kind on held = cond (eqb kind 4 && not on) nothing held
 
 abbrev pub switched : ℕ → Bool → Station → Station
-switched kind on s = hold (heldAfter kind on (s .held)) (rechain (onFirst kind (turned on) (chainOf s)) s)
+switched kind on s = hold (heldAfter kind on (s .held)) (rechain (onFirst kind (withSwitch on) (chainOf s)) s)
 
 abbrev pub switchReply : ℕ → Bool → Station → Reply
 switchReply kind on s = unless (lacks s kind) (refusing s) (reply (acceptance []) (switched kind on s))

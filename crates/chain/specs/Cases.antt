@@ -97,8 +97,8 @@ white = 0xffffff ∷ 0xffffff ∷ []
 abbrev toned : (lut colour : Bool) → List Record
 toned lut colour = record { on = lut; pass = Lut 6 c1·0 } ∷ record { on = colour; pass = ColorCorrection c1·0 c1·0 c1·0 c1·0 } ∷ []
 
-abbrev tube : List Record
-tube = record { on = true; pass = Persistence c0·30 1 } ∷ record { on = true; pass = Scanlines c1·0 } ∷ []
+abbrev mixing : List Record
+mixing = record { on = true; pass = Persistence c0·30 1 } ∷ record { on = true; pass = Scanlines c1·0 } ∷ []
 
 abbrev pub reports : List (Report × Report)
 reports =
@@ -107,9 +107,9 @@ reports =
     ∷ (reportOf (toned true false) nothing ends [], acceptance (6 ∷ []))
     ∷ (reportOf (toned false true) nothing ends [], acceptance (3 ∷ []))
     ∷ (reportOf (toned false false) nothing ends [], acceptance (0 ∷ []))
-    ∷ (reportOf tube (sized 2 1) white white, acceptance (6 ∷ []))
-    ∷ (reportOf tube (sized 1 2) white white, acceptance (0 ∷ []))
-    ∷ (reportOf tube (sized 2 1) white (0xffffff ∷ []), refusal 10)
+    ∷ (reportOf mixing (sized 2 1) white white, acceptance (6 ∷ []))
+    ∷ (reportOf mixing (sized 1 2) white white, acceptance (0 ∷ []))
+    ∷ (reportOf mixing (sized 2 1) white (0xffffff ∷ []), refusal 10)
     ∷ []
 
 pub reports-hold : Hold reports
@@ -246,8 +246,8 @@ waiting-hold = refl
 
 -- Persistence asked to be off: the ghost is still shown in two frames; committed, the next frame is unaltered. A plain switch to off and on between asking and
 -- committing leaves the record: the committed switch turns off again what was turned on.
-abbrev pub ghosts : List (List (List ℕ) × List (List ℕ))
-ghosts = (
+abbrev pub untilCommitted : List (List (List ℕ) × List (List ℕ))
+untilCommitted = (
   pictures half (upright white ∷ ask 4 false ∷ upright black ∷ upright white ∷ commit ∷ upright black ∷ []),
   white ∷ [] ∷ (0x555555 ∷ 0x555555 ∷ []) ∷ (0xaaaaaa ∷ 0xaaaaaa ∷ []) ∷ [] ∷ black ∷ [],
 )
@@ -257,10 +257,10 @@ ghosts = (
     )
     ∷ []
 
-pub ghosts-hold : Hold ghosts
+pub untilCommitted-hold : Hold untilCommitted
 unfolding run saw after call askStops commitStops lacks onFirst frameReplyBy unless shownBy stops badSide goodStation fineHeld sameHeld normalChain
     normalPass settled persists depth readsCurve fold turnBy overBy ofBits ofInt add sub mul div neg lt clampOf cutOf rewrite sum converted
     Text.Pixel.unpack Text.Pixel.pack Text.Pixel.packClamped Text.Pixel.clip Text.Pixel.clips Text.Persistence.persistence Text.Persistence.decay
     Text.Persistence.total Text.Persistence.add Text.Persistence.mix Text.Persistence.blend Persistence.copies
     Persistence.refilled Persistence.shifted
-ghosts-hold = refl
+untilCommitted-hold = refl

@@ -23,27 +23,47 @@ use Rattle.cards.specs.declared.station.Pass.the-variants.{Ntsc, Bloom, AutoGra
 use Rattle.cards.specs.declared.station.Pass.the-variants.{ColorCorrection, Crt, Vignette, Scanlines}
 use Rattle.cards.specs.declared.station.Record.{Record}
 
--- a pass without memory: what it clips is added to what was clipped before
+-- ## What a pass does
+
+-- it paints the frame and keeps nothing, or it goes by what the history holds
+pub data Work : Type 0 where
+  paints : (List ℕ → Painted) → Work
+  keeps : (Flow → Flow) → Work
+
+-- a pass that keeps nothing: what it clips is added to what was clipped before
 unfoldable pub wash : (List ℕ → Painted) → Flow → Flow
 wash paint x = flow (onto paint (x .frame)) (x .held) (x .past)
+
+abbrev pub flowAfter : Work → Flow → Flow
+flowAfter (paints paint) = wash paint
+flowAfter (keeps step) = step
+
+-- of a frame alone; one that keeps something leaves it
+abbrev pub frameAfter : Work → List ℕ → Painted
+frameAfter (paints paint) = paint
+frameAfter (keeps step) = unclipped (λ frame. frame)
 
 -- ## The passes, over an arithmetic A (passes' Arith)
 
 module _ (A : Arith) (w h : ℕ) (curve : List Float) where
-  -- one pass over a frame of width w and height h, with the curve that is lent
+  -- each pass's work at width w and height h, with the curve that is lent
+  abbrev pub workBy : Pass → Work
+  workBy (Ntsc strength bleed) = paints (ntsc A w (A .lit strength) bleed)
+  workBy (Bloom threshold strength radius) = paints (bloom A w h threshold (A .lit strength) radius)
+  workBy (AutoGradient strength vertical horizontal) =
+      paints (autoGradient A w h (A .lit strength) (A .lit vertical) (A .lit horizontal))
+  workBy (Persistence amount depth) = keeps (persistence A (A .lit amount) depth (sized w h))
+  workBy (Lut preset strength) = paints (lut A preset (A .lit strength))
+  workBy (Curvature amount) = paints (unclipped (curvature A w h (A .lit amount)))
+  workBy (ColorCorrection brightness contrast saturation gamma) =
+      paints (colorCorrection A curve (A .lit brightness) (A .lit contrast) (A .lit saturation) gamma)
+  workBy (Crt strength) = paints (unclipped (crt A w h (A .lit strength)))
+  workBy (Vignette strength) = paints (unclipped (vignette A w h (A .lit strength)))
+  workBy (Scanlines strength) = paints (unclipped (scanlines A w (A .lit strength)))
+
+  -- one pass over a frame of that size
   unfoldable pub overBy : Pass → Flow → Flow
-  overBy (Ntsc strength bleed) = wash (ntsc A w (A .lit strength) bleed)
-  overBy (Bloom threshold strength radius) = wash (bloom A w h threshold (A .lit strength) radius)
-  overBy (AutoGradient strength vertical horizontal) =
-      wash (autoGradient A w h (A .lit strength) (A .lit vertical) (A .lit horizontal))
-  overBy (Persistence amount depth) = persistence A (A .lit amount) depth (sized w h)
-  overBy (Lut preset strength) = wash (lut A preset (A .lit strength))
-  overBy (Curvature amount) = wash (unclipped (curvature A w h (A .lit amount)))
-  overBy (ColorCorrection brightness contrast saturation gamma) =
-      wash (colorCorrection A curve (A .lit brightness) (A .lit contrast) (A .lit saturation) gamma)
-  overBy (Crt strength) = wash (unclipped (crt A w h (A .lit strength)))
-  overBy (Vignette strength) = wash (unclipped (vignette A w h (A .lit strength)))
-  overBy (Scanlines strength) = wash (unclipped (scanlines A w (A .lit strength)))
+  overBy p = flowAfter (workBy p)
 
   -- a record: its pass, where it is on
   unfoldable pub turnBy : Flow → Record → Flow
@@ -53,6 +73,10 @@ module _ (A : Arith) (w h : ℕ) (curve : List Float) where
   chainBy rs x = fold turnBy x rs
 
 -- the product's: binary32 and the number steps
+
+-- the frame after a pass that keeps nothing
+unfoldable pub paint : (w h : ℕ) → List Float → Pass → List ℕ → Painted
+paint w h curve p = frameAfter (workBy plain w h curve p)
 
 abbrev pub over : (w h : ℕ) → List Float → Pass → Flow → Flow
 over = overBy plain

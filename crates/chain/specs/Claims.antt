@@ -23,7 +23,7 @@ Refused-keeps =
     → frameReply w h s words past floats ints curve .answer ≡ refusal k
     → frameReply w h s words past floats ints curve ≡ framed (refusal k) s words past)
 
--- a frame, accepted or not, leaves the framebuffer past count, the history past K times count, and the places of the station past n
+-- a frame, accepted or not, leaves the framebuffer past count, the history past K times count, and all records of the station
 abbrev pub Untouched : Type 0
 Untouched =
     (w h : ℕ) (s : Station) (words past : List ℕ) (floats ints : ℕ) (curve : List Float) →

@@ -1,5 +1,5 @@
 // The calls on a station: a frame, a reset, a switch, at once or asked for and committed, a preset step, and two questions. None has a condition: what it
-// cannot do it refuses, by a number of document 01's table, and a refusal changes nothing.
+// cannot do it refuses, by a number of the papers' tables, and a refusal changes nothing.
 ghost use mathlib.Core.Path.{_≡_};
 ghost use Prim.Native.Nat.{_≤_, _<_};
 ghost use mathlib.Core.Bool.{true};
@@ -13,10 +13,10 @@ ghost use Rattle.chain.specs.Lent.{First, Stands};
 ghost use Rattle.cards.specs.Passes.{kindOf};
 ghost use Rattle.chain.specs.Answers.{called, cycled, reportedQuestion, Applies};
 ghost use Rattle.cards.specs.Records.{kinds, among};
+use super::refusals::ask_stops;
 use super::refusals::depth;
 use super::refusals::lacks;
 use super::refusals::stops;
-use super::refusals::stops_ask;
 use super::run::run_chain;
 use cards::check::is_good;
 use cards::station::Answer;
@@ -104,20 +104,18 @@ pub fn apply(
     }
     let count = height * width;
     let room = 3 * count + 3 * width;
-    let n = station.n;
-    let records = station.records;
-    let before = station.held;
+    let size = Size {
+        width: width as u16,
+        height: height as u16,
+    };
     let run = run_chain(
-        records,
-        n,
+        station,
+        size,
         &mut framebuffer[..count],
         history,
         &mut floats[..room],
         &mut ints[..count],
         curve,
-        width,
-        height,
-        before,
     );
     let held = run.held;
     let clipped = run.clipped;
@@ -176,7 +174,7 @@ pub(crate) fn place(records: [Record; 10], n: usize, kind: u8) -> usize
 }
 
 // What is held once a pass is switched: persistence that is off holds nothing.
-pub(crate) fn still_held(kind: u8, on: bool, held: Size) -> Size
+pub(crate) fn held_after(kind: u8, on: bool, held: Size) -> Size
     ensures { λ r. ⌜ r ≡ heldAfter kind on held ⌝ }
 {
     if kind == 4 {
@@ -203,7 +201,7 @@ pub fn set_enabled(station: Station, kind: u8, on: bool) -> Called
     }
     let n = station.n;
     let mut records = station.records;
-    let held = still_held(kind, on, station.held);
+    let held = held_after(kind, on, station.held);
     let at = place(records, n, kind);
     let r = records[at];
     let pass = r.pass;
@@ -240,7 +238,7 @@ pub(crate) fn pend(station: Station, pending: Pending) -> Station
 pub fn ask(station: Station, kind: u8, on: bool) -> Called
     ensures { λ r. ⌜ called r ≡ askReply kind on station ⌝ }
 {
-    let refusal = stops_ask(station, kind);
+    let refusal = ask_stops(station, kind);
     if refusal != 0 {
         return Called {
             answer: Answer::Refused(refusal),

@@ -1,4 +1,4 @@
-// What the calls refuse: a number of document 01's table, 0 for none.
+// What the calls refuse: a number of the papers' tables, 0 for none. (`commit` tells its own two, as it takes the pending switch apart.)
 ghost use mathlib.Core.Path.{_≡_};
 ghost use mathlib.Core.Bool.{not, _&&_};
 ghost use Prim.Native.Nat.{_≤_, _*_};
@@ -140,7 +140,7 @@ pub(crate) fn lacks(station: Station, kind: u8) -> u8
 }
 
 // Of asking for a switch of the pass of that kind.
-pub(crate) fn stops_ask(station: Station, kind: u8) -> u8
+pub(crate) fn ask_stops(station: Station, kind: u8) -> u8
     ensures { λ r. ⌜ r ≡ askStops station kind ⌝ }
 {
     let refusal = lacks(station, kind);

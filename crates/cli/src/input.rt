@@ -50,6 +50,12 @@ pub fn is_option(i: usize) -> bool {
     name[0] == b'-'
 }
 
+// Says behind its path why a file cannot be read, by the error of the last call. The words between say what else the path is not.
+fn unread(path: &[u8], words: &[u8]) {
+    io::write_all(STDERR_FILENO, path);
+    os::fail(words);
+}
+
 // What the next byte is: 1 where there is one, 0 at the end, below 0 where it cannot be read.
 fn next(fd: i32) -> isize {
     let mut one = [0u8; 1];
@@ -57,13 +63,13 @@ fn next(fd: i32) -> isize {
 }
 
 // A file that is open, as far as the buffer holds it.
-fn read(fd: i32, path: &[u8], out: &mut [u8]) -> Loaded
+fn read(fd: i32, path: &[u8], words: &[u8], out: &mut [u8]) -> Loaded
     ensures { λ r. ⌜ Counts (r .length) (now (out .exit)) ⌝ }
 {
     let length = io::read_full(fd, out);
     let got = next(fd);
     if got < 0 {
-        os::fail(path);
+        unread(path, words);
         return failed();
     }
     Loaded {
@@ -73,16 +79,16 @@ fn read(fd: i32, path: &[u8], out: &mut [u8]) -> Loaded
     }
 }
 
-// The file of that name, as far as the buffer holds it.
-pub fn file(path: &[u8], out: &mut [u8]) -> Loaded
+// The file of that name, as far as the buffer holds it. The words are said with the error where it cannot be read.
+fn file(path: &[u8], words: &[u8], out: &mut [u8]) -> Loaded
     ensures { λ r. ⌜ Counts (r .length) (now (out .exit)) ⌝ }
 {
     let fd = os::open_read(path);
     if fd < 0 {
-        os::fail(path);
+        unread(path, words);
         return failed();
     }
-    let loaded = read(fd, path, out);
+    let loaded = read(fd, path, words, out);
     libc::close(fd);
     loaded
 }
@@ -93,8 +99,11 @@ pub fn named(i: usize, out: &mut [u8]) -> Loaded
 {
     let mut name = io::buffer();
     let given = argument(i, &mut name);
+    if !given.ok {
+        return failed();
+    }
     let n = given.length;
-    file(&name[..n], out)
+    file(&name[..n], b"", out)
 }
 
 // A card: the bytes of an argument that is hexadecimal, else those of the file that it names. No card has as many bytes as the buffer: one that has more is
@@ -109,7 +118,11 @@ fn card_of(name: &[u8], out: &mut [u8; 4096]) -> Loaded
             length,
             more: false,
         },
-        Decoded::Text => file(name, out),
+        Decoded::Text => file(
+            name,
+            b": neither hexadecimal (two digits for each byte) nor a file that can be read",
+            out,
+        ),
         Decoded::Long => {
             io::write_all(STDERR_FILENO, name);
             io::write_all(STDERR_FILENO, b": too long for a card\n");

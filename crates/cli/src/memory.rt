@@ -1,4 +1,5 @@
-// The buffers that a frame's file is read into: 256 by 240 pixels. A long array is made by a function, so that a proof sees its length alone.
+// The buffers that a frame's file is read into: up to 61,440 pixels, 256 by 240 or of another shape. A long array is made by a function, so that a proof
+// sees its length alone.
 ghost use mathlib.Core.Path.{_≡_};
 ghost use lib.ListN.{length};
 

@@ -4,7 +4,7 @@ use cards::reader;
 use inspect::layout::Field;
 use inspect::layout::field_at;
 
-// The trade's word of document 01's table.
+// The trade's word of a refusal, as the papers have it.
 fn word(fd: i32, number: u8) {
     match number {
         1 => io::write_all(fd, b"torn card"),
@@ -63,8 +63,8 @@ fn field(fd: i32, f: Field) {
     }
 }
 
-// Why the card is refused, and where reading it stopped: at which bit, and in which field.
-pub fn refused(fd: i32, card: &[u8], number: u8) {
+// Why the card is refused, and where reading it stopped: at which bit, and in which field. Whether the end of this line was written.
+pub fn refused(fd: i32, card: &[u8], number: u8) -> bool {
     let at = reader::stopped(card);
     io::write_all(fd, b"refused: ");
     io::print_decimal(fd, number as u64);
@@ -74,7 +74,7 @@ pub fn refused(fd: i32, card: &[u8], number: u8) {
     io::print_decimal(fd, at as u64);
     io::write_all(fd, b": ");
     field(fd, field_at(card, at));
-    io::write_all(fd, b"\n");
+    io::write_all(fd, b"\n")
 }
 
 // A file that is no frame of 61,440 pixels, by the numbers of raster::ppm, and 10 of frames::fault.

@@ -10,7 +10,7 @@ use Rattle.num.specs.Laws.Refusals.{refuses, accepts}
 use Rattle.cards.specs.Answers.{ok, Reply, reported, opened}
 use Rattle.chain.specs.Answers.{reportedFrame, reportedStep, Applies}
 use Rattle.chain.specs.Laws.Answers.{stay}
-use Rattle.chain.specs.Calls.{Framed, framed, floatRoom, stops, frameReply}
+use Rattle.chain.specs.Calls.{Framed, floatRoom, stops, frameReply}
 use Rattle.chain.specs.declared.pipeline.Applied.{Applied}
 use Rattle.chain.specs.declared.pipeline.Cycle.{Cycle}
 use Rattle.chain.specs.declared.pipeline.Cycle.the-variants as Cycle

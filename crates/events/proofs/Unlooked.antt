@@ -13,7 +13,8 @@ use Rattle.num.specs.Refusals.{unless}
 use Rattle.chain.specs.Calls.{switchReply}
 use Rattle.cards.specs.declared.station.Station.{Station}
 use Rattle.raster.specs.Pixels.{byteAt, pixelAt, unpacked}
-use Rattle.events.specs.Events.{headWanted, cardIn, letterIn, countIn, badSize, kindIn, positionIn, frameWanted, eventWanted, frameFault, switchFault, eventFault}
+use Rattle.events.specs.Events.{headWanted, cardIn, letterIn, countIn, badSize, kindIn, positionIn, frameWanted, eventWanted, frameFault, switchFault}
+use Rattle.events.specs.Events.{eventFault}
 use Rattle.events.specs.Play.{Outcome, answered, framePlayed, called, ending, playedOf}
 use Rattle.events.specs.Program.{eventBytes, headBytes}
 use Rattle.events.specs.Reading.{Unlooked}
@@ -65,10 +66,6 @@ unless-same zero s words past o q h = h refl
 unless-same (suc k) s words past o q h = refl
 
 -- what the frame of a longer input wants, by its size
-wanted-bad : (input : List ℕ) → 3 ≤ length input → badSize input ≡ true → frameWanted input ≡ 3
-unfolding frameWanted
-wanted-bad input l b = simp (le-ltb (length input) 3 l, b)
-
 wanted-fine : (input : List ℕ) → 3 ≤ length input → badSize input ≡ false → frameWanted input ≡ 3 + 3 * countIn input
 unfolding frameWanted
 wanted-fine input l b = simp (le-ltb (length input) 3 l, b)

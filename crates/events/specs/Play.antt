@@ -1,5 +1,5 @@
 -- What an event of program `station` does and prints. The framebuffer has 1,024 words, of which a frame is lent just its own. Assumes nothing.
-use Prim.Native.Nat.{ℕ, zero, suc, _*_}
+use Prim.Native.Nat.{ℕ, _*_}
 use mathlib.Core.Bool.{Bool, true, false, cond}
 use mathlib.Core.List.{List, [], _++_}
 use lib.Dec.{eqb}

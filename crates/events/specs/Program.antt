@@ -1,4 +1,4 @@
--- What program `station` prints for a whole input, and document 01's worked example. Assumes nothing.
+-- What program `station` prints for a whole input. Assumes nothing.
 use Prim.Native.Nat.{ℕ, zero, suc}
 use mathlib.Core.Bool.{cond}
 use mathlib.Core.List.{List, [], _++_}

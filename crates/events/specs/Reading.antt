@@ -1,5 +1,5 @@
 -- Why the program may read piece by piece: what is wanted, as far as the bytes that are there tell, never passes the event's end and never stops before
--- it; and bytes after the event are not looked at. The claims; their proofs are in proofs/Reading.antt. Assumes nothing.
+-- it; and bytes after the event are not looked at. The claims; their proofs are in proofs/Reading.antt and proofs/Unlooked.antt. Assumes nothing.
 use Prim.Native.Nat.{ℕ, _≤_}
 use mathlib.Core.Path.{_≡_}
 use mathlib.Core.List.{List}

@@ -22,7 +22,7 @@ fn usage() {
     );
     io::write_all(
         STDERR_FILENO,
-        b"frames as binary PPM, up to 61440 pixels; a curve as 256 binary32)\n",
+        b"frames as binary PPM, up to 61440 pixels, no side above 1024; a curve as 256 binary32)\n",
     );
 }
 

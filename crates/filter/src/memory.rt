@@ -1,5 +1,5 @@
-// The buffers that are lent to a frame of 256 by 240 pixels besides its words: a history of eight such frames, and scratch. With the file and the words some
-// four megabytes of stack.
+// The buffers that are lent to a frame of up to 61,440 pixels, up to 1,024 wide, besides its words: a history of eight such frames, and scratch. With the
+// file and the words some 3.4 megabytes of stack.
 ghost use mathlib.Core.Path.{_≡_};
 ghost use lib.ListN.{length};
 
@@ -9,6 +9,7 @@ pub fn history() -> [u32; 491520]
     [0; 491520]
 }
 
+// 3 * 61,440 + 3 * 1,024.
 pub fn floats() -> [f32; 187392]
     ensures { λ r. ⌜ 187392 ≡ length r ⌝ }
 {

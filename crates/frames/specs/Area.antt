@@ -3,7 +3,6 @@ use Prim.Native.Nat.{ℕ, _+_, _-_, _*_}
 use mathlib.Core.Bool.{Bool, true, false, _&&_, _||_, cond}
 use mathlib.Core.List.{List, [], _∷_}
 use lib.Dec.{eqb, ltb}
-use lib.ListN.{length, getD}
 use Rattle.raster.specs.Ppm.{isDigit}
 use Rattle.frames.specs.declared.area.Named.{Named}
 use Rattle.frames.specs.declared.area.Named.the-variants.{Area, Fault}

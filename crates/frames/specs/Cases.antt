@@ -1,5 +1,4 @@
 -- Worked cases of rectangles in words: what stands there, and what it is read as. Assumes nothing.
-use Prim.Native.Nat.{ℕ}
 use mathlib.Core.List.{List, [], _∷_}
 use mathlib.Core.Path.{refl}
 use Rattle.num.specs.Cases.{Hold}

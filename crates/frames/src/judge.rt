@@ -15,7 +15,7 @@ pub enum Judged {
     Read(u32),
     // It is no frame that can be taken, by the number of raster::ppm.
     NoFrame(u8),
-    // The rectangles are refused, by the number of document 01's table.
+    // The rectangles are refused, by the number of the papers' tables.
     Refused(u8),
 }
 

@@ -24,7 +24,7 @@ pub enum Outcome {
     Shown { clipped: u32 },
     // It is no frame that can be taken, by the number of raster::ppm.
     NoFrame(u8),
-    // The station refused the frame, by the number of document 01's table.
+    // The station refused the frame, by the number of the papers' tables.
     Refused(u8),
 }
 

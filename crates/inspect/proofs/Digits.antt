@@ -1,12 +1,12 @@
 -- Decimal digits, one after another from the last: those of a number, and those of a number times a small one, with a carry. Assumes nothing.
 use Prim.Native.Nat.{ℕ, zero, suc, _+_, _-_, _*_, _/_, _%_, _^_, _≤_, _<_}
 use mathlib.Core.Path.{_≡_, refl, sym, ap, _∙_, subst}
-use mathlib.Core.List.{List, [], _∷_, _++_, append-nil, append-assoc}
-use native.Mathlib.Nat.{zero-mul, suc-mul, pow-suc, add-mul, mul-assoc, mul-le-mul-right, mul-comm}
+use mathlib.Core.List.{List, [], _∷_, _++_, append-nil}
+use native.Mathlib.Nat.{zero-mul, suc-mul, pow-suc, add-mul, mul-assoc, mul-le-mul-right}
 use native.Mathlib.Numerals.{add-one, unary-clauses}
 use native.Mathlib.Omega.{arith}
 use lib.ListN.{length, getD, set, take, drop, length-set, drop-of-length-le}
-use lib.Seq.{take-all, drop-length, append-snoc, drop-cons, take-suc-set, drop-set-lt, drop-drop, getD-set-same, getD-set-other}
+use lib.Seq.{take-all, append-snoc, drop-cons, take-suc-set, drop-set-lt, drop-drop}
 use Rattle.inspect.specs.Decimal.{number, Digits}
 
 -- ## The digits of a number

@@ -1,7 +1,8 @@
 -- Powers beside a number: what one turn of a loop takes of them, how large they get, and how those of 2, 5 and 10 fit together. Assumes nothing.
 use Prim.Native.Nat.{ℕ, zero, suc, _+_, _-_, _*_, _/_, _%_, _^_, _≤_, _<_}
-use mathlib.Core.Path.{_≡_, refl, sym, ap, _∙_, subst}
-use native.Mathlib.Nat.{pow-zero, pow-suc, one-le-pow, mul-assoc, mul-comm, mul-right-comm, mul-one, le-mul-of-pos-right, lt-of-le-of-lt, eq-of-mul-eq-mul-right, mul-le-mul, le-of-lt, pow-le-pow-right}
+use mathlib.Core.Path.{_≡_, sym, ap, _∙_, subst}
+use native.Mathlib.Nat.{pow-zero, pow-suc, one-le-pow, mul-assoc, mul-comm, mul-right-comm, mul-one, le-mul-of-pos-right, lt-of-le-of-lt}
+use native.Mathlib.Nat.{eq-of-mul-eq-mul-right, mul-le-mul, le-of-lt, pow-le-pow-right}
 use native.Mathlib.Omega.{arith}
 use lib.Dec.{lit<}
 use lib.Pow.{pow-add}

@@ -14,7 +14,7 @@ use Rattle.num.specs.Const.{c0·0, c1·0, c255·0}
 use Rattle.num.specs.F32.{_⊗_}
 use Rattle.num.specs.Steps.{clampOf, minOf, maxOf, cutOf}
 use Rattle.num.specs.Private.{under, floorOf}
-use Rattle.num.specs.Laws.Order.{asymmetric}
+use Rattle.num.specs.Laws.Order.{asymmetric, lt-number-right, one-above}
 use Rattle.num.specs.Ranges.{within, Signed}
 use Rattle.num.specs.Laws.Within.{size-le, round-signed}
 use Rattle.num.specs.Laws.Bounds.{zero-within, between, clamp-within, clamp-nan, cut-within, one-is, times-within}
@@ -35,12 +35,6 @@ positive (inf true) h = absurd (true≢false (sym h))
 positive (inf false) h = refl
 positive (fin true m e) h = absurd (true≢false (sym h))
 positive (fin false m e) h = refl
-
-number : (x : Float) → lt c0·0 x ≡ true → T (not (isNan x))
-unfolding lt isNan ofBits
-number nan h = absurd (true≢false (sym h))
-number (inf s) h = tt
-number (fin s m e) h = tt
 
 -- ---- x above 0: `max` and `min` give what `clamp` gives
 
@@ -109,16 +103,12 @@ pub clamped-cut : (n : ℕ) (x hi : Float) → n ≤ 1023 → HasValue hi false 
 clamped-cut n x hi l v p = go (lt c0·0 x) refl
   where
     go : (q : Bool) → lt c0·0 x ≡ q → T (under 1024 (minOf hi (maxOf x c0·0))) × (floorOf (minOf hi (maxOf x c0·0)) ≡ cutOf (clampOf x c0·0 hi))
-    go true h = rw (above x hi p h) (floor-is-cut n (clampOf x c0·0 hi) l (above-signed x hi p h) (clamp-within n x hi v (number x h)))
+    go true h = rw (above x hi p h) (floor-is-cut n (clampOf x c0·0 hi) l (above-signed x hi p h) (clamp-within n x hi v (lt-number-right c0·0 x h)))
     go false h =
         let z = floor-is-cut 0 c0·0 zero-le zero-signed (zero-within 0) in
         rw (low x hi p h) (z .0, z .1 ∙ sym (none c0·0 (zero-within 0)) ∙ low-cut x hi p h)
 
 -- ---- clamped to 0 .. 1, times 255, then cut
-
-one-above : lt c0·0 c1·0 ≡ true
-unfolding lt ofBits
-one-above = refl
 
 times-signed : (n : ℕ) (y : Float) → T (within n y) → Signed false y → Signed false (y ⊗ c255·0)
 unfolding within mul ofBits
@@ -136,7 +126,7 @@ unit-clamped-cut x = go (lt c0·0 x) refl
   where
     go : (q : Bool) → lt c0·0 x ≡ q → T (under 1024 (minOf c1·0 (maxOf x c0·0) ⊗ c255·0)) × (floorOf (minOf c1·0 (maxOf x c0·0) ⊗ c255·0) ≡ cutOf (clampOf x c0·0 c1·0 ⊗ c255·0))
     go true h =
-        let w = clamp-within 1 x c1·0 one-is (number x h) in
+        let w = clamp-within 1 x c1·0 one-is (lt-number-right c0·0 x h) in
         rw (above x c1·0 one-above h) (floor-is-cut 255 (clampOf x c0·0 c1·0 ⊗ c255·0) (lit≤ tt) (times-signed 1 _ w (above-signed x c1·0 one-above h)) (times-within 1 _ (lit≤ tt) w))
     go false h =
         let w = times-within 0 c0·0 zero-le (zero-within 0) in

@@ -2,7 +2,9 @@
 -- the bit pattern. Assumes nothing.
 use mathlib.Core.Path.{_≡_, refl, sym, ap, _∙_, subst}
 use Prim.Native.Nat.{ℕ, zero, suc, _+_, _-_, _*_, _/_, _%_, _^_, _≤_, _<_, compare, Ordering, Ordering·lt, Ordering·eq, Ordering·gt}
-use native.Mathlib.Nat.{le-trans, le-of-eq, lt-of-lt-of-le, mul-left-comm, mul-one, mul-assoc, mul-right-comm, mul-pos, add-mul, suc-mul, add-zero, one-mul, le-of-suc-le-suc, lt-of-mul-lt-mul-right, mul-le-mul-right, mul-lt-mul-of-pos-right, mod-lt, div-add-mod', le-div-iff-mul-le, div-lt-iff-lt-mul, div-eq-of-lt-le}
+use native.Mathlib.Nat.{le-trans, le-of-eq, lt-of-lt-of-le, mul-left-comm, mul-one, mul-assoc, mul-right-comm, mul-pos, add-mul, suc-mul, add-zero, one-mul}
+use native.Mathlib.Nat.{le-of-suc-le-suc, lt-of-mul-lt-mul-right, mul-le-mul-right, mul-lt-mul-of-pos-right, mod-lt, div-add-mod', le-div-iff-mul-le}
+use native.Mathlib.Nat.{div-lt-iff-lt-mul, div-eq-of-lt-le}
 use native.Mathlib.Omega.{arith}
 use mathlib.Core.Bool.{Bool, false, not}
 use lib.Dec.{T, isLe, isEq, leb→le, nleb→lt, eqb→eq, ltb→lt, lt→ltb, lit<, lit≤}

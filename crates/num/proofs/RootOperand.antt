@@ -4,14 +4,15 @@ use mathlib.Core.Logic.{inl, inr}
 use Prim.Native.Nat.{ℕ, _*_, _/_, _^_, _≤_, _<_}
 use native.Mathlib.Nat.{eq-zero-or-pos, zero-mul, mul-assoc, mul-right-comm, mul-div-cancel, div-eq-of-lt}
 use native.Mathlib.Omega.{arith}
-use mathlib.Core.Bool.{Bool, true, false, not, cond, true≢false}
+use mathlib.Core.Bool.{Bool, true, false, cond, true≢false}
 use borrow.Author.Tests.{ltb-false}
 use lib.IntN.{ℤ}
 use lib.Dec.{T, ltb}
-use lib.Ieee.{Float, nan, inf, fin, binary32, up, down, ofBits, toBits, fits, isNan, lt}
+use lib.Ieee.{Float, nan, inf, fin, binary32, up, down, ofBits, toBits, fits, lt}
 use lib.Ieee.Fits.{down-pos, cond-fits}
 use lib.Ieee.Bits.{ofBits-toBits, ofBits-fits}
 use lib.Ieee.Exact.{HasValue}
+use Rattle.num.specs.Laws.Order.{one-above}
 use Rattle.num.specs.Const.{c0·0, c1·0}
 use Rattle.num.specs.Root.{nearestRoot, rootOf}
 use Rattle.num.specs.Private.{operand}
@@ -56,12 +57,6 @@ root-not-above (fin false m e) h =
 
 -- ---- what is above 0
 
-pub number-above : (x : Float) → lt c0·0 x ≡ true → T (not (isNan x))
-unfolding lt isNan ofBits
-number-above nan h = absurd (true≢false (sym h))
-number-above (inf s) h = tt
-number-above (fin s m e) h = tt
-
 never-above : lt c0·0 c0·0 ≡ false
 unfolding lt ofBits
 never-above = refl
@@ -74,10 +69,6 @@ pattern-above x f h =
     ]
 
 -- ---- the operand that the code puts in the place of x
-
-one-above : lt c0·0 c1·0 ≡ true
-unfolding lt ofBits
-one-above = refl
 
 pub operand-above : (x : Float) → lt c0·0 (operand x) ≡ true
 operand-above x = go (lt c0·0 x) refl

@@ -164,10 +164,11 @@ c1023·0 = ofBits binary32 0x447fc000
 abbrev pub c1023·5 : Float
 c1023·5 = ofBits binary32 0x447fe000
 
--- 2 ^ 23, from which on every value is whole
+-- 2 ^ 22 - 1/4, which `floor` adds
 abbrev pub c4194303·75 : Float
 c4194303·75 = ofBits binary32 0x4a7fffff
 
+-- 2 ^ 23, from which on every value is whole
 abbrev pub c8388608·0 : Float
 c8388608·0 = ofBits binary32 0x4b000000
 

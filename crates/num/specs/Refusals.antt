@@ -1,4 +1,4 @@
--- What calls refuse by, and how a call is said that answers by its refusal: a number of document 01's table, 0 for none.
+-- What calls refuse by, and how a call is said that answers by its refusal: a number of the papers' tables, 0 for none.
 -- Assumes nothing.
 use Prim.Native.Nat.{ℕ, zero, suc}
 use mathlib.Core.Bool.{Bool, _||_}

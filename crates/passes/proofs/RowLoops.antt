@@ -25,18 +25,6 @@ module _ {A : Type 0} where
   pub lent-word : (k w : ℕ) (xs : List A) (d : A) (x : ℕ) → x < w → getD (take (k + w - k) (drop k xs)) x d ≡ getD xs (k + x) d
   lent-word k w xs d x l = getD-take (k + w - k) (drop k xs) x d (omega arith) ∙ getD-drop k xs x d
 
-  -- the places from i to j were lent, of which those before i are done: how many they are, and how far it is when they came back
-  module _ {f : ℕ → A → A} {xs ys : List A} {i : ℕ} (j : ℕ) (t : Rewritten i f xs ys) (l : j ≤ length xs) where
-    pub further-long : length (take (j - i) (drop i ys)) ≡ j - i
-    further-long = length-take-le (j - i) (drop i ys) (rw length-drop (omega (arith, t .kept)))
-
-    pub further : (new : List A) → i ≤ j → new ≡ every (λ d. f (i + d)) (take (j - i) (drop i ys))
-        → Rewritten j f xs (take i ys ++ (new ++ drop (j - i) (drop i ys)))
-    further new h e =
-        let whole : i + (j - i) ≡ j = omega arith in
-        subst (λ (n : ℕ). Rewritten n f xs (take i ys ++ (new ++ drop (j - i) (drop i ys)))) whole
-        (part (j - i) (λ d. f (i + d)) new t (omega arith) (λ d v m. refl) e)
-
   -- the invariant of a loop by rows: the first y rows of h are done, and row y begins at word `at`
   pub record Rowed (w h y at : ℕ) (f : ℕ → ℕ → A → A) (xs ys : List A) : Type 0 where
     pub area : length xs ≡ h * w

@@ -1,5 +1,6 @@
 -- Two arithmetics beside binary32. `casts` leaves a number as Rust does: by `as u32`, and channels are joined by shifts and
--- `|`. `checked` stops at the first step outside its range, and shows so in the word. Assumes nothing.
+-- `|`. `checked` has no number any more from a step outside its range on, which shows in the word or, where it is compared, as
+-- another picture. Assumes nothing.
 use Prim.Native.Nat.{ℕ, _+_, _*_, _%_}
 use mathlib.Core.Bool.{Bool, true, false, not, _&&_, cond}
 use lib.Bits.{bitOr}

@@ -1,5 +1,5 @@
 // Persistence: each frame is mixed with the frames before it. The history is lent, frame j at word j * count, newest first. The frame
-// is mixed row by row with its rows in each place of the history; then the places shift by one, each as a whole.
+// is mixed part by part, of up to 64 words, with the same part of each place of the history; then the places shift by one, each as a whole.
 ghost use mathlib.Core.Path.{_≡_};
 ghost use Prim.Native.Nat.{_+_, _*_, _≤_, _<_};
 ghost use lib.ListN.{length, getD, drop};
@@ -46,34 +46,34 @@ fn weights(out: &mut [f32], amount: f32, sum: f32)
     }
 }
 
-// One channel of each word of a row, times w.
-fn begin_line(acc: &mut [f32], row: &[u32], w: f32, which: usize)
-    requires { ⌜ length (now acc) ≡ length (now row) ⌝ }
-    ensures { λ _. ⌜ now (acc .exit) ≡ fill (λ x. channel which (unpack (getD (now (row .entry)) x 0)) ⊗ w) (now (acc .entry)) ⌝ }
+// One channel of each word of a part, times w.
+fn begin_line(acc: &mut [f32], part: &[u32], w: f32, which: usize)
+    requires { ⌜ length (now acc) ≡ length (now part) ⌝ }
+    ensures { λ _. ⌜ now (acc .exit) ≡ fill (λ x. channel which (unpack (getD (now (part .entry)) x 0)) ⊗ w) (now (acc .entry)) ⌝ }
 {
     let mut i = 0usize;
     while i < acc.len() {
-        acc[i] = pixel::channel(which, pixel::unpack(row[i])) * w;
+        acc[i] = pixel::channel(which, pixel::unpack(part[i])) * w;
         i += 1;
     }
 }
 
 // The same, added.
-fn add_line(acc: &mut [f32], row: &[u32], w: f32, which: usize)
-    requires { ⌜ length (now acc) ≡ length (now row) ⌝ }
-    ensures { λ _. ⌜ now (acc .exit) ≡ every (λ x v. v ⊕ channel which (unpack (getD (now (row .entry)) x 0)) ⊗ w) (now (acc .entry)) ⌝ }
+fn add_line(acc: &mut [f32], part: &[u32], w: f32, which: usize)
+    requires { ⌜ length (now acc) ≡ length (now part) ⌝ }
+    ensures { λ _. ⌜ now (acc .exit) ≡ every (λ x v. v ⊕ channel which (unpack (getD (now (part .entry)) x 0)) ⊗ w) (now (acc .entry)) ⌝ }
 {
     let mut i = 0usize;
     while i < acc.len() {
-        acc[i] = acc[i] + pixel::channel(which, pixel::unpack(row[i])) * w;
+        acc[i] = acc[i] + pixel::channel(which, pixel::unpack(part[i])) * w;
         i += 1;
     }
 }
 
-// One channel of the mix of a row, which begins at word `at` of a frame of n: the older frames' rows are added one after another.
+// One channel of the mix of a part, which begins at word `at` of a frame of n: the same part of each older frame is added, one after another.
 fn mix_line(
     acc: &mut [f32],
-    row: &[u32],
+    part: &[u32],
     at: usize,
     n: usize,
     w: f32,
@@ -81,11 +81,11 @@ fn mix_line(
     history: &[u32],
     which: usize,
 )
-    requires { ⌜ (length (now acc) ≡ length (now row)) × (at + length (now row) ≤ n) × (length (now ws) * n ≤ length (now history)) ⌝ }
-    ensures { λ _. ⌜ now (acc .exit) ≡ fill (mixedChannel w (now (ws .entry)) (now (history .entry)) (now (row .entry)) n at which) (now (acc .entry)) ⌝ }
+    requires { ⌜ (length (now acc) ≡ length (now part)) × (at + length (now part) ≤ n) × (length (now ws) * n ≤ length (now history)) ⌝ }
+    ensures { λ _. ⌜ now (acc .exit) ≡ fill (mixedChannel w (now (ws .entry)) (now (history .entry)) (now (part .entry)) n at which) (now (acc .entry)) ⌝ }
 {
-    let count = row.len();
-    begin_line(acc, row, w, which);
+    let count = part.len();
+    begin_line(acc, part, w, which);
     let mut start = at;
     let mut j = 0;
     while j < ws.len() {
@@ -104,14 +104,14 @@ fn short() -> [f32; 64]
 }
 
 // The words of three lines of channels.
-fn finish_row(row: &mut [u32], r: &[f32], g: &[f32], b: &[f32])
-    requires { ⌜ (length (now row) ≤ length (now r)) × (length (now row) ≤ length (now g)) × (length (now row) ≤ length (now b)) ⌝ }
-    ensures { λ _. ⌜ now (row .exit)
-        ≡ fill (λ x. markClamped (rgb (at (now (r .entry)) x) (at (now (g .entry)) x) (at (now (b .entry)) x))) (now (row .entry)) ⌝ }
+fn finish_part(part: &mut [u32], r: &[f32], g: &[f32], b: &[f32])
+    requires { ⌜ (length (now part) ≤ length (now r)) × (length (now part) ≤ length (now g)) × (length (now part) ≤ length (now b)) ⌝ }
+    ensures { λ _. ⌜ now (part .exit)
+        ≡ fill (λ x. markClamped (rgb (at (now (r .entry)) x) (at (now (g .entry)) x) (at (now (b .entry)) x))) (now (part .entry)) ⌝ }
 {
     let mut i = 0usize;
-    while i < row.len() {
-        row[i] = marks::clamped(Rgb {
+    while i < part.len() {
+        part[i] = marks::clamped(Rgb {
             r: r[i],
             g: g[i],
             b: b[i],
@@ -120,25 +120,25 @@ fn finish_row(row: &mut [u32], r: &[f32], g: &[f32], b: &[f32])
     }
 }
 
-// A row that begins at word `at` of a frame of n, by way of a line for each channel. The lines are made here: a line that a function
+// A part that begins at word `at` of a frame of n, by way of a line for each channel. The lines are made here: a line that a function
 // returned would be copied.
-fn blend_row(row: &mut [u32], at: usize, n: usize, w: f32, ws: &[f32], history: &[u32])
-    requires { ⌜ (length (now row) ≤ 64) × (at + length (now row) ≤ n) × (length (now ws) * n ≤ length (now history)) ⌝ }
-    ensures { λ _. ⌜ now (row .exit) ≡ every (λ x. blendedWord w (λ j. getD (now (ws .entry)) j nan) (length (now (ws .entry)))
-        (now (history .entry)) n (at + x)) (now (row .entry)) ⌝ }
+fn blend_part(part: &mut [u32], at: usize, n: usize, w: f32, ws: &[f32], history: &[u32])
+    requires { ⌜ (length (now part) ≤ 64) × (at + length (now part) ≤ n) × (length (now ws) * n ≤ length (now history)) ⌝ }
+    ensures { λ _. ⌜ now (part .exit) ≡ every (λ x. blendedWord w (λ j. getD (now (ws .entry)) j nan) (length (now (ws .entry)))
+        (now (history .entry)) n (at + x)) (now (part .entry)) ⌝ }
 {
-    let count = row.len();
+    let count = part.len();
     let mut r = short();
-    mix_line(&mut r[..count], row, at, n, w, ws, history, 0);
+    mix_line(&mut r[..count], part, at, n, w, ws, history, 0);
     let mut g = short();
-    mix_line(&mut g[..count], row, at, n, w, ws, history, 1);
+    mix_line(&mut g[..count], part, at, n, w, ws, history, 1);
     let mut b = short();
-    mix_line(&mut b[..count], row, at, n, w, ws, history, 2);
-    finish_row(row, &r, &g, &b);
+    mix_line(&mut b[..count], part, at, n, w, ws, history, 2);
+    finish_part(part, &r, &g, &b);
 }
 
-// Where the row from `at` on ends: a line has room for 64 words.
-fn row_end(at: usize, n: usize) -> usize
+// Where the part from `at` on ends: a line has room for 64 words.
+fn part_end(at: usize, n: usize) -> usize
     requires { ⌜ at < n ⌝ }
     ensures { λ r. ⌜ (at < r) × (r ≤ n) × (r ≤ at + 64) ⌝ }
 {
@@ -192,8 +192,8 @@ fn shift(history: &mut [u32], carried: &mut [u32], depth: usize)
     }
 }
 
-// The frame by rows that the lines have room for, whatever its width.
-fn blend_rows(frame: &mut [u32], w: f32, ws: &[f32], history: &[u32])
+// The frame by parts that the lines have room for, whatever its width.
+fn blend_parts(frame: &mut [u32], w: f32, ws: &[f32], history: &[u32])
     requires { ⌜ length (now ws) * length (now frame) ≤ length (now history) ⌝ }
     ensures { λ _. ⌜ now (frame .exit) ≡ every (blendedWord w (λ j. getD (now (ws .entry)) j nan) (length (now (ws .entry)))
         (now (history .entry)) (length (now (frame .entry)))) (now (frame .entry)) ⌝ }
@@ -201,8 +201,8 @@ fn blend_rows(frame: &mut [u32], w: f32, ws: &[f32], history: &[u32])
     let n = frame.len();
     let mut at = 0;
     while at < n {
-        let end = row_end(at, n);
-        blend_row(&mut frame[at..end], at, n, w, ws, history);
+        let end = part_end(at, n);
+        blend_part(&mut frame[at..end], at, n, w, ws, history);
         at = end;
     }
 }
@@ -232,7 +232,7 @@ fn follow(
     let sum = total(amount, depth);
     let mut ws = line();
     weights(&mut ws[..depth], amount, sum);
-    blend_rows(frame, 1.0 / sum, &ws[..depth], history);
+    blend_parts(frame, 1.0 / sum, &ws[..depth], history);
     let clipped = marks::collect(frame);
     shift(history, carried, depth);
     clipped

@@ -1,7 +1,7 @@
 -- Bytes of a gap and digits, counted one by one: a loop that is at the place i. Assumes nothing.
 use Prim.Native.Nat.{ℕ, _+_, _-_, _≤_, _<_}
-use mathlib.Core.Path.{_≡_, refl, sym, ap, _∙_}
-use mathlib.Core.Bool.{Bool, true, false, not, _&&_}
+use mathlib.Core.Path.{_≡_, sym, ap, _∙_}
+use mathlib.Core.Bool.{Bool, true, false, not}
 use mathlib.Core.List.{List, _∷_}
 use native.Mathlib.Numerals.{add-one}
 use native.Mathlib.Omega.{arith}
@@ -9,6 +9,7 @@ use borrow.Author.Tests.{not-true, not-false, leb-true}
 use lib.Dec.{leb}
 use lib.ListN.{length, getD, drop, drop-of-length-le}
 use lib.Seq.{drop-cons}
+use Rattle.num.specs.Laws.Bools.{both}
 use Rattle.raster.specs.Ppm.{inGap, inComment, isDigit, grow, gapOf, digitsOf, valueOf, gapEnd, digitsEnd}
 
 -- what is counted is what was passed and what is left
@@ -43,15 +44,11 @@ module _ {bytes : List ℕ} {from : ℕ} {comment : Bool} {i : ℕ} (t : Gap byt
   unfolding gapOf
   gap-ends l = sym (t .end ∙ rw (drop-of-length-le bytes l) (omega arith))
 
-and-true : (a b : Bool) → (a && b) ≡ true → (a ≡ true) × (b ≡ true)
-and-true true b h = (refl, h)
-and-true false b h = let z : _≡_ {A = ℕ} 0 1 = cc in absurd (omega arith)
-
 -- a digit's place among the bytes
 pub digit-within : {r : Bool} (b : ℕ) → r ≡ isDigit b → not r ≡ false → (48 ≤ b) × (b - 48 ≤ 9)
 digit-within b e h =
-    let both = and-true (leb 48 b) (leb b 57) (yes e h) in
-    (leb-true 48 b (both .0), omega (arith, leb-true b 57 (both .1)))
+    let digit = both (leb 48 b) (leb b 57) (yes e h) in
+    (leb-true 48 b (digit .0), omega (arith, leb-true b 57 (digit .1)))
 
 module _ {bytes : List ℕ} {from value i : ℕ} (t : Digits bytes from value i) where
   pub digits-more : {r : Bool} {v : ℕ} → i < length bytes → r ≡ isDigit (getD bytes i 0) → not r ≡ false → v ≡ grow value (getD bytes i 0 - 48) → Digits bytes from v (i + 1)

@@ -1,10 +1,10 @@
 -- A read that was taken or refused, from its contract and the case of its answer: `search steps` closes each return of a reader. Assumes nothing.
 use Prim.Native.Nat.{ℕ}
 use mathlib.Core.Path.{_≡_, refl, ap, sym, _∙_}
-use mathlib.Core.Bool.{Bool, true, false, not, _||_}
+use mathlib.Core.Bool.{Bool, true, false, not}
 pub use borrow.Author.Tests.{eq-eqb, ne-eqb, lt-ltb, le-ltb}
 pub use Rattle.num.specs.Laws.Bools.{not-held, not-failed, or-left, or-right, or-neither}
-use Rattle.raster.specs.Step.{Step, took, refused, andThen, refuseIf}
+use Rattle.raster.specs.Step.{Step, refused, andThen, refuseIf}
 use Rattle.raster.specs.Ppm.{Size, size, parsedOf}
 use Rattle.raster.specs.Private.{numberStep, headerStep, refusalOf}
 use Rattle.raster.specs.declared.ppm.NumberRead.{NumberRead}

@@ -7,6 +7,7 @@ use native.Mathlib.Omega.{arith}
 use borrow.Author.Tests.{leb-false, ltb-false, eqb-false}
 use lib.Dec.{leb, ltb, eqb}
 use lib.ListN.{length, drop}
+use Rattle.num.specs.Laws.Bools.{neither}
 use Rattle.raster.specs.Step.{Step, took, refused, Reader, andThen, refuseIf}
 use Rattle.raster.specs.Ppm.{headerCut, badHeader, valueOf, digitsEnd, gapIn, digitsIn, numberIn, Size, size, headerIn, frameIn, parsedOf, parseOf}
 use Rattle.raster.specs.Private.{numberStep, headerStep}
@@ -68,10 +69,6 @@ pub after-header : (r : Parsed) (bytes : List ℕ) (w h start : ℕ) → headerS
 after-header r bytes w h start e g = header-inside bytes (size w h) start (sym e ∙ ap headerStep g)
 
 -- ## A frame that is taken
-
-neither : (a b : Bool) → (a || b) ≡ false → (a ≡ false) × (b ≡ false)
-neither true b h = let z : _≡_ {A = ℕ} 0 1 = cc in absurd (omega arith)
-neither false b h = (refl, h)
 
 -- no test refused it
 whole : (most : ℕ) (bytes : List ℕ) (w h start : ℕ) → (eqb w 0 || eqb h 0) ≡ false → (ltb 1024 w || (ltb 1024 h || ltb most (h * w))) ≡ false

@@ -1,23 +1,15 @@
 -- Tests in the code, one after another, decide as the definition's: `search tests` closes each return. Assumes nothing.
 use mathlib.Core.Path.{_≡_, refl, sym, _∙_}
-use mathlib.Core.Bool.{Bool, true, false, cond, _&&_, _||_}
+use mathlib.Core.Bool.{Bool, true, false, cond, _&&_}
+pub use Rattle.num.specs.Laws.Bools.{and-last, or-held, or-last}
 pub use borrow.Author.Tests.{eq-eqb, ne-eqb, le-leb, lt-leb, lt-ltb, le-ltb, not-true, not-false}
 
 -- a call's answer stands for what it was asked
 pub asked : (a b c : Bool) → b ≡ a → b ≡ c → a ≡ c
 asked a b c e h = sym e ∙ h
 
-pub or-held : (a b : Bool) → a ≡ true → true ≡ (a || b)
-or-held a b e = rw e refl
-
-pub or-last : (r a b : Bool) → a ≡ false → r ≡ b → r ≡ (a || b)
-or-last r a b e h = rw e h
-
 pub and-failed : (a b : Bool) → a ≡ false → false ≡ (a && b)
 and-failed a b e = rw e refl
-
-pub and-last : (r a b : Bool) → a ≡ true → r ≡ b → r ≡ (a && b)
-and-last r a b e h = rw e h
 
 pub cond-yes : {A : Type 0} (b : Bool) (r x y : A) → b ≡ true → r ≡ x → r ≡ cond b x y
 cond-yes b r x y e h = rw e h

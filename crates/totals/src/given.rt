@@ -18,8 +18,7 @@ pub fn room() -> [u16; 256]
 // Whether argument i is meant for an area.
 pub fn is_area(i: usize) -> bool {
     let mut text = io::buffer();
-    let loaded = input::argument(i, &mut text);
-    let n = loaded.length;
+    let n = os::arg(i, &mut text);
     area::begins(&text[..n])
 }
 
@@ -31,10 +30,19 @@ fn named(i: usize) -> Named {
     area::parse(&text[..n])
 }
 
+// Words that do not even begin as an area are meant for a picture.
+fn not_four(i: usize) {
+    says::text(b"no area: it is LEFT,TOP,WIDTH,HEIGHT, four numbers");
+    if !is_area(i) {
+        says::text(b" (a second picture stands before the areas)");
+    }
+    says::text(b"\n");
+}
+
 fn not_named(i: usize, fault: u8) {
     says::name(STDERR_FILENO, i);
     match fault {
-        1 => says::text(b"no area: it is LEFT,TOP,WIDTH,HEIGHT, four numbers\n"),
+        1 => not_four(i),
         _ => says::text(b"no area: a number is above 65535\n"),
     }
 }

@@ -9,11 +9,12 @@ mod shown; // what is written
 
 use cli::input;
 use cli::memory;
+use cli::output;
 use cli::says;
 
 fn usage() {
     says::text(
-        b"usage: totals PICTURE [PICTURE] LEFT,TOP,WIDTH,HEIGHT ..   (pictures as binary PPM, up to 256 by 240 pixels; up to 64 areas)\n",
+        b"usage: totals PICTURE [PICTURE] LEFT,TOP,WIDTH,HEIGHT ..   (pictures as binary PPM, up to 61440 pixels, no side above 1024; up to 64 areas)\n",
     );
 }
 
@@ -26,7 +27,7 @@ fn one(first: usize, areas: &[u16])
     let mut totals = measured::room();
     let read = measured::totals(1, first, &mut file, &mut words, areas, &mut totals);
     if read.ok {
-        shown::all(first, areas, &totals, read.words);
+        output::told(shown::all(first, areas, &totals, read.words));
     }
 }
 
@@ -43,7 +44,7 @@ fn two(first: usize, areas: &[u16])
     let mut others = measured::room();
     let read = measured::totals(2, first, &mut file, &mut words, areas, &mut others);
     if read.ok {
-        shown::differences(first, areas, &totals, &others);
+        output::told(shown::differences(first, areas, &totals, &others));
     }
 }
 

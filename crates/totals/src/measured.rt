@@ -39,8 +39,16 @@ fn leaves(file: &[u8], words: &mut [u32], area: &[u16]) -> bool {
     }
 }
 
-// Which of the areas leaves the picture: the first that is refused by itself. It is said behind its argument.
-fn outside(first: usize, file: &[u8], words: &mut [u32], areas: &[u16])
+// Says behind argument k, an area, that it leaves the picture that argument i names.
+fn bad_area(i: usize, k: usize) {
+    says::name(STDERR_FILENO, k);
+    says::text(b"bad area: it leaves the picture ");
+    says::argument(STDERR_FILENO, i);
+    says::text(b"\n");
+}
+
+// Which of the areas leaves the picture that argument i names: the first that is refused by itself.
+fn outside(i: usize, first: usize, file: &[u8], words: &mut [u32], areas: &[u16])
     requires { ⌜ first ≤ 3 ⌝ }
 {
     let n = areas.len() / 4;
@@ -49,8 +57,7 @@ fn outside(first: usize, file: &[u8], words: &mut [u32], areas: &[u16])
         let at = 4 * k;
         let end = at + 4;
         if leaves(file, words, &areas[at..end]) {
-            says::name(STDERR_FILENO, first + k);
-            says::text(b"bad area: it leaves the picture\n");
+            bad_area(i, first + k);
             return;
         }
         k += 1;
@@ -89,7 +96,7 @@ pub fn totals(
             refused()
         }
         Judged::Refused(_) => {
-            outside(first, &file[..n], words, areas);
+            outside(i, first, &file[..n], words, areas);
             refused()
         }
     }

@@ -1,5 +1,7 @@
-// What is written: a line for each area, behind the argument that gave it, and a last line of all.
+// What is written: a line for each area, behind the argument that gave it, and a last line of all. A function that writes lines says whether it wrote them;
+// after a line that was not written no other is.
 ghost use Prim.Native.Nat.{_<_, _≤_};
+use cli::output::end;
 use cli::says;
 use libc::STDOUT_FILENO;
 
@@ -27,7 +29,7 @@ fn difference(a: u64, b: u64) {
 }
 
 // The totals of area k, behind argument i.
-fn line(i: usize, k: usize, totals: &[u64; 192])
+fn line(i: usize, k: usize, totals: &[u64; 192]) -> bool
     requires { ⌜ k < 64 ⌝ }
 {
     says::name(STDOUT_FILENO, i);
@@ -37,21 +39,24 @@ fn line(i: usize, k: usize, totals: &[u64; 192])
     number(totals[3 * k + 1]);
     text(b", blue ");
     number(totals[3 * k + 2]);
-    text(b"\n");
+    end(b"\n")
 }
 
 // The totals of one picture.
-pub fn all(first: usize, areas: &[u16], totals: &[u64; 192], words: u32)
+pub fn all(first: usize, areas: &[u16], totals: &[u64; 192], words: u32) -> bool
     requires { ⌜ first ≤ 3 ⌝ }
 {
     let n = areas.len() / 4;
     let mut k: usize = 0;
     while k < n && k < 64 {
-        line(first + k, k, totals);
+        if !line(first + k, k, totals) {
+            return false;
+        }
         k += 1;
     }
+    text(b"words read: ");
     number(words as u64);
-    text(b" words read\n");
+    end(b"\n")
 }
 
 fn same(k: usize, a: &[u64; 192], b: &[u64; 192]) -> bool
@@ -66,15 +71,21 @@ fn same(k: usize, a: &[u64; 192], b: &[u64; 192]) -> bool
     a[3 * k + 2] == b[3 * k + 2]
 }
 
-// How area k differs, behind argument i; 1 where it does.
-fn compared(i: usize, k: usize, totals: &[u64; 192], others: &[u64; 192]) -> u64
+// 1 where area k differs, else 0.
+fn differs(k: usize, a: &[u64; 192], b: &[u64; 192]) -> u64
     requires { ⌜ k < 64 ⌝ }
     ensures { λ r. ⌜ r ≤ 1 ⌝ }
 {
+    if same(k, a, b) { 0 } else { 1 }
+}
+
+// How area k differs, behind argument i.
+fn compared(i: usize, k: usize, totals: &[u64; 192], others: &[u64; 192]) -> bool
+    requires { ⌜ k < 64 ⌝ }
+{
     says::name(STDOUT_FILENO, i);
     if same(k, totals, others) {
-        text(b"the same\n");
-        return 0;
+        return end(b"the same\n");
     }
     text(b"differs: red ");
     difference(totals[3 * k], others[3 * k]);
@@ -82,23 +93,25 @@ fn compared(i: usize, k: usize, totals: &[u64; 192], others: &[u64; 192]) -> u64
     difference(totals[3 * k + 1], others[3 * k + 1]);
     text(b", blue ");
     difference(totals[3 * k + 2], others[3 * k + 2]);
-    text(b"\n");
-    1
+    end(b"\n")
 }
 
 // Of two pictures: which area differs, and by how much the second is above the first.
-pub fn differences(first: usize, areas: &[u16], totals: &[u64; 192], others: &[u64; 192])
+pub fn differences(first: usize, areas: &[u16], totals: &[u64; 192], others: &[u64; 192]) -> bool
     requires { ⌜ first ≤ 3 ⌝ }
 {
     let n = areas.len() / 4;
     let mut different: u64 = 0;
     let mut k: usize = 0;
     while k < n && k < 64 {
-        different += compared(first + k, k, totals, others);
+        if !compared(first + k, k, totals, others) {
+            return false;
+        }
+        different += differs(k, totals, others);
         k += 1;
     }
     number(different);
     text(b" of ");
     number(n as u64);
-    text(b" areas differ\n");
+    end(b" areas differ\n")
 }

@@ -115,21 +115,11 @@ fn accepted(
     let full: Vec<&Area> = areas.iter().filter(|area| !area.is_empty()).collect();
     let right = |area: &Area| area.left + area.width == width;
     let low = |area: &Area| area.top + area.height == height;
-    let apart = |a: &Area, b: &Area| {
-        a.left >= b.left + b.width
-            || b.left >= a.left + a.width
-            || a.top >= b.top + b.height
-            || b.top >= a.top + a.height
-    };
-    let same = |a: &Area, b: &Area| {
-        (a.left, a.top, a.width, a.height) == (b.left, b.top, b.width, b.height)
-    };
-    let pairs = || (0..full.len()).flat_map(|k| (0..k).map(move |j| (j, k)));
     seen(Case::Empty, full.len() < areas.len());
-    seen(Case::Twice, pairs().any(|(j, k)| same(full[j], full[k])));
+    seen(Case::Twice, some_two(&full, |a, b| a == b));
     seen(
         Case::Overlapping,
-        pairs().any(|(j, k)| !apart(full[j], full[k]) && !same(full[j], full[k])),
+        some_two(&full, |a, b| a != b && !apart(a, b)),
     );
     seen(
         Case::Whole,
@@ -159,6 +149,20 @@ fn accepted(
     seen(Case::NoneHeld, held == 0);
     seen(Case::SomeHeld, 0 < held && held < width * height);
     seen(Case::AllHeld, held == width * height);
+}
+
+/// Whether two of them stand to each other like this.
+fn some_two(areas: &[&Area], like_this: impl Fn(&Area, &Area) -> bool) -> bool {
+    let before = |k: usize| areas[..k].iter();
+    (0..areas.len()).any(|k| before(k).any(|area| like_this(area, areas[k])))
+}
+
+/// Whether they share no word.
+fn apart(a: &Area, b: &Area) -> bool {
+    a.left >= b.left + b.width
+        || b.left >= a.left + a.width
+        || a.top >= b.top + b.height
+        || b.top >= a.top + a.height
 }
 
 fn bad_area(width: usize, height: usize, list: &[u16], room: usize, met: &mut Met<Case>) {

@@ -18,6 +18,29 @@ pub fn call(seed: u64, large: bool) -> Call {
     } else {
         size(random)
     };
+    let list = list(width, height, random);
+    let words = match random.below(48) {
+        0 => (width * height).saturating_sub(random.within(1, 3)),
+        1..8 => width * height + random.within(1, 9),
+        _ => width * height,
+    };
+    let totals = 3 * (list.len() / 4);
+    let room = match random.below(32) {
+        0 => totals.saturating_sub(random.within(1, 3)),
+        1..8 => totals + random.within(1, 5),
+        _ => totals,
+    };
+    Call {
+        // A refused size needs no picture, and none of it is looked at.
+        picture: picture(words.min(1 << 20), random),
+        width,
+        height,
+        list,
+        result: (0..room).map(|_| random.next()).collect(),
+    }
+}
+
+fn list(width: usize, height: usize, random: &mut Random) -> Vec<u16> {
     let count = if random.one_in(16) {
         random.choose(&[0, 64, 64, 65, 66])
     } else {
@@ -46,43 +69,26 @@ pub fn call(seed: u64, large: bool) -> Call {
         let place = random.below(list.len());
         list[place] = random.choose(&[1, 2, 1023, 1024, 1025, 32768, 65534, 65535]);
     }
-    let words = match random.below(48) {
-        0 => (width * height).saturating_sub(random.within(1, 3)),
-        1..8 => width * height + random.within(1, 9),
-        _ => width * height,
-    };
-    let totals = 3 * (list.len() / 4);
-    let room = match random.below(32) {
-        0 => totals.saturating_sub(random.within(1, 3)),
-        1..8 => totals + random.within(1, 5),
-        _ => totals,
-    };
-    // A refused size needs no picture, and none of it is looked at.
-    let words = words.min(1 << 20);
+    list
+}
+
+/// Of one colour, of three, or of any.
+fn picture(words: usize, random: &mut Random) -> Vec<u32> {
     let palette = random.choose(&[1, 3, 64]);
     let colour = |random: &mut Random| {
         let any = random.word();
         random.choose(&[0, u32::MAX, 0xffffff, 0xff, 0xff00, 0xff0000, any])
     };
     let colours: Vec<u32> = (0..palette).map(|_| colour(random)).collect();
-    let draw = random.next();
-    let drawn = &mut Random::new(draw);
-    let picture = (0..words)
-        .map(|_| {
-            if palette == 64 {
-                drawn.word()
-            } else {
-                drawn.choose(&colours)
-            }
-        })
-        .collect();
-    Call {
-        picture,
-        width,
-        height,
-        list,
-        result: (0..room).map(|_| random.next()).collect(),
-    }
+    let drawn = &mut Random::new(random.next());
+    let word = |_| {
+        if palette == 64 {
+            drawn.word()
+        } else {
+            drawn.choose(&colours)
+        }
+    };
+    (0..words).map(word).collect()
 }
 
 fn size(random: &mut Random) -> (usize, usize) {

@@ -5,6 +5,7 @@ pub const BAD_SIZE: u32 = 8;
 pub const SHORT_FRAME: u32 = 9;
 pub const BAD_AREA: u32 = 19;
 
+#[derive(PartialEq)]
 pub struct Area {
     pub left: usize,
     pub top: usize,

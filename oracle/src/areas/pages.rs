@@ -2,28 +2,10 @@
 
 use std::ffi::c_void;
 
-const PAGE: usize = 4096;
+use crate::pages::{self, NONE, PAGE, READ_WRITE};
 
 /// The words of a page.
 const WORDS: usize = PAGE / 4;
-
-extern "C" {
-    fn mmap(
-        at: *mut c_void,
-        len: usize,
-        access: i32,
-        flags: i32,
-        file: i32,
-        from: i64,
-    ) -> *mut c_void;
-    fn mprotect(at: *mut c_void, len: usize, access: i32) -> i32;
-    fn munmap(at: *mut c_void, len: usize) -> i32;
-}
-
-/// Of Linux on x86-64: no access, reading and writing; a mapping of one's own, of no file.
-const NONE: i32 = 0;
-const READ_WRITE: i32 = 3;
-const PRIVATE_ANONYMOUS: i32 = 0x22;
 
 pub struct Pages {
     start: *mut c_void,
@@ -34,9 +16,9 @@ pub struct Pages {
 impl Pages {
     /// A copy of the picture. It ends at the end of its last page or begins at the start of its first, as `last` says.
     pub fn new(picture: &[u32], held: &[bool], last: bool) -> Self {
-        let pages = picture.len().div_ceil(WORDS).max(1);
+        let count = picture.len().div_ceil(WORDS).max(1);
         let before = if last {
-            pages * WORDS - picture.len()
+            count * WORDS - picture.len()
         } else {
             0
         };
@@ -46,21 +28,13 @@ impl Pages {
         };
         // SAFETY: new pages, which are written, and then closed but for those with a held word.
         unsafe {
-            let start = mmap(
-                std::ptr::null_mut(),
-                pages * PAGE,
-                READ_WRITE,
-                PRIVATE_ANONYMOUS,
-                -1,
-                0,
-            );
-            assert_ne!(start as isize, -1, "no pages");
+            let start = pages::map(count * PAGE, READ_WRITE);
             let first: *mut u32 = start.cast();
             std::ptr::copy_nonoverlapping(picture.as_ptr(), first.add(before), picture.len());
-            for page in 0..pages {
+            for page in 0..count {
                 if !(page * WORDS..(page + 1) * WORDS).any(is_held) {
                     assert_eq!(
-                        mprotect(start.byte_add(page * PAGE), PAGE, NONE),
+                        pages::mprotect(start.byte_add(page * PAGE), PAGE, NONE),
                         0,
                         "a page stays open"
                     );
@@ -68,7 +42,7 @@ impl Pages {
             }
             Pages {
                 start: first.add(before).cast(),
-                bytes: pages * PAGE,
+                bytes: count * PAGE,
                 words: picture.len(),
             }
         }
@@ -85,7 +59,7 @@ impl Drop for Pages {
         let start = (self.start as usize / PAGE * PAGE) as *mut c_void;
         // SAFETY: the pages that were made above; nothing points into them any more.
         unsafe {
-            munmap(start, self.bytes);
+            pages::munmap(start, self.bytes);
         }
     }
 }

@@ -107,7 +107,7 @@ fn frame(pass: &Pass, case: &Case, room: &mut Room, tally: &mut FrameTally, at: 
             "the second writing of colour paints another picture"
         );
     }
-    held(pass, &given, asked, room, tally, at);
+    compare_shown(pass, &given, asked, room, tally, at);
 }
 
 /// Compares one frame of colour with any curve: with the second writing or, at gamma 1, with the original's.
@@ -124,7 +124,7 @@ fn curved(pass: &Pass, case: &Curved, room: &mut Room, tally: &mut FrameTally, a
         tally.curve();
         second(pass, &given)
     };
-    held(pass, &given, asked, room, tally, at);
+    compare_shown(pass, &given, asked, room, tally, at);
 }
 
 /// The gamma of colour, as it is once limited.
@@ -176,8 +176,8 @@ fn second(pass: &Pass, given: &Given) -> Shown {
     (words, clipped)
 }
 
-/// Holds the pass here to what is asked of it.
-fn held(
+/// Compares what the pass here shows with what is asked of it.
+fn compare_shown(
     pass: &Pass,
     given: &Given,
     (picture, clipped): Shown,

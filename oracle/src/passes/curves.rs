@@ -219,6 +219,12 @@ impl Curve {
         words.truncate(self.len);
         words
     }
+
+    /// As a file holds it: the least significant byte of a word first.
+    pub fn bytes(&self) -> Vec<u8> {
+        let words = self.words(self.seed);
+        words.iter().flat_map(|word| word.to_le_bytes()).collect()
+    }
 }
 
 fn any_shape(random: &mut Random) -> Shape {

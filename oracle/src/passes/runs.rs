@@ -122,6 +122,17 @@ impl Memory {
         (original, clipped)
     }
 
+    /// Adds the history to what is lent: by turns as many words as are needed, some more, and all there are.
+    fn lend<'a>(&'a mut self, needed: usize, turn: usize, lent: Lent<'a>) -> Lent<'a> {
+        let most = self.history.len();
+        let part = [needed, most.min(needed + PAST), most][turn % 3];
+        Lent {
+            history: &mut self.history[..part],
+            held: &mut self.held,
+            ..lent
+        }
+    }
+
     /// Nothing is held, and no word changes.
     fn forget(&mut self) {
         self.held = NOTHING;
@@ -187,26 +198,7 @@ pub fn compare(pass: &Pass, run: &Run, room: &mut Room, tally: &mut FrameTally, 
 
     let mut events = String::new();
     for number in 0..run.frames {
-        match random.below(16) {
-            0 => {
-                memory.reset();
-                events.push_str(" reset");
-            }
-            1 => {
-                memory.switch(false);
-                events.push_str(" off");
-            }
-            // To where it mostly stands: then nothing happens.
-            2..6 => {
-                memory.switch(true);
-                events.push_str(" on");
-            }
-            6 => (width, height) = size(run, random),
-            // Another shape of the same count: the history is filled anew.
-            7 => (width, height) = (height, width),
-            8 if width * height <= run.longest => (width, height) = (1, width * height),
-            _ => {}
-        }
+        (width, height) = event(run, &mut memory, (width, height), random, &mut events);
         events.push_str(&format!(" {width}x{height}"));
 
         let picture = Picture::random(random);
@@ -222,19 +214,12 @@ pub fn compare(pass: &Pass, run: &Run, room: &mut Room, tally: &mut FrameTally, 
         let mut here = 0;
         if on {
             memory.model.take(&given, (width, height), depth);
-            // By turns as much history as is needed, some words more, and all there is.
-            let most = memory.history.len();
-            let part = [depth * count, most.min(depth * count + PAST), most][number % 3];
             let frame = Frame {
                 words: &mut ours,
                 width,
                 height,
             };
-            let lent = Lent {
-                history: &mut memory.history[..part],
-                held: &mut memory.held,
-                ..room.lend(count, picture.seed)
-            };
+            let lent = memory.lend(depth * count, number, room.lend(count, picture.seed));
             here = (pass.ours)(&limited, frame, lent);
         }
 
@@ -259,6 +244,38 @@ pub fn compare(pass: &Pass, run: &Run, room: &mut Room, tally: &mut FrameTally, 
             return;
         }
     }
+}
+
+/// What happens before a frame, if anything does: it is added to the events. Gives the frame's size, where that of the last one is
+/// given.
+fn event(
+    run: &Run,
+    memory: &mut Memory,
+    (width, height): Size,
+    random: &mut Random,
+    events: &mut String,
+) -> Size {
+    match random.below(16) {
+        0 => {
+            memory.reset();
+            events.push_str(" reset");
+        }
+        1 => {
+            memory.switch(false);
+            events.push_str(" off");
+        }
+        // To where it mostly stands: then nothing happens.
+        2..6 => {
+            memory.switch(true);
+            events.push_str(" on");
+        }
+        6 => return size(run, random),
+        // Another shape of the same count: the history is filled anew.
+        7 => return (height, width),
+        8 if width * height <= run.longest => return (1, width * height),
+        _ => {}
+    }
+    (width, height)
 }
 
 /// Any size within the run's longest side.

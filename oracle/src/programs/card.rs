@@ -6,7 +6,7 @@ use super::process::Said;
 use crate::cards::paper::{self, Opened, Place, Record, Refusal, Value};
 use crate::met::Met;
 
-const USAGE: &str =
+pub const USAGE: &str =
     "usage: card CARD [CARD]   (a card is a file, or its bytes in hexadecimal, as \"11 A9 FC 00 00 00\")";
 
 /// For one card.
@@ -63,6 +63,9 @@ pub fn two(given: &[Given; 2], met: &mut Met<OfPair>) -> Said {
                 } else {
                     OfPair::Respelt
                 });
+                if paper::curved(&a.records).is_some() {
+                    met.note(OfPair::Curved);
+                }
                 alike(&a.records)
             }
         },
@@ -80,7 +83,12 @@ fn alike(records: &[Record]) -> String {
         None => "from the first shared frame on".to_string(),
         Some(depth) => format!("after {depth} shared frames, or from a shared reset on"),
     };
-    format!("alike: the same settings; the pictures are the same {when}")
+    // Document 02, P3: their calls also lend equal curves.
+    let curve = match paper::curved(records) {
+        None => "",
+        Some(_) => ", where both are lent the same curve",
+    };
+    format!("alike: the same settings; the pictures are the same {when}{curve}")
 }
 
 /// The argument, and the card in words below it.

@@ -1,7 +1,7 @@
 //! Cards for the programs: good ones with settings of every size, damaged ones, and pairs that are alike or differ in
 //! one thing or two. And the ways in which an argument gives a card.
 
-use super::process::{Bytes, FOLDER, MISSING};
+use super::process::{FOLDER, MISSING};
 use crate::cards::damage::{self, any_order, bytes, chain, damaged, swapped};
 use crate::cards::paper::{self, fields, put, Field, Opened, Record};
 use crate::cards::spelling::{head, respelt};
@@ -212,11 +212,17 @@ pub struct Given {
     pub argument: String,
     /// What the file of that name holds, if there is one.
     pub file: Option<Vec<u8>>,
-    pub card: Bytes,
+    /// Or what is said where there is none.
+    pub card: Result<Vec<u8>, String>,
+}
+
+/// What is said of an argument that is no hexadecimal, with what the system says of the file that it names.
+pub(super) fn neither(why: &str) -> String {
+    format!("neither hexadecimal (two digits for each byte) nor a file that can be read: {why}")
 }
 
 /// The longest argument that the programs take.
-const LONGEST: usize = 4096;
+pub(super) const LONGEST: usize = 4096;
 
 /// Names of files that are nowhere near hexadecimal.
 const NAMES: [&str; 8] = [
@@ -262,8 +268,8 @@ pub fn given(card: &[u8], random: &mut Random) -> Given {
             (Some(card.to_vec()), Ok(card.to_vec()))
         }
         Way::AlsoFile => (Some(good(random)), Ok(card.to_vec())),
-        Way::Missing => (None, MISSING),
-        Way::Folder => (None, FOLDER),
+        Way::Missing => (None, MISSING.map_err(neither)),
+        Way::Folder => (None, FOLDER.map_err(neither)),
         _ => (None, Ok(card.to_vec())),
     };
     Given {

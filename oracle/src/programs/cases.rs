@@ -102,9 +102,10 @@ impl Listed for OfCard {
 /// At a pair of cards.
 #[derive(Clone, Copy, PartialEq, Debug)]
 pub enum OfPair {
-    /// Alike, with the same bytes or spelt differently.
+    /// Alike, with the same bytes or spelt differently; and one of these with a gamma other than 1.
     Same,
     Respelt,
+    Curved,
     /// The first difference: one chain is longer, another kind, another switch, or the setting at this place.
     FirstLonger,
     SecondLonger,
@@ -124,6 +125,7 @@ impl Listed for OfPair {
     const ALL: &'static [OfPair] = &[
         OfPair::Same,
         OfPair::Respelt,
+        OfPair::Curved,
         OfPair::FirstLonger,
         OfPair::SecondLonger,
         OfPair::Kind,

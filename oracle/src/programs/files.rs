@@ -125,10 +125,11 @@ fn options(read: bool, random: &mut Random) -> Vec<Flag> {
 
 /// A file with a curve, or with what is none in a few cases.
 fn curve(gamma: f32, random: &mut Random) -> File {
-    let mut bytes = bytes_of(&Curve {
+    let good = Curve {
         len: READ,
         ..Curve::good(gamma, random)
-    });
+    };
+    let mut bytes = good.bytes();
     let name = random.choose(&["curve", "a curve ", "-2.2", "C0FFEE"]);
     match random.below(32) {
         0 => {
@@ -153,7 +154,7 @@ fn curve(gamma: f32, random: &mut Random) -> File {
         5..9 => {
             let len = READ;
             let bad = Curve::bad(random);
-            bytes = bytes_of(&Curve { len, ..bad });
+            bytes = Curve { len, ..bad }.bytes();
         }
         _ => {}
     }
@@ -161,12 +162,6 @@ fn curve(gamma: f32, random: &mut Random) -> File {
         name: name.to_string(),
         bytes: Ok(bytes),
     }
-}
-
-/// Its words, the least significant byte first.
-fn bytes_of(curve: &Curve) -> Vec<u8> {
-    let words = curve.words(curve.seed);
-    words.iter().flat_map(|word| word.to_le_bytes()).collect()
 }
 
 /// A good card, of no dearer passes than these pixels allow.
@@ -243,7 +238,7 @@ enum Gaps {
     Comments,
 }
 
-fn header(width: usize, height: usize, random: &mut Random) -> Vec<u8> {
+pub(super) fn header(width: usize, height: usize, random: &mut Random) -> Vec<u8> {
     spelt([&width.to_string(), &height.to_string(), "255"], random)
 }
 

@@ -14,7 +14,7 @@ use crate::passes::chain::{COLOUR, PERSISTENCE};
 use crate::passes::curves;
 
 const USAGE: &str = "usage: filter [--clipped] [--curve FILE] CARD FRAME..   \
-    (a card as a file or in hexadecimal; frames as binary PPM, up to 61440 pixels; a curve as 256 binary32)";
+    (a card as a file or in hexadecimal; frames as binary PPM, up to 61440 pixels, no side above 1024; a curve as 256 binary32)";
 
 /// Why a file holds no curve.
 const OTHER_LENGTH: &str =

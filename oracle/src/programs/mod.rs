@@ -9,8 +9,12 @@ pub mod compare;
 mod files;
 #[cfg(with_original)]
 mod filter;
+#[cfg(fuzz)]
+mod fuzz;
 #[cfg(with_original)]
 mod ppm;
-mod process;
+pub mod process;
+#[cfg(with_original)]
+pub mod seeds;
 #[cfg(with_original)]
 mod totals;

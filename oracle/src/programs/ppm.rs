@@ -65,6 +65,17 @@ pub fn taken(file: &[u8]) -> Result<Frame, Fault> {
 }
 
 fn read(file: &[u8]) -> Result<Frame, Fault> {
+    let frame = header(file)?;
+    let needed = 3 * frame.width * frame.height;
+    match file.len() - frame.start {
+        few if few < needed => Err(Fault::PixelsCut),
+        many if many > needed => Err(Fault::LeftOver),
+        _ => Ok(frame),
+    }
+}
+
+/// The frame that a file begins, whatever comes after its header.
+pub fn header(file: &[u8]) -> Result<Frame, Fault> {
     let rest = match file {
         [] => return Err(Fault::Empty),
         [b'P', b'6', rest @ ..] => rest,
@@ -85,16 +96,11 @@ fn read(file: &[u8]) -> Result<Frame, Fault> {
     if width > most || height > most || width * height > PIXELS as u64 {
         return Err(Fault::TooLarge);
     }
-    let (width, height) = (width as usize, height as usize);
-    match header.rest.len() {
-        few if few < 3 * width * height => Err(Fault::PixelsCut),
-        many if many > 3 * width * height => Err(Fault::LeftOver),
-        _ => Ok(Frame {
-            width,
-            height,
-            start: file.len() - header.rest.len(),
-        }),
-    }
+    Ok(Frame {
+        width: width as usize,
+        height: height as usize,
+        start: file.len() - header.rest.len(),
+    })
 }
 
 fn white(byte: u8) -> bool {

@@ -8,7 +8,7 @@ use crate::met::{Listed, Met};
 use crate::random::Random;
 
 const USAGE: &str = "usage: totals PICTURE [PICTURE] LEFT,TOP,WIDTH,HEIGHT ..   \
-    (pictures as binary PPM, up to 256 by 240 pixels; up to 64 areas)";
+    (pictures as binary PPM, up to 61440 pixels, no side above 1024; up to 64 areas)";
 
 /// What may happen at a run.
 #[derive(Clone, Copy, PartialEq, Debug)]
@@ -23,8 +23,9 @@ pub enum OfTotals {
     Empty,
     Help,
     NoArea,
-    /// Words that are no area, and a number that is too large.
+    /// Words that are no area, a picture among the areas, and a number that is too large.
     NotFour,
+    LatePicture,
     TooLarge,
     TooMany,
     /// An area leaves the first picture, or only the second; and an empty one.
@@ -48,6 +49,7 @@ impl Listed for OfTotals {
         OfTotals::Help,
         OfTotals::NoArea,
         OfTotals::NotFour,
+        OfTotals::LatePicture,
         OfTotals::TooLarge,
         OfTotals::TooMany,
         OfTotals::OutsideFirst,
@@ -107,6 +109,9 @@ pub fn run(seed: u64) -> Run {
     if !areas.is_empty() && random.one_in(if leaves { 5 } else { 20 }) {
         let place = random.below(areas.len());
         areas[place] = spoilt(random);
+    }
+    if !areas.is_empty() && random.one_in(20) {
+        areas.push(random.choose(&["two.ppm", "-1,0,1,1", ""]).to_string());
     }
     Run { pictures, areas }
 }
@@ -217,7 +222,7 @@ fn played(run: &Run, met: &mut Met<OfTotals>) -> Result<String, Said> {
             for (words, [red, green, blue]) in run.areas.iter().zip(totals) {
                 text += &format!("{words}: red {red}, green {green}, blue {blue}\n");
             }
-            text += &format!("{words} words read\n");
+            text += &format!("words read: {words}\n");
         }
         [(first, _), (second, _)] => {
             let mut different = 0;
@@ -254,11 +259,17 @@ fn named(words: &str, met: &mut Met<OfTotals>) -> Result<Area, Said> {
     let parts: Vec<&str> = words.split(',').collect();
     let digits = |part: &&str| !part.is_empty() && part.bytes().all(|byte| byte.is_ascii_digit());
     if parts.len() != 4 || !parts.iter().all(digits) {
-        met.note(OfTotals::NotFour);
-        return Err(Said::refusal(
-            words,
-            "no area: it is LEFT,TOP,WIDTH,HEIGHT, four numbers",
-        ));
+        // What does not begin with a digit is taken for a picture.
+        let late = !words.starts_with(|first: char| first.is_ascii_digit());
+        let more = if late {
+            met.note(OfTotals::LatePicture);
+            " (a second picture stands before the areas)"
+        } else {
+            met.note(OfTotals::NotFour);
+            ""
+        };
+        let why = format!("no area: it is LEFT,TOP,WIDTH,HEIGHT, four numbers{more}");
+        return Err(Said::refusal(words, &why));
     }
     let numbers: Option<Vec<u16>> = parts.iter().map(|part| part.parse().ok()).collect();
     let Some(numbers) = numbers else {
@@ -297,7 +308,8 @@ fn measured(
             if area.width * area.height == 0 {
                 met.note(OfTotals::EmptyOutside);
             }
-            return Err(Said::refusal(words, "bad area: it leaves the picture"));
+            let why = format!("bad area: it leaves the picture {}", file.name);
+            return Err(Said::refusal(words, &why));
         }
     }
     let pixels = &bytes[frame.start..];

@@ -6,7 +6,7 @@ use super::calls::{self, Call, Frame, Sizes};
 use super::cards;
 use super::cases::Point;
 use super::noise::Noise;
-use super::sides::Held;
+use super::sides::Checked;
 use super::station::{Pending, Station};
 use crate::bridge::{self, Answer, Lent, State};
 use crate::cards::spelling;
@@ -46,7 +46,7 @@ pub fn compare(seed: u64, at: usize, tally: &mut RunTally, met: &mut Met<Point>)
     })
 }
 
-fn trial(random: &mut Random, tally: &mut RunTally, met: &mut Met<Point>) -> Held<bool> {
+fn trial(random: &mut Random, tally: &mut RunTally, met: &mut Met<Point>) -> Checked<bool> {
     let (mut a, mut b) = pair(random, met)?;
     own_list(&mut a, random, tally, met)?;
     own_list(&mut b, random, tally, met)?;
@@ -70,7 +70,7 @@ fn trial(random: &mut Random, tally: &mut RunTally, met: &mut Met<Point>) -> Hel
 }
 
 /// Two stations from the same card, spelt differently or alike.
-fn pair(random: &mut Random, met: &mut Met<Point>) -> Held<(Own, Own)> {
+fn pair(random: &mut Random, met: &mut Met<Point>) -> Checked<(Own, Own)> {
     let card = if random.one_in(8) {
         cards::card(random)
     } else {
@@ -92,7 +92,7 @@ fn pair(random: &mut Random, met: &mut Met<Point>) -> Held<(Own, Own)> {
     ))
 }
 
-fn own(card: &[u8], station: &Station, longest: usize, random: &mut Random) -> Held<Own> {
+fn own(card: &[u8], station: &Station, longest: usize, random: &mut Random) -> Checked<Own> {
     let mut state = [0xa5; 80];
     let answer = bridge::open(card, &mut state);
     if (answer, state) != (Ok(0), station.state()) {
@@ -122,7 +122,7 @@ fn own_list(
     random: &mut Random,
     tally: &mut RunTally,
     met: &mut Met<Point>,
-) -> Held {
+) -> Checked {
     for _ in 0..random.below(20) {
         let call = calls::next(&own.station, &mut own.sizes, own.history.len(), random);
         let before = own.station.clone();
@@ -148,7 +148,7 @@ fn turns(before: &Station, call: &Call, answer: Answer) -> bool {
 }
 
 /// The last frames of `b` are those of a station that stands as `a` does, turned.
-fn turn(a: &Own, b: &mut Own, random: &mut Random, tally: &mut RunTally) -> Held {
+fn turn(a: &Own, b: &mut Own, random: &mut Random, tally: &mut RunTally) -> Checked {
     let (width, height) = a.sizes.last;
     b.sizes.last = (height, width);
     for _ in 0..random.within(1, 3) {
@@ -159,7 +159,7 @@ fn turn(a: &Own, b: &mut Own, random: &mut Random, tally: &mut RunTally) -> Held
 }
 
 /// Makes the switches of `b`, one kind after another, the preset and the pending switch those of `a`.
-fn equalise(a: &Own, b: &mut Own, random: &mut Random, tally: &mut RunTally) -> Held {
+fn equalise(a: &Own, b: &mut Own, random: &mut Random, tally: &mut RunTally) -> Checked {
     let asked = a.station.pending;
     // A commit alone clears another record. What it switches is made equal with the others.
     let another = b.station.pending != asked;
@@ -259,7 +259,7 @@ fn shared_list(
     random: &mut Random,
     tally: &mut RunTally,
     met: &mut Met<Point>,
-) -> Held<bool> {
+) -> Checked<bool> {
     let room = a.history.len().min(b.history.len());
     let mut course = Course::new(&a.station, met);
     let mut differed = false;
@@ -328,7 +328,7 @@ fn shared_call(a: &mut Own, room: usize, random: &mut Random) -> Call {
 impl Own {
     /// Makes a call and holds the answer and the state to the paper's station. What is not the call's own, noise
     /// in the scratch, past the picture and past what is read of the curve, is another each time.
-    fn call(&mut self, call: &Call, random: &mut Random, tally: &mut RunTally) -> Held<Seen> {
+    fn call(&mut self, call: &Call, random: &mut Random, tally: &mut RunTally) -> Checked<Seen> {
         let mut picture = Vec::new();
         let (here, asked) = match call {
             Call::Frame(frame) => {

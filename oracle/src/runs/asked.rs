@@ -2,7 +2,7 @@
 //! written out here, with no model beside them.
 
 use super::cards;
-use super::sides::Held;
+use super::sides::Checked;
 use super::station::HEIGHT_END;
 use super::still;
 use crate::bridge::{self, Answer, Lent, State};
@@ -53,144 +53,147 @@ pub fn cards(mode: Mode) -> Vec<Vec<u8>> {
 pub fn compare(card: &Vec<u8>, at: usize, tally: &mut RunTally, met: &mut Met<Told>) {
     for (name, list) in LISTS {
         tally.begin();
-        if let Err(text) = Desk::opened(card, tally, met).and_then(|mut desk| list(&mut desk)) {
+        let opened = Tested::opened(card, tally, met);
+        if let Err(text) = opened.and_then(|mut station| list(&mut station)) {
             tally.differ(at, || format!("{name}, card {card:02x?}: {text}"));
         }
     }
 }
 
-const LISTS: [(&str, fn(&mut Desk) -> Held); 7] = [
+const LISTS: [(&str, fn(&mut Tested) -> Checked); 7] = [
     ("asked once", once),
     ("asked for what is not there", absent),
     ("asked for as it stands", present),
     ("switched in between", between),
     ("kept by every other call", kept),
     ("shown until the commit", shown),
-    ("broken records", broken),
+    ("pending switches that no station has", bad),
 ];
 
 /// One switch is asked for, and no other until it is committed.
-fn once(desk: &mut Desk) -> Held {
-    desk.refuses("commit", 18, COMMIT)?;
-    for kind in desk.kinds() {
+fn once(station: &mut Tested) -> Checked {
+    station.refuses("commit", 18, COMMIT)?;
+    for kind in station.kinds() {
         for on in [0, 1, 255] {
-            desk.frame()?;
-            desk.ask(kind, on)?;
-            for other in desk.kinds() {
-                desk.refuses_to_ask(other, on, 17)?;
-                desk.refuses_to_ask(other, 1 - on.min(1), 17)?;
+            station.frame()?;
+            station.ask(kind, on)?;
+            for other in station.kinds() {
+                station.refuses_to_ask(other, on, 17)?;
+                station.refuses_to_ask(other, 1 - on.min(1), 17)?;
             }
             for other in [0, 11, 255] {
-                desk.refuses_to_ask(other, on, 12)?;
+                station.refuses_to_ask(other, on, 12)?;
             }
-            desk.commit()?;
-            desk.is_on(kind, on != 0)?;
-            desk.refuses("commit", 18, COMMIT)?;
+            station.commit()?;
+            station.is_on(kind, on != 0)?;
+            station.refuses("commit", 18, COMMIT)?;
         }
     }
     Ok(())
 }
 
 /// A kind that is not in the chain, and bytes that are no kind.
-fn absent(desk: &mut Desk) -> Held {
+fn absent(station: &mut Tested) -> Checked {
     for kind in 0..=255 {
-        if !desk.kinds().contains(&kind) {
-            desk.refuses_to_ask(kind, 0, 12)?;
-            desk.refuses_to_ask(kind, 1, 12)?;
+        if !station.kinds().contains(&kind) {
+            station.refuses_to_ask(kind, 0, 12)?;
+            station.refuses_to_ask(kind, 1, 12)?;
         }
     }
     Ok(())
 }
 
 /// The position in which a switch stands: nothing is another after the commit, not even what is held.
-fn present(desk: &mut Desk) -> Held {
-    for kind in desk.kinds() {
-        desk.frame()?;
-        let before = desk.state;
+fn present(station: &mut Tested) -> Checked {
+    for kind in station.kinds() {
+        station.frame()?;
+        let before = station.state;
         let on = bridge::enabled(&before, kind).unwrap_or_default();
-        desk.ask(kind, on as u8)?;
-        desk.commit()?;
-        desk.stands(&before)?;
+        station.ask(kind, on as u8)?;
+        station.commit()?;
+        station.stands(&before)?;
     }
     Ok(())
 }
 
-/// A plain switch leaves the record, and the commit still does what was asked.
-fn between(desk: &mut Desk) -> Held {
-    for kind in desk.kinds() {
+/// A plain switch leaves what is pending, and the commit still does what was asked.
+fn between(station: &mut Tested) -> Checked {
+    for kind in station.kinds() {
         for on in [0, 1] {
-            desk.ask(kind, on)?;
+            station.ask(kind, on)?;
             for position in [on, 1 - on] {
-                let record = desk.record();
-                desk.takes("switch", |state, _| {
+                let pending = station.pending();
+                station.takes("switch", |state, _| {
                     bridge::set_enabled(state, kind, position)
                 })?;
-                desk.is_on(kind, position != 0)?;
-                same("record", desk.record(), record)?;
+                station.is_on(kind, position != 0)?;
+                same("pending switch", station.pending(), pending)?;
             }
-            desk.frame()?;
-            desk.commit()?;
-            desk.is_on(kind, on != 0)?;
+            station.frame()?;
+            station.commit()?;
+            station.is_on(kind, on != 0)?;
         }
     }
     Ok(())
 }
 
-/// Each other call gives what it gives where nothing is pending, and leaves the record. So a card shows the switches as they are.
-fn kept(desk: &mut Desk) -> Held {
-    for kind in desk.kinds() {
+/// Each other call gives what it gives where nothing is pending, and leaves what is pending. So a card shows the switches as they are.
+fn kept(station: &mut Tested) -> Checked {
+    for kind in station.kinds() {
         for on in [0, 1] {
-            desk.ask(kind, on)?;
+            station.ask(kind, on)?;
             for (what, call) in OTHERS {
-                let record = desk.record();
-                let (mut state, mut lent) = (with_record(&desk.state, NONE), desk.lent.clone());
+                let pending = station.pending();
+                let mut state = with_pending(&station.state, NONE);
+                let mut lent = station.lent.clone();
                 let asked = call(&mut state, &mut lent);
-                desk.call(what, asked, call)?;
-                desk.stands(&with_record(&state, record))?;
-                if desk.lent != lent {
+                station.call(what, asked, call)?;
+                station.stands(&with_pending(&state, pending))?;
+                if station.lent != lent {
                     return Err(format!("{what}: another picture, history or card"));
                 }
             }
-            desk.commit()?;
+            station.commit()?;
         }
     }
     Ok(())
 }
 
 /// Persistence of 0.5 and depth 1 that is to be off: the ghost is shown up to the commit, and the frame after it as it is.
-fn shown(desk: &mut Desk) -> Held {
-    if desk.state[1..8] != still::card(0.5, 1) {
+fn shown(station: &mut Tested) -> Checked {
+    if station.state[1..8] != still::card(0.5, 1) {
         return Ok(());
     }
-    desk.shows(0xff_ffff, 0xff_ffff)?;
-    desk.ask(PERSISTENCE as u8, 0)?;
-    desk.shows(0x00_0000, 0x55_5555)?;
-    desk.shows(0xff_ffff, 0xaa_aaaa)?;
-    desk.commit()?;
-    desk.shows(0x00_0000, 0x00_0000)?;
+    station.shows(0xff_ffff, 0xff_ffff)?;
+    station.ask(PERSISTENCE as u8, 0)?;
+    station.shows(0x00_0000, 0x55_5555)?;
+    station.shows(0xff_ffff, 0xaa_aaaa)?;
+    station.commit()?;
+    station.shows(0x00_0000, 0x00_0000)?;
     // On again, it begins anew.
-    desk.ask(PERSISTENCE as u8, 1)?;
-    desk.commit()?;
-    desk.shows(0xff_ffff, 0xff_ffff)?;
-    desk.shows(0x00_0000, 0x55_5555)
+    station.ask(PERSISTENCE as u8, 1)?;
+    station.commit()?;
+    station.shows(0xff_ffff, 0xff_ffff)?;
+    station.shows(0x00_0000, 0x55_5555)
 }
 
-/// A record that no station has: a kind that is not in the chain, a position without a kind or above 1, a byte behind it.
-fn broken(desk: &mut Desk) -> Held {
-    let kinds = desk.kinds();
-    let mut records = vec![[255, 1, 0], [0, 1, 0], [0, 2, 0], [0, 0, 1], [0, 0, 255]];
+/// A pending switch that no station has: of a kind that is not in the chain, with a position but no kind, with a position above 1, with
+/// a last byte that is not 0.
+fn bad(station: &mut Tested) -> Checked {
+    let kinds = station.kinds();
+    let mut switches = vec![[255, 1, 0], [0, 1, 0], [0, 2, 0], [0, 0, 1], [0, 0, 255]];
     for kind in 1..=11 {
-        records.extend(if kinds.contains(&kind) {
+        switches.extend(if kinds.contains(&kind) {
             [[kind, 2, 0], [kind, 255, 0], [kind, 1, 1], [kind, 0, 128]].to_vec()
         } else {
             [[kind, 0, 0], [kind, 1, 0]].to_vec()
         });
     }
-    for record in records {
-        desk.state = with_record(&desk.state, record);
+    for pending in switches {
+        station.state = with_pending(&station.state, pending);
         let asking: (&str, Call) = ("ask", |state, _| bridge::ask(state, PERSISTENCE as u8, 1));
         for (what, call) in OTHERS.into_iter().chain([asking, ("commit", COMMIT)]) {
-            desk.refuses(what, 13, call)?;
+            station.refuses(what, 13, call)?;
         }
     }
     Ok(())
@@ -269,31 +272,31 @@ impl Buffers {
 const NONE: [u8; 3] = [0; 3];
 
 /// The state with these bytes for its pending switch.
-fn with_record(state: &State, record: [u8; 3]) -> State {
+fn with_pending(state: &State, pending: [u8; 3]) -> State {
     let mut state = *state;
-    state[HEIGHT_END..].copy_from_slice(&record);
+    state[HEIGHT_END..].copy_from_slice(&pending);
     state
 }
 
-/// A station, what is lent to it, and the counts.
-struct Desk<'a> {
+/// The station that is tested, what is lent to it, and the counts.
+struct Tested<'a> {
     state: State,
     lent: Buffers,
     tally: &'a mut RunTally,
     met: &'a mut Met<Told>,
 }
 
-impl<'a> Desk<'a> {
-    fn opened(card: &[u8], tally: &'a mut RunTally, met: &'a mut Met<Told>) -> Held<Self> {
-        let mut desk = Desk {
+impl<'a> Tested<'a> {
+    fn opened(card: &[u8], tally: &'a mut RunTally, met: &'a mut Met<Told>) -> Checked<Self> {
+        let mut station = Tested {
             state: [0xa5; 80],
             lent: Buffers::new(),
             tally,
             met,
         };
-        desk.takes("open", |state, _| bridge::open(card, state))?;
-        same("record", desk.record(), NONE)?;
-        Ok(desk)
+        station.takes("open", |state, _| bridge::open(card, state))?;
+        same("pending switch", station.pending(), NONE)?;
+        Ok(station)
     }
 
     /// Those of the chain, by the card that the state holds.
@@ -304,7 +307,7 @@ impl<'a> Desk<'a> {
     }
 
     /// The three bytes of the pending switch.
-    fn record(&self) -> [u8; 3] {
+    fn pending(&self) -> [u8; 3] {
         let [.., kind, on, behind] = self.state;
         [kind, on, behind]
     }
@@ -315,7 +318,7 @@ impl<'a> Desk<'a> {
         what: &str,
         asked: Answer,
         call: impl FnOnce(&mut State, &mut Buffers) -> Answer,
-    ) -> Held {
+    ) -> Checked {
         let (state, lent) = (self.state, self.lent.clone());
         let here = call(&mut self.state, &mut self.lent);
         same(what, here, asked)?;
@@ -332,56 +335,60 @@ impl<'a> Desk<'a> {
     }
 
     /// One that is accepted and reports nothing.
-    fn takes(&mut self, what: &str, call: impl FnOnce(&mut State, &mut Buffers) -> Answer) -> Held {
+    fn takes(
+        &mut self,
+        what: &str,
+        call: impl FnOnce(&mut State, &mut Buffers) -> Answer,
+    ) -> Checked {
         self.call(what, Ok(0), call)
     }
 
-    fn refuses(&mut self, what: &str, number: u32, call: Call) -> Held {
+    fn refuses(&mut self, what: &str, number: u32, call: Call) -> Checked {
         self.call(what, Err(number), call)
     }
 
-    fn refuses_to_ask(&mut self, kind: u8, on: u8, number: u32) -> Held {
+    fn refuses_to_ask(&mut self, kind: u8, on: u8, number: u32) -> Checked {
         let what = format!("ask {kind} {on}");
         self.call(&what, Err(number), |state, _| bridge::ask(state, kind, on))
     }
 
-    /// Asks for a switch: the record is another, and nothing else.
-    fn ask(&mut self, kind: u8, on: u8) -> Held {
-        let after = with_record(&self.state, [kind, u8::from(on != 0), 0]);
+    /// Asks for a switch: what is pending is another, and nothing else.
+    fn ask(&mut self, kind: u8, on: u8) -> Checked {
+        let after = with_pending(&self.state, [kind, u8::from(on != 0), 0]);
         let what = format!("ask {kind} {on}");
         self.takes(&what, |state, _| bridge::ask(state, kind, on))?;
         self.stands(&after)
     }
 
     /// Commits: the state is that of a switch at once, and nothing is pending.
-    fn commit(&mut self) -> Held {
-        let [kind, on, _] = self.record();
-        let mut after = with_record(&self.state, NONE);
+    fn commit(&mut self) -> Checked {
+        let [kind, on, _] = self.pending();
+        let mut after = with_pending(&self.state, NONE);
         same("switch", bridge::set_enabled(&mut after, kind, on), Ok(0))?;
         self.takes("commit", COMMIT)?;
         self.stands(&after)
     }
 
-    fn is_on(&mut self, kind: u8, on: bool) -> Held {
+    fn is_on(&mut self, kind: u8, on: bool) -> Checked {
         let what = format!("the switch of kind {kind}");
         self.call(&what, Ok(on.into()), |state, _| {
             bridge::enabled(state, kind)
         })
     }
 
-    fn stands(&self, asked: &State) -> Held {
+    fn stands(&self, asked: &State) -> Checked {
         same("state", self.state, *asked)
     }
 
     /// A frame, so that something is held where persistence is on.
-    fn frame(&mut self) -> Held {
+    fn frame(&mut self) -> Checked {
         still::accepted(self.lent.frame(&mut self.state, SIZE), self.tally)?;
         self.tally.frame(COUNT);
         Ok(())
     }
 
     /// A frame of one word, and what is shown of it.
-    fn shows(&mut self, word: u32, picture: u32) -> Held {
+    fn shows(&mut self, word: u32, picture: u32) -> Checked {
         self.lent.framebuffer[0] = word;
         still::accepted(self.lent.frame(&mut self.state, (1, 1)), self.tally)?;
         self.tally.frame(1);
@@ -389,7 +396,7 @@ impl<'a> Desk<'a> {
     }
 }
 
-fn same<T: PartialEq + std::fmt::Debug>(what: &str, here: T, asked: T) -> Held {
+fn same<T: PartialEq + std::fmt::Debug>(what: &str, here: T, asked: T) -> Checked {
     if here == asked {
         return Ok(());
     }

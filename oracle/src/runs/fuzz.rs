@@ -5,10 +5,11 @@ use super::calls::{Call, Frame};
 use super::cases::Case;
 use super::noise::Noise;
 use super::run::open_both;
-use super::sides::{Held, Sides};
+use super::sides::{Checked, Sides};
 use super::station::{float_room, Lengths, Station};
 use crate::bridge::State;
-use crate::fuzz;
+use crate::cards::paper::Size;
+use crate::fuzz::{self, Tape};
 use crate::met::Met;
 use crate::passes::curves::{Curve, ODD, READ};
 use crate::passes::frames::{Picture, KINDS};
@@ -39,40 +40,13 @@ const SIDES: [usize; 12] = [
     usize::MAX,
 ];
 
-/// The fuzzer's bytes in turn, and zeros after the last.
-struct Tape<'a> {
-    rest: &'a [u8],
-    /// The size of the last frame.
-    size: (usize, usize),
-}
-
-impl Tape<'_> {
-    fn byte(&mut self) -> u8 {
-        let Some((&byte, rest)) = self.rest.split_first() else {
-            return 0;
-        };
-        self.rest = rest;
-        byte
-    }
-
-    fn bytes(&mut self, count: usize) -> Vec<u8> {
-        (0..count).map(|_| self.byte()).collect()
-    }
-
-    /// A side of a frame: mostly a short one.
-    fn side(&mut self) -> usize {
-        let byte = usize::from(self.byte());
-        match byte {
-            0..160 => 1 + byte % 16,
-            160..244 => byte - 160,
-            _ => SIDES[byte - 244],
-        }
-    }
-
-    /// Up to 128 more than this, or less.
-    fn near(&mut self, needed: usize) -> usize {
-        let more = self.byte() as i8;
-        needed.saturating_add_signed(more.into())
+/// A side of a frame: mostly a short one.
+fn side(tape: &mut Tape) -> usize {
+    let byte = usize::from(tape.byte());
+    match byte {
+        0..160 => 1 + byte % 16,
+        160..244 => byte - 160,
+        _ => SIDES[byte - 244],
     }
 }
 
@@ -88,17 +62,16 @@ extern "C" fn fuzz_bridge(data: *const u8, len: usize) -> i32 {
     0
 }
 
-fn play(input: &[u8], met: &mut Met<Case>) -> Held {
-    let tape = &mut Tape {
-        rest: input,
-        size: (1, 1),
-    };
+fn play(input: &[u8], met: &mut Met<Case>) -> Checked {
+    let tape = &mut Tape { rest: input };
     let random = &mut Random::new(tape.byte().into());
     let Some(state) = begin(tape, random, met)? else {
         return Ok(());
     };
     let mut sides = Sides::new(state, Noise::any(random.next()).words(HISTORY));
     let tally = &mut RunTally::new("fuzz");
+    // Of the last frame.
+    let mut size = (1, 1);
     let mut words = 0;
     while !tape.rest.is_empty() && words < ALL {
         if tape.byte() % 16 == 15 {
@@ -107,7 +80,7 @@ fn play(input: &[u8], met: &mut Met<Case>) -> Held {
             let good = sides.machine.station().is_some();
             met.note(if good { Case::Another } else { Case::Bad });
         }
-        let call = call(tape, &sides);
+        let call = call(tape, &mut size, &sides);
         if let Call::Frame(frame) = &call {
             words += frame.lent.framebuffer;
         }
@@ -119,7 +92,7 @@ fn play(input: &[u8], met: &mut Met<Case>) -> Held {
 }
 
 /// The state that the bytes begin with, or that of their card; none where the card is refused.
-fn begin(tape: &mut Tape, random: &mut Random, met: &mut Met<Case>) -> Held<Option<State>> {
+fn begin(tape: &mut Tape, random: &mut Random, met: &mut Met<Case>) -> Checked<Option<State>> {
     let length = tape.byte();
     if length >= STATE {
         let mut state = [0; 80];
@@ -136,16 +109,16 @@ fn damaged(mut state: State, tape: &mut Tape) -> State {
     state
 }
 
-fn call(tape: &mut Tape, sides: &Sides) -> Call {
+fn call(tape: &mut Tape, size: &mut Size, sides: &Sides) -> Call {
     match tape.byte() % 16 {
-        0..4 => Call::Frame(frame(tape, sides)),
+        0..4 => Call::Frame(frame(tape, *size, sides)),
         4 => {
-            tape.size = (tape.size.1, tape.size.0);
-            Call::Frame(frame(tape, sides))
+            *size = (size.1, size.0);
+            Call::Frame(frame(tape, *size, sides))
         }
         5..8 => {
-            tape.size = (tape.side(), tape.side());
-            Call::Frame(frame(tape, sides))
+            *size = (side(tape), side(tape));
+            Call::Frame(frame(tape, *size, sides))
         }
         8 => Call::Reset,
         9 => Call::Switch(tape.byte(), tape.byte()),
@@ -158,8 +131,7 @@ fn call(tape: &mut Tape, sides: &Sides) -> Call {
 }
 
 /// A frame with exactly what it needs, or with lengths near it. One that is too large is lent too little.
-fn frame(tape: &mut Tape, sides: &Sides) -> Frame {
-    let size = tape.size;
+fn frame(tape: &mut Tape, size: Size, sides: &Sides) -> Frame {
     let count = size.0.saturating_mul(size.1).min(FRAME);
     let depth = sides.machine.station().and_then(Station::depth);
     let floats = float_room(size.0.min(FRAME), 0) + 3 * count;

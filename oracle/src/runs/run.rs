@@ -4,7 +4,7 @@ use super::calls::{self, Sizes};
 use super::cards;
 use super::cases::{Broken, Case};
 use super::noise::Noise;
-use super::sides::{Held, Sides};
+use super::sides::{Checked, Sides};
 use super::station::{Station, HEIGHT_END};
 use crate::bridge::{self, State};
 use crate::cards::damage;
@@ -132,8 +132,7 @@ pub fn compare(run: &Run, at: usize, tally: &mut RunTally, met: &mut Met<Case>) 
     let random = &mut Random::new(run.seed);
     tally.begin();
     let mut called = Vec::new();
-    let held = play(run, random, tally, met, &mut called);
-    if let Err(text) = held {
+    if let Err(text) = play(run, random, tally, met, &mut called) {
         tally.differ(at, || {
             let Run { card, seed, .. } = run;
             let last = called.len().saturating_sub(12);
@@ -150,7 +149,7 @@ fn play(
     tally: &mut RunTally,
     met: &mut Met<Case>,
     called: &mut Vec<String>,
-) -> Held {
+) -> Checked {
     for _ in 0..8 {
         open_damaged(random, met)?;
     }
@@ -182,7 +181,7 @@ fn play(
 }
 
 /// Opens the run's card on both sides, with any words in the history buffer.
-fn opened(run: &Run, random: &mut Random) -> Held<Sides> {
+fn opened(run: &Run, random: &mut Random) -> Checked<Sides> {
     let station = Station::open(&run.card).expect("the card is a good one");
     // Whatever stands there before is overwritten.
     let mut state = noise_state(random);
@@ -202,14 +201,14 @@ fn noise_state(random: &mut Random) -> State {
 }
 
 /// Opens a card that is damaged in most cases.
-fn open_damaged(random: &mut Random, met: &mut Met<Case>) -> Held {
+fn open_damaged(random: &mut Random, met: &mut Met<Case>) -> Checked {
     let card = damage::card(random);
     open_both(&card, random, met).map(drop)
 }
 
 /// The state of a card as both sides open it; none where both refuse it by the same number, and leave
 /// the state as it was.
-pub fn open_both(card: &[u8], random: &mut Random, met: &mut Met<Case>) -> Held<Option<State>> {
+pub fn open_both(card: &[u8], random: &mut Random, met: &mut Met<Case>) -> Checked<Option<State>> {
     let before = noise_state(random);
     let mut state = before;
     let answer = bridge::open(card, &mut state);
@@ -315,7 +314,7 @@ fn other_pending(station: &Station, random: &mut Random) -> ([u8; 3], Case) {
 
 /// Each of the 640 bits changed in turn: the state is a bad one, or another good station's, whose card is
 /// written.
-fn every_bit(state: &State, tally: &mut RunTally) -> Held {
+fn every_bit(state: &State, tally: &mut RunTally) -> Checked {
     for bit in 0..8 * state.len() {
         let mut state = *state;
         state[bit / 8] ^= 0x80 >> (bit % 8);

@@ -21,8 +21,8 @@ pub struct Sides {
     made: usize,
 }
 
-/// What a difference is: told in words.
-pub type Held<T = ()> = Result<T, String>;
+/// What a check gives, or the difference in words.
+pub type Checked<T = ()> = Result<T, String>;
 
 /// The kinds whose switches are looked at, and two bytes that are none.
 const LOOKED_AT: [u8; 12] = [1, 2, 3, 4, 5, 6, 7, 8, 9, 10, 0, 11];
@@ -57,7 +57,7 @@ impl Sides {
         random: &mut Random,
         tally: &mut RunTally,
         met: &mut Met<Case>,
-    ) -> Held {
+    ) -> Checked {
         let before = self.machine.station().cloned();
         let asked = match call {
             Call::Frame(frame) => self.frame(frame, random, tally, met)?,
@@ -99,11 +99,11 @@ impl Sides {
     }
 
     /// The switch of every byte, kind or not.
-    pub fn look_at_every_switch(&self, met: &mut Met<Case>) -> Held {
+    pub fn look_at_every_switch(&self, met: &mut Met<Case>) -> Checked {
         (0..=255).try_for_each(|kind| self.look_at_switch(kind, met))
     }
 
-    fn look_at_switch(&self, kind: u8, met: &mut Met<Case>) -> Held {
+    fn look_at_switch(&self, kind: u8, met: &mut Met<Case>) -> Checked {
         let here = bridge::enabled(&self.state, kind);
         let asked = answered(here, self.machine.enabled(kind))
             .map_err(|text| format!("the switch of kind {kind}, {text}"))?;
@@ -115,7 +115,7 @@ impl Sides {
         Ok(())
     }
 
-    fn look_at_preset(&self, met: &mut Met<Case>) -> Held {
+    fn look_at_preset(&self, met: &mut Met<Case>) -> Checked {
         let here = bridge::preset(&self.state);
         let asked =
             answered(here, self.machine.preset()).map_err(|text| format!("the preset, {text}"))?;
@@ -123,7 +123,7 @@ impl Sides {
         Ok(())
     }
 
-    fn write(&self, room: usize) -> Held<Answer> {
+    fn write(&self, room: usize) -> Checked<Answer> {
         let (mut here, mut asked) = (vec![MARK; room], vec![MARK; room]);
         let answer = self.machine.write(&mut asked);
         let given = answered(bridge::write(&self.state, &mut here), answer)?;
@@ -137,7 +137,7 @@ impl Sides {
         random: &mut Random,
         tally: &mut RunTally,
         met: &mut Met<Case>,
-    ) -> Held<Answer> {
+    ) -> Checked<Answer> {
         let Frame { size, lent, .. } = frame;
         let mut here = frame.words(random.next());
         let mut asked = here.clone();
@@ -431,7 +431,7 @@ impl Scratch {
     }
 
     /// That no word past those that a frame of that size may use was written.
-    fn unchanged_past(&self, (width, height): (usize, usize)) -> Held {
+    fn unchanged_past(&self, (width, height): (usize, usize)) -> Checked {
         let (free, count) = (float_room(width, height), width * height);
         let floats = self.floats[free..].iter().map(|x| x.to_bits());
         let ints = self.ints[count..].iter().copied();
@@ -446,12 +446,12 @@ impl Scratch {
 }
 
 /// Gives what had to be answered, if it was.
-fn answered(here: Answer, asked: Answer) -> Held<Answer> {
+fn answered(here: Answer, asked: Answer) -> Checked<Answer> {
     same("answer", here, asked)?;
     Ok(asked)
 }
 
-fn same<T: PartialEq + std::fmt::Debug>(what: &str, here: T, asked: T) -> Held {
+fn same<T: PartialEq + std::fmt::Debug>(what: &str, here: T, asked: T) -> Checked {
     if here == asked {
         return Ok(());
     }
@@ -460,7 +460,7 @@ fn same<T: PartialEq + std::fmt::Debug>(what: &str, here: T, asked: T) -> Held {
     ))
 }
 
-fn same_words(what: &str, here: &[u32], asked: &[u32]) -> Held {
+fn same_words(what: &str, here: &[u32], asked: &[u32]) -> Checked {
     if here == asked {
         return Ok(());
     }

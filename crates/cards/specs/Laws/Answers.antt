@@ -3,7 +3,6 @@ use Prim.Native.Nat.{ℕ}
 use mathlib.Core.List.{List}
 use mathlib.Core.Path.{_≡_}
 use native.Mathlib.Omega.{arith}
-use Rattle.cards.specs.declared.writer.Writing.the-variants as Writing
 use Rattle.cards.specs.Answers.{Report, refusal, acceptance}
 
 -- acceptance is no refusal

@@ -3,7 +3,6 @@ use Prim.Native.Nat.{ℕ}
 use mathlib.Core.Path.{_≡_, ap}
 use mathlib.Core.List.{List}
 use lib.ListN.{drop}
-use Rattle.chain.specs.declared.pipeline.Cycle.the-variants as Cycle
 use Rattle.chain.specs.declared.pipeline.FrameAnswer.{FrameAnswer}
 use Rattle.chain.specs.declared.pipeline.FrameAnswer.the-variants as Frame
 use Rattle.chain.specs.Answers.{free}

@@ -19,5 +19,5 @@ kept c = c .taken .kept .1 .0 ∙ c .before .before .before .loop .inv
 pub all-taken-spec : {M : Type 1} → statement M
 all-taken-spec =
     tie.close
-    (tie.spec Inv-loop μ-loop (λ c. refl) (λ c κs. tt) (λ c. kept (c .before .before .before)) (λ c. tt) (λ c. omega arith) (λ c. omega arith) (λ c. kept (c .before .before .before))
-    (λ c. c .before .loop .inv) (λ c. tt))
+    (tie.spec Inv-loop μ-loop (λ c. refl) (λ c κs. tt) (λ c. kept (c .before .before .before)) (λ c. tt) (λ c. omega arith) (λ c. omega arith)
+    (λ c. kept (c .before .before .before)) (λ c. c .before .loop .inv) (λ c. tt))

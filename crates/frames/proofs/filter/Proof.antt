@@ -1,10 +1,9 @@
 -- `frames::filter` meets its contract: a frame that is taken lies whole in the file, and its words in the framebuffer. Assumes nothing.
 use borrow.Author.Needs.{needs}
-use Prim.Native.Nat.{ℕ, _-_, _*_, _≤_}
-use mathlib.Core.List.{List}
-use mathlib.Core.Path.{_≡_, sym, _∙_}
+use Prim.Native.Nat.{ℕ}
+use mathlib.Core.Path.{sym, _∙_}
 use native.Mathlib.Omega.{arith}
-use lib.ListN.{length, drop}
+use lib.ListN.{length}
 use Rattle.raster.specs.Claims.{Whole}
 use Rattle.raster.proofs.Taken.{taken-whole}
 use Rattle.frames.proofs.Parts.{no-frame, shown-in, few, lent, pixels, pixels-room}
@@ -52,6 +51,7 @@ returns-2 c =
 pub filter-spec : {M : Type 1} → statement M
 filter-spec =
     tie.close
-    (tie.spec (λ c κs. tt) (λ c. search needs) (λ c. search needs) (λ c κs. tt) (λ c. search needs) returns (λ c. omega (arith, few _ _ _ _ _ (whole c))) (λ c. omega (arith, whole c .ends))
-    (λ c. omega (arith, whole c .ends)) (λ c. search needs) (λ c. omega (arith, whole (c .before) .few)) (λ c. sym (lent (start (c .before .before) .args .words .now) _ (whole (c .before .before)))) show-requires
-    (λ c. search needs) (λ c. search needs) (λ c. search needs) (λ c. search needs) (λ c. search needs) returns-2)
+    (tie.spec (λ c κs. tt) (λ c. search needs) (λ c. search needs) (λ c κs. tt) (λ c. search needs) returns (λ c. omega (arith, few _ _ _ _ _ (whole c)))
+    (λ c. omega (arith, whole c .ends)) (λ c. omega (arith, whole c .ends)) (λ c. search needs) (λ c. omega (arith, whole (c .before) .few))
+    (λ c. sym (lent (start (c .before .before) .args .words .now) _ (whole (c .before .before)))) show-requires (λ c. search needs) (λ c. search needs)
+    (λ c. search needs) (λ c. search needs) (λ c. search needs) returns-2)

@@ -56,5 +56,5 @@ unpack-requires c κs =
 pub show-spec : {M : Type 1} → statement M
 show-spec =
     tie.close
-    (tie.spec (λ c κs. tt) returns unpack-requires (λ c κs. tt) pack-requires (λ c κs. tt) (λ c. search needs) (λ c. search needs) (λ c. search needs) (λ c. search needs)
-    (λ c. search needs) returns-2)
+    (tie.spec (λ c κs. tt) returns unpack-requires (λ c κs. tt) pack-requires (λ c κs. tt) (λ c. search needs) (λ c. search needs) (λ c. search needs)
+    (λ c. search needs) (λ c. search needs) returns-2)

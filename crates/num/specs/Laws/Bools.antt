@@ -1,6 +1,7 @@
 -- Conjunctions and alternatives of tests, taken apart and put together. Assumes nothing.
 use Prim.Native.Nat.{ℕ}
 use native.Mathlib.Omega.{arith}
+use lib.Dec.{T}
 use mathlib.Core.Path.{_≡_, refl, sym, _∙_}
 use mathlib.Core.Bool.{Bool, true, false, not, _&&_, _||_}
 
@@ -48,3 +49,18 @@ or-right a b e h = rw (e, h) refl
 
 pub or-neither : (a b : Bool) → a ≡ false → b ≡ false → (a || b) ≡ false
 or-neither a b e h = rw (e, h) refl
+
+-- a test that holds
+pub is-true : (b : Bool) → T b → b ≡ true
+is-true true h = refl
+is-true false h = absurd h
+
+-- tests one after another: the answer r is the last one's, or a first one's that decides
+pub and-last : (r a b : Bool) → a ≡ true → r ≡ b → r ≡ (a && b)
+and-last r a b e h = rw e h
+
+pub or-held : (a b : Bool) → a ≡ true → true ≡ (a || b)
+or-held a b e = rw e refl
+
+pub or-last : (r a b : Bool) → a ≡ false → r ≡ b → r ≡ (a || b)
+or-last r a b e h = rw e h

@@ -20,8 +20,9 @@ use Rattle.num.specs.F32.{_⊕_, _⊖_, _⊘_, whole}
 use Rattle.num.specs.Steps.{maxOf}
 use Rattle.num.specs.Laws.Values.{value-le, half-value, add-at}
 use Rattle.num.specs.Ranges.{within, Signed}
-use Rattle.num.specs.Laws.Within.{size-le, round-signed, Plain}
-use Rattle.num.specs.Laws.Sized.{Exact, exact, Sized, round-sized, sum-sized, plus-sized, within-plain}
+use Rattle.num.specs.Laws.Bools.{is-true}
+use Rattle.num.specs.Laws.Within.{size-le, round-signed, Plain, nothing, within-plain}
+use Rattle.num.specs.Laws.Sized.{Exact, exact, Sized, round-sized, sum-sized, plus-sized}
 
 abbrev pub Least : ℕ → Float → Type 0
 Least k nan = ⊥
@@ -46,10 +47,6 @@ round-least-by n k a c v K p h s =
     go (round binary32 false a c) s (round-signed binary32 false a c)
     (round-mono binary32 1 k a c K p (le-trans (le-of-eq (one-mul c)) (le-trans h (le-of-eq (mul-comm k a)))))
   where
-    is-true : (b : Bool) → T b → b ≡ true
-    is-true true h = refl
-    is-true false h = absurd h
-
     go : (x : Float) → Sized n x → Signed false x → T (le (round binary32 false 1 k) x) → Least k x
     go nan s t l = absurd s
     go (inf u) s t l = absurd s
@@ -71,10 +68,6 @@ unfolding sum
 sum-least n false a false b c p h g k z = round-least n (a + b) c p h z
 sum-least n true a true b c p h g k z = absurd (none (nothing g) (nothing k))
   where
-    nothing : {a : ℕ} → Plain true a → a ≡ 0
-    nothing (inl e) = absurd (true≢false e)
-    nothing (inr z) = z
-
     none : a ≡ 0 → b ≡ 0 → ⊥
     none x y = omega arith
 sum-least n false a true b c p h g (inl e) z = absurd (true≢false e)

@@ -1,5 +1,6 @@
 -- Laws of order: `le` is total away from NaN, a clamped value lies between its ends, cut and round keep the order, and what is limited is left as
--- it is when limited again. Assumes nothing.
+-- it is when limited again. `clamp-between`, `round-step-mono` and `limit-again` are cited by no proof: they say of the steps what docs/GUARANTEES.md has
+-- in words. Assumes nothing.
 use mathlib.Core.Path.{_≡_, refl, sym, ap, _∙_, subst}
 use Prim.Native.Nat.{ℕ, _+_, _*_, _/_, _≤_, _<_, zero-le}
 use native.Mathlib.Nat.{zero-mul, mul-one, mul-comm, mul-pos, mul-assoc, mul-left-comm, add-mul, le-trans, le-of-lt}
@@ -13,7 +14,7 @@ use lib.Ieee.{Float, nan, inf, fin, binary32, up, down, below, level, lt, le, eq
 use lib.Ieee.Fits.{down-pos, and-r, and-i, eq→eqb}
 use lib.Ieee.Nearest.{div-mono}
 use lib.Ieee.Order.{round-mono}
-use Rattle.num.specs.Const.{c0·0}
+use Rattle.num.specs.Const.{c0·0, c1·0}
 use Rattle.num.specs.Steps.{clampOf, plusZeroOf, limitOf, cutOf, roundOf}
 
 -- ---- tests of numbers
@@ -116,6 +117,21 @@ lt-number nan y h = absurd (true≢false (sym h))
 lt-number (inf s) y h = tt
 lt-number (fin s m e) y h = tt
 
+-- and so is what is above something
+pub lt-number-right : (x y : Float) → lt x y ≡ true → T (not (isNan y))
+unfolding lt isNan
+lt-number-right nan y h = absurd (true≢false (sym h))
+lt-number-right (inf s) nan h = absurd (true≢false (sym h))
+lt-number-right (inf s) (inf t) h = tt
+lt-number-right (inf s) (fin t n d) h = tt
+lt-number-right (fin s m e) nan h = absurd (true≢false (sym h))
+lt-number-right (fin s m e) (inf t) h = tt
+lt-number-right (fin s m e) (fin t n d) h = tt
+
+pub one-above : lt c0·0 c1·0 ≡ true
+unfolding lt ofBits
+one-above = refl
+
 pub irreflexive : (x : Float) → lt x x ≡ false
 unfolding lt
 irreflexive nan = refl
@@ -148,7 +164,7 @@ clamp-between x lo hi p l = go (lt x lo) (lt hi x) refl refl
 
 -- ---- cut and round keep the order
 
-none-left : (a d : ℕ) → 0 < d → a * d ≡ 0 → a ≡ 0
+pub none-left : (a d : ℕ) → 0 < d → a * d ≡ 0 → a ≡ 0
 none-left a d p h = eq-of-mul-eq-mul-right d p a 0 (h ∙ sym (zero-mul d))
 
 pub cut-mono : (x y : Float) → T (le x y) → T (le y (fin false 1023 (pos 0))) → cutOf x ≤ cutOf y

@@ -2,7 +2,7 @@
 -- type. Assumes nothing.
 use mathlib.Core.Path.{_≡_, refl, sym, ap, _∙_, subst}
 use mathlib.Core.List.{List, [], _∷_, _++_}
-use Prim.Native.Nat.{ℕ, zero, suc, _+_, _≤_, _<_, zero-le, suc-le-suc}
+use Prim.Native.Nat.{ℕ, zero, suc, _+_, _≤_, _<_, zero-le, suc-le-suc, _-_}
 use native.Mathlib.Numerals.{add-one}
 use native.Mathlib.Nat.{le-of-suc-le-suc, not-suc-le-zero, zero-add, suc-add, suc-inj}
 use native.Mathlib.Omega.{arith}
@@ -167,6 +167,18 @@ module _ {A : Type 0} where
       ap (λ (z : List A). take i ys ++ z) back
       ∙ ap (λ (z : List A). take i z ++ rewrite n g (drop i z)) (t .done) ∙ rewrite-add i n f g xs h in
       record { within = l; kept = ap length whole ∙ length-rewrite (i + n) f xs; done = whole }
+
+  -- the places from i to j were lent, of which those before i are done: how many they are, and how far it is when they came back
+  module _ {f : ℕ → A → A} {xs ys : List A} {i : ℕ} (j : ℕ) (t : Rewritten i f xs ys) (l : j ≤ length xs) where
+    pub further-long : length (take (j - i) (drop i ys)) ≡ j - i
+    further-long = length-take-le (j - i) (drop i ys) (rw length-drop (omega (arith, t .kept)))
+
+    pub further : (new : List A) → i ≤ j → new ≡ every (λ d. f (i + d)) (take (j - i) (drop i ys))
+        → Rewritten j f xs (take i ys ++ (new ++ drop (j - i) (drop i ys)))
+    further new h e =
+        let whole : i + (j - i) ≡ j = omega arith in
+        subst (λ (n : ℕ). Rewritten n f xs (take i ys ++ (new ++ drop (j - i) (drop i ys)))) whole
+        (part (j - i) (λ d. f (i + d)) new t (omega arith) (λ d v m. refl) e)
 
   -- m words from `to` on were lent to a rewriting by g, which is f from `to` on, and f changes no other word
   pub mid : (f g : ℕ → A → A) (xs new : List A) (to m n : ℕ) → to + m + n ≡ length xs

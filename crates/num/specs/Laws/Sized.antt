@@ -1,14 +1,13 @@
 -- Bounds by whole numbers: `Sized n x` says that x is finite and at most n away from 0. No rounding passes a whole
 -- number that binary32 has (`Exact`, `round-sized`), so sums, differences and products keep the bounds of the exact
 -- results. Assumes nothing.
-use mathlib.Core.Path.{refl, sym, ap, _∙_, subst}
+use mathlib.Core.Path.{sym, ap, _∙_, subst}
 use mathlib.Core.Logic.{inl, inr}
 use Prim.Native.Nat.{ℕ, suc, _+_, _-_, _*_, _/_, _^_, _≤_, _<_}
-use native.Mathlib.Nat.{zero-mul, mul-one, mul-assoc, suc-mul, le-of-suc-le-suc, div-lt-iff-lt-mul, mul-pos, mul-le-mul}
+use native.Mathlib.Nat.{mul-one, mul-assoc, suc-mul, le-of-suc-le-suc, div-lt-iff-lt-mul, mul-pos, mul-le-mul}
 use native.Mathlib.Nat.{mul-le-mul-right, le-trans, le-of-eq, lt-of-lt-of-le}
 use native.Mathlib.Omega.{arith}
 use mathlib.Core.Bool.{Bool, true, false, not, _&&_, cond, true≢false}
-use lib.IntN.{ℤ}
 use lib.Dec.{T, ltb, lit<, lit≤}
 use lib.Ieee.{Float, nan, inf, fin, binary32, up, down, unlike, round, sum, add, sub, mul, neg, isNan}
 use lib.Ieee.Fits.{down-pos}
@@ -21,7 +20,7 @@ use Rattle.num.specs.F32.{_⊕_, _⊖_, _⊗_}
 use Rattle.num.specs.Laws.Signs.{round-neg}
 use Rattle.num.specs.Steps.{absOf, roundOf}
 use Rattle.num.specs.Ranges.{within}
-use Rattle.num.specs.Laws.Within.{size-le, minus-zero, round-signed, le-within, Plain}
+use Rattle.num.specs.Laws.Within.{size-le, round-signed, le-within, Plain, within-plain}
 
 -- binary32 has the whole number n
 abbrev pub Exact : ℕ → Type 0
@@ -138,10 +137,6 @@ times-sized n k (fin s m e) (fin t i d) x h g =
     both a c b d h g = let p = mul-le-mul h g in omega arith
 
 -- ---- of two values from 0 to n
-
-pub within-plain : (n : ℕ) (s : Bool) (m : ℕ) (e : ℤ) (d : ℕ) → T (within n (fin s m e)) → Plain s (m * up e * d)
-within-plain n false m e d h = inl refl
-within-plain n true m e d h = inr (ap (λ (j : ℕ). j * d) (minus-zero n m e h) ∙ zero-mul d)
 
 difference-sized : (n : ℕ) (s : Bool) (a : ℕ) (t : Bool) (b c : ℕ) → Exact n → 0 < c → a ≤ n * c → b ≤ n * c → Plain s a
     → Plain t b

@@ -5,7 +5,7 @@ use Prim.Native.Nat.{ℕ, _+_, _*_, _^_, _≤_, _<_}
 use native.Mathlib.Nat.{zero-mul, lt-irrefl, mul-mul-mul-comm, mul-assoc, mul-comm, mul-left-comm, mul-pos, add-mul, lt-of-lt-of-le, lt-of-not-le, not-le-of-lt}
 use native.Mathlib.Omega.{arith}
 use mathlib.Core.Bool.{Bool, true, false, cond, true≢false}
-use borrow.Author.Tests.{ltb-true, ltb-false, ne-eqb}
+use borrow.Author.Tests.{ltb-true, ne-eqb}
 use lib.IntN.{ℤ}
 use lib.Dec.{T, eqb, lit<, lit≤}
 use lib.Pow.{pow-mono, shl-lt}
@@ -39,7 +39,7 @@ add-at f (fin false m e) (fin false n g) a c b d C D v w =
     -- x * g over c * d, where x / h is a / c
     regroup : (x g c d a h : ℕ) → x * c ≡ a * h → x * g * (c * d) ≡ a * d * (h * g)
     regroup x g c d a h v =
-        let l : x * g * (c * d) ≡ x * c * (g * d) = simp (mul-assoc, mul-comm, mul-left-comm) refl in
+        let l : x * g * (c * d) ≡ x * c * (g * d) = simp (mul-assoc, mul-left-comm) refl in
         let r : a * h * (g * d) ≡ a * d * (h * g) = simp (mul-assoc, mul-comm, mul-left-comm) refl in
         l ∙ ap (λ (k : ℕ). k * (g * d)) v ∙ r
 
@@ -108,11 +108,6 @@ module _ (m : ℕ) (e : ℤ) (p q : ℕ) (Q : 0 < q) where
   unfolding lt
   lt-value (fin true i g) v h = absurd (true≢false (v .0))
   lt-value (fin false i g) v h = to-value (i * up g) (down g) (v .1) (ltb-true (m * up e * down g) (i * up g * down e) h)
-
-  pub not-lt-value : (z : Float) → HasValue z false p q → lt (fin false m e) z ≡ false → p * down e ≤ m * up e * q
-  unfolding lt
-  not-lt-value (fin true i g) v h = absurd (true≢false (v .0))
-  not-lt-value (fin false i g) v h = from-value (i * up g) (down g) (down-pos g) (v .1) (ltb-false (m * up e * down g) (i * up g * down e) h)
 
   pub value-le : (z : Float) → HasValue z false p q → le z (fin false m e) ≡ true → p * down e ≤ m * up e * q
   unfolding le

@@ -4,7 +4,7 @@ use mathlib.Core.Path.{_≡_, refl, sym, ap, _∙_, subst}
 use mathlib.Core.Logic.{_⊎_, inl, inr}
 use Prim.Native.Nat.{ℕ, zero, suc, _+_, _-_, _*_, _^_, _≤_, _<_, zero-le}
 use native.Mathlib.Nat.{zero-mul, mul-one, mul-comm, mul-assoc, mul-right-comm, mul-mul-mul-comm, mul-pos, mul-le-mul}
-use native.Mathlib.Nat.{mul-le-mul-right, le-of-mul-le-mul-right, le-trans, le-of-eq, add-mul, lt-irrefl, zero-lt-suc}
+use native.Mathlib.Nat.{mul-le-mul-right, le-of-mul-le-mul-right, le-trans, le-of-eq, add-mul}
 use native.Mathlib.Nat.{add-le-add, sub-le}
 use native.Mathlib.Omega.{arith}
 use mathlib.Core.Bool.{Bool, true, false, not, _||_, cond}
@@ -15,7 +15,7 @@ use lib.Ieee.Fits.{up-pos, down-pos, and-l, and-r, and-i}
 use lib.Ieee.Exact.{HasValue, round-exact}
 use lib.Ieee.Back.{round-whole}
 use lib.Ieee.Order.{round-mono}
-use Rattle.num.specs.Laws.Order.{tests-le}
+use Rattle.num.specs.Laws.Order.{tests-le, none-left}
 use Rattle.num.specs.Ranges.{within, Signed}
 
 -- ---- what `within` says of a finite value: its size, and that a negative one is -0
@@ -66,10 +66,6 @@ le-within n (fin t m e) (fin u k d) s v h =
     (subst (λ (b : Bool). T (le (fin b m e) (fin false k d))) s (subst (λ (b : Bool). T (le (fin t m e) (fin b k d))) (v .0) h)))))
 
 -- nothing, rounded, is a zero of either sign
-factor-zero : (m u : ℕ) → 0 < u → m * u ≡ 0 → m ≡ 0
-factor-zero zero u p h = refl
-factor-zero (suc m) u p h = absurd (lt-irrefl 0 (subst (λ (x : ℕ). 0 < x) h (mul-pos (zero-lt-suc m) p)))
-
 or-true : (s : Bool) → T (not s || true)
 or-true true = tt
 or-true false = tt
@@ -77,7 +73,7 @@ or-true false = tt
 pub zero-value : (n : ℕ) (x : Float) (s : Bool) (c : ℕ) → 0 < c → HasValue x s 0 c → T (within n x)
 unfolding within
 zero-value n (fin t m e) s c p v =
-    let z : m ≡ 0 = factor-zero m (up e) (up-pos e) (factor-zero (m * up e) c p (v .1 ∙ zero-mul (down e))) in
+    let z : m ≡ 0 = none-left m (up e) (up-pos e) (none-left (m * up e) c p (v .1 ∙ zero-mul (down e))) in
     subst (λ (i : ℕ). T (within n (fin t i e))) (sym z)
     (and-i (leb (0 * up e) (n * down e)) (not t || true)
     (le→leb (0 * up e) (n * down e) (subst (λ (i : ℕ). i ≤ n * down e) (sym (zero-mul (up e))) zero-le)) (or-true t))
@@ -120,7 +116,7 @@ mul-within n k (fin s m e) (fin t i d) small h g =
 abbrev pub Plain : Bool → ℕ → Type 0
 Plain s a = (s ≡ false) ⊎ (a ≡ 0)
 
-nothing : {a : ℕ} → Plain true a → a ≡ 0
+pub nothing : {a : ℕ} → Plain true a → a ≡ 0
 nothing (inl e) = absurd (subst T e tt)
 nothing (inr z) = z
 
@@ -165,9 +161,9 @@ sum-within n true a false b c small p h g k = go (ltb a b)
 scaled : (a n c d : ℕ) → a ≤ n * c → a * d ≤ n * (c * d)
 scaled a n c d h = le-trans (mul-le-mul-right d h) (le-of-eq (mul-assoc n c d))
 
-plain : (n : ℕ) (s : Bool) (m : ℕ) (e : ℤ) (d : ℕ) → T (within n (fin s m e)) → Plain s (m * up e * d)
-plain n false m e d h = inl refl
-plain n true m e d h = inr (no-product (m * up e) d (minus-zero n m e h))
+pub within-plain : (n : ℕ) (s : Bool) (m : ℕ) (e : ℤ) (d : ℕ) → T (within n (fin s m e)) → Plain s (m * up e * d)
+within-plain n false m e d h = inl refl
+within-plain n true m e d h = inr (no-product (m * up e) d (minus-zero n m e h))
 
 pub add-within : (n k : ℕ) (x y : Float) → n + k ≤ 16777216 → T (within n x) → T (within k y) → T (within (n + k) (add binary32 x y))
 unfolding add within
@@ -180,7 +176,7 @@ add-within n k (fin s m e) (fin t i d) small h g =
     (le-trans (add-le-add (scaled (m * up e) n (down e) (down d) (size-le n s m e h))
     (subst (λ (r : ℕ). i * up d * down e ≤ k * r) (mul-comm (down d) (down e)) (scaled (i * up d) k (down d) (down e) (size-le k t i d g))))
     (le-of-eq (sym (add-mul n k (down e * down d)))))
-    (plain n s m e (down d) h) (plain k t i d (down e) g)
+    (within-plain n s m e (down d) h) (within-plain k t i d (down e) g)
 
 -- a difference that is not negative
 difference-within : (n : ℕ) (s : Bool) (a : ℕ) (t : Bool) (b c : ℕ) → n ≤ 16777216 → 0 < c → a ≤ n * c → b ≤ a
@@ -228,7 +224,7 @@ sub-within n k (inf _) y small h g l = absurd h
 sub-within n k (fin s m e) nan small h g l = absurd g
 sub-within n k (fin s m e) (inf _) small h g l = absurd g
 sub-within n k (fin s m e) (fin t i d) small h g l =
-    let p = plain n s m e (down d) h in
-    let q = plain k t i d (down e) g in
+    let p = within-plain n s m e (down d) h in
+    let q = within-plain k t i d (down e) g in
     difference-within n s (m * up e * down d) t (i * up d * down e) (down e * down d) small (mul-pos (down-pos e) (down-pos d))
     (scaled (m * up e) n (down e) (down d) (size-le n s m e h)) (order s (m * up e * down d) t (i * up d * down e) p q l) p q

@@ -19,6 +19,7 @@ use Rattle.num.specs.Steps.{clampOf, minOf, maxOf, absOf, cutOf, roundOf}
 use Rattle.num.specs.Ranges.{within, Signed}
 use Rattle.num.specs.Laws.Within.{size-le}
 use Rattle.num.specs.Laws.Bounds.{int-within}
+use Rattle.num.specs.Laws.Bools.{is-true}
 use Rattle.passes.specs.Arith.{Agrees}
 use Rattle.num.specs.Laws.Sized.{sized-finite, within-sized}
 use Rattle.passes.specs.Casts.{joined, casts, Checked, value, keep, one, two, three, compare, plusSign, stop, cutChecked, checked}
@@ -115,10 +116,6 @@ casts-agree =
     }
 
 -- ---- each step checked
-
-is-true : (b : Bool) → T b → b ≡ true
-is-true true t = refl
-is-true false t = absurd t
 
 kept : (b : Bool) (x : Float) → T b → keep b x ≡ value x
 kept b x t = ap (λ (q : Bool). keep q x) (is-true b t)

@@ -1,12 +1,12 @@
 -- Laws of the curve: what one that can be read has, and that no more than its first 256 words matter. Assumes nothing.
-use Prim.Native.Nat.{ℕ, zero, suc, _+_, _*_, _/_, _%_, _≤_, _<_}
+use Prim.Native.Nat.{ℕ, zero, suc, _*_, _/_, _%_, _≤_, _<_}
 use native.Mathlib.Nat.{le-of-suc-le-suc, not-suc-le-zero}
 use native.Mathlib.Omega.{arith}
 use mathlib.Core.Path.{_≡_, refl, ap, ap₂, sym, subst, _∙_}
-use mathlib.Core.Bool.{Bool, true, false, _&&_, _||_, cond}
+use mathlib.Core.Bool.{Bool, true, false, _&&_}
 use mathlib.Core.List.{List, [], _∷_}
 use borrow.Author.Tests.{leb-true, eqb-true}
-use lib.Dec.{T, leb, eqb, lit<, leb→le}
+use lib.Dec.{T, leb, lit<}
 use lib.Ieee.{Float, nan, inf, fin, up, down, lt, eq, le, ofBits}
 use lib.ListN.{length, take, getD}
 use lib.Seq.{length-take-le, getD-take}

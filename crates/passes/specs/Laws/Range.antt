@@ -21,6 +21,7 @@ use Rattle.num.specs.Ranges.{within, Signed}
 use Rattle.num.specs.Laws.Within.{size-le, minus-zero, mul-within, add-within}
 use Rattle.num.specs.Laws.Bounds.{zero-within, round-step-within, value-within, widen, clamp-within, min-within, one-is}
 use Rattle.num.specs.Laws.Bounds.{top-is, int-within, one-less-within}
+use Rattle.num.specs.Laws.Order.{one-above}
 use Rattle.passes.specs.Arith.{Arith, Agrees}
 use Rattle.num.specs.Laws.Least.{Least, whole-least, max-least}
 use Rattle.num.specs.Laws.Quotients.{over-sized, over-within, share-within}
@@ -84,10 +85,6 @@ within-le (fin true m e) h = le-neg (m * up e * 1) (1 * down e) (omega (arith, d
       where
         go : (q : Bool) → q ≡ true → T (q || (eqb a b && (false || eqb a 0)))
         go q e = rw e tt
-
-one-above : lt c0·0 c1·0 ≡ true
-unfolding lt ofBits
-one-above = refl
 
 module _ {A : Arith} {G : Agrees A} where
   pub signed : {n : ℕ} {a : A .F} {x : Float} → Plus G n a x → Has G n a x

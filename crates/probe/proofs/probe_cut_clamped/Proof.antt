@@ -26,6 +26,6 @@ loop-again c = (omega arith, more (c .before .before .before .loop .inv .1) 0 (o
 pub probe-cut-clamped-spec : {M : Type 1} → statement M
 probe-cut-clamped-spec =
     tie.close
-    (tie.spec Inv-loop μ-loop (λ c κs. tt) (λ c. (omega arith, none _ _)) (λ c. omega arith) (λ c. omega arith) (λ c κs. tt)
-    (λ c. omega arith) (λ c. omega arith) (λ c. omega arith) (λ c. omega arith) loop-again (λ c. omega arith)
+    (tie.spec Inv-loop μ-loop (λ c κs. tt) (λ c. (omega arith, none _ _)) (λ c. omega arith) (λ c. omega arith) (λ c κs. tt) (λ c. omega arith)
+    (λ c. omega arith) (λ c. omega arith) (λ c. omega arith) loop-again (λ c. omega arith)
     (λ c. over-all step (c .before .before .before .before .before .args .xs .now) (c .before .loop .inv .0) (c .before .before .shorter .ensures) (omega arith) (c .before .loop .inv .1)))

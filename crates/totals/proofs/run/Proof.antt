@@ -14,5 +14,6 @@ slice-aggregate-two c = sym (length-take-le _ _ (c .before .before .before .befo
 pub run-spec : {M : Type 1} → statement M
 run-spec =
     tie.close
-    (tie.spec (λ c κs. search needs) (λ c. search needs) (λ c κs. search needs) (λ c. search needs) (λ c κs. search needs) (λ c. search needs) (λ c. search needs)
-    slice-aggregate-one (λ c κs. search needs) (λ c. search needs) slice-aggregate-two (λ c κs. search needs) (λ c. search needs) (λ c. search needs))
+    (tie.spec (λ c κs. search needs) (λ c. search needs) (λ c κs. search needs) (λ c. search needs) (λ c κs. search needs) (λ c. search needs)
+    (λ c. search needs) slice-aggregate-one (λ c κs. search needs) (λ c. search needs) slice-aggregate-two (λ c κs. search needs) (λ c. search needs)
+    (λ c. search needs))

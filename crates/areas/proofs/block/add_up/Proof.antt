@@ -74,5 +74,5 @@ returns c =
 pub add-up-spec : {M : Type 1} → statement M
 add-up-spec =
     tie.close
-    (tie.spec Inv-loop μ-loop (λ c κs. (omega arith, omega arith)) mul-row loop-holds read-requires add-words add-row (λ c. omega arith) (λ c. omega arith) loop-again same-length
-    returns)
+    (tie.spec Inv-loop μ-loop (λ c κs. (omega arith, omega arith)) mul-row loop-holds read-requires add-words add-row (λ c. omega arith) (λ c. omega arith)
+    loop-again same-length returns)

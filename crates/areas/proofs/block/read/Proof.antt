@@ -41,6 +41,5 @@ pub read-spec : {M : Type 1} → statement M
 read-spec =
     tie.close
     (tie.spec Inv-loop μ-loop (λ c. (omega arith, omega arith, omega arith, unchanged _ _ _)) (λ c. omega arith) fits (λ c. omega arith) (λ c. omega arith)
-    (λ c. omega arith) (λ c κs. tt) add-columns (λ c. omega arith) (λ c. fits (c .before .before)) (λ c. omega arith) (λ c. omega arith) (λ c. omega arith) loop-again
-    (λ c. c .before .loop .inv .3 .kept)
-    (λ c. record { added = change-done (c .before .loop .inv .3) (omega arith); counted = omega arith }))
+    (λ c. omega arith) (λ c κs. tt) add-columns (λ c. omega arith) (λ c. fits (c .before .before)) (λ c. omega arith) (λ c. omega arith) (λ c. omega arith)
+    loop-again (λ c. c .before .loop .inv .3 .kept) (λ c. record { added = change-done (c .before .loop .inv .3) (omega arith); counted = omega arith }))

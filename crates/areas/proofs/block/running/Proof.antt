@@ -22,11 +22,12 @@ loop-again c = next-column (c .before .before .loop .inv) (c .before .loop-test 
 pub running-spec : {M : Type 1} → statement M
 running-spec =
     tie.close
-    (tie.spec Inv-loop μ-loop (λ c. omega arith) (λ c. omega arith) (λ c. omega arith) (λ c. omega arith) (λ c. omega arith) (λ c. simp length-set (omega arith))
-    (λ c. omega arith) (λ c. omega arith) (λ c. simp length-set (omega arith))
+    (tie.spec Inv-loop μ-loop (λ c. omega arith) (λ c. omega arith) (λ c. omega arith) (λ c. omega arith) (λ c. omega arith)
+    (λ c. simp length-set (omega arith)) (λ c. omega arith) (λ c. omega arith) (λ c. simp length-set (omega arith))
     (λ c. none-run _ _ _ (c .args .sums .now) (c .pre .0) (c .pre .1) (c .pre .3)) (λ c. omega arith) (λ c. omega arith)
-    (λ c. omega (arith, c .before .before .loop .inv .few-red, c .shared-slice-known .given (c .before .before .loop .t))) (λ c. omega (arith, c .before .before .loop .inv .few-green))
-    (λ c. omega (arith, c .before .before .loop .inv .few-blue)) (λ c. omega (arith, room c)) (λ c. omega (arith, room c)) (λ c. omega (arith, room c))
-    (λ c. omega (arith, room c)) (λ c. omega (arith, room c)) (λ c. simp length-set (omega (arith, room c))) (λ c. omega (arith, room c))
-    (λ c. omega (arith, room c)) (λ c. simp length-set (omega (arith, room c))) (λ c. omega arith) (λ c. omega arith) loop-again
-    (λ c. omega (arith, c .before .loop .inv .line .long)) (λ c. ran (c .before .loop .inv) (c .loop-test .left)))
+    (λ c. omega (arith, c .before .before .loop .inv .few-red, c .shared-slice-known .given (c .before .before .loop .t)))
+    (λ c. omega (arith, c .before .before .loop .inv .few-green)) (λ c. omega (arith, c .before .before .loop .inv .few-blue)) (λ c. omega (arith, room c))
+    (λ c. omega (arith, room c)) (λ c. omega (arith, room c)) (λ c. omega (arith, room c)) (λ c. omega (arith, room c))
+    (λ c. simp length-set (omega (arith, room c))) (λ c. omega (arith, room c)) (λ c. omega (arith, room c)) (λ c. simp length-set (omega (arith, room c)))
+    (λ c. omega arith) (λ c. omega arith) loop-again (λ c. omega (arith, c .before .loop .inv .line .long))
+    (λ c. ran (c .before .loop .inv) (c .loop-test .left)))

@@ -31,6 +31,7 @@ loop-again c =
 pub reach-spec : {M : Type 1} → statement M
 reach-spec =
     tie.close
-    (tie.spec Inv-loop μ-loop loop-holds (λ c. omega (arith, c .before .loop .inv .3 .kept)) (λ c. omega (arith, c .before .before .loop .inv .3 .kept)) (λ c κs. tt)
-    (λ c κs. tt) (λ c. omega (arith, c .before .before .before .before .loop .inv .3 .kept)) (λ c. omega (arith, c .before .before .before .before .loop .inv .3 .kept))
-    (λ c. omega arith) (λ c. omega arith) loop-again (λ c. c .before .loop .inv .3 .kept) (λ c. change-done (c .before .loop .inv .3) (omega arith)))
+    (tie.spec Inv-loop μ-loop loop-holds (λ c. omega (arith, c .before .loop .inv .3 .kept)) (λ c. omega (arith, c .before .before .loop .inv .3 .kept))
+    (λ c κs. tt) (λ c κs. tt) (λ c. omega (arith, c .before .before .before .before .loop .inv .3 .kept))
+    (λ c. omega (arith, c .before .before .before .before .loop .inv .3 .kept)) (λ c. omega arith) (λ c. omega arith) loop-again
+    (λ c. c .before .loop .inv .3 .kept) (λ c. change-done (c .before .loop .inv .3) (omega arith)))

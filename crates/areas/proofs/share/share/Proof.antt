@@ -78,14 +78,12 @@ returns c = all (c .before .before .before .before .before .pre) (c .before .loo
 pub share-spec : {M : Type 1} → statement M
 share-spec =
     tie.close
-    (tie.spec Inv-loop μ-loop (λ c. first _ _ _ _) (λ c κs. omega arith) part-of-requires (λ c κs. growing c)
-    (λ c. omega (arith, room c)) (λ c. omega (arith, room (c .before))) add-red
-    (λ c. omega (arith, room (c .before .before))) (λ c. omega (arith, room (c .before .before))) (λ c. omega (arith, room (c .before .before .before))) add-green-2
-    (λ c. omega (arith, room (c .before .before .before .before))) (λ c. omega (arith, room (c .before .before .before .before)))
-    (λ c. omega (arith, room (c .before .before .before .before .before))) add-blue-2
+    (tie.spec Inv-loop μ-loop (λ c. first _ _ _ _) (λ c κs. omega arith) part-of-requires (λ c κs. growing c) (λ c. omega (arith, room c))
+    (λ c. omega (arith, room (c .before))) add-red (λ c. omega (arith, room (c .before .before))) (λ c. omega (arith, room (c .before .before)))
+    (λ c. omega (arith, room (c .before .before .before))) add-green-2 (λ c. omega (arith, room (c .before .before .before .before)))
+    (λ c. omega (arith, room (c .before .before .before .before))) (λ c. omega (arith, room (c .before .before .before .before .before))) add-blue-2
     (λ c. omega (arith, room (summed c), near (summed c))) (λ c. omega (arith, room (summed c), near (summed c)))
     (λ c. omega (arith, room (summed c), near (summed c))) (λ c. omega (arith, room (summed c), near (summed c)))
-    (λ c. simp length-set (omega (arith, room (summed c))))
-    (λ c. omega (arith, room (summed c), near (summed c))) (λ c. omega (arith, room (summed c), near (summed c)))
-    (λ c. simp length-set (omega (arith, room (summed c))))
+    (λ c. simp length-set (omega (arith, room (summed c)))) (λ c. omega (arith, room (summed c), near (summed c)))
+    (λ c. omega (arith, room (summed c), near (summed c))) (λ c. simp length-set (omega (arith, room (summed c))))
     (λ c. omega (arith, room (summed c), near (summed c))) (λ c. omega arith) (λ c. omega arith) loop-again (λ c. c .before .loop .inv .words .kept) returns)

@@ -82,5 +82,5 @@ pub walk-spec : {M : Type 1} → statement M
 walk-spec =
     tie.close
     (tie.spec Inv-loop μ-loop (λ c. omega arith) (λ c κs. (omega arith, omega arith)) (λ c κs. tt) (λ c κs. tt) (λ c κs. tt) loop-holds band-end-requires
-    (λ c. omega (arith, c .band-end .ensures .past)) (λ c. omega arith) (λ c. omega arith) (λ c. omega arith) band-requires add-words loop-less loop-again same-length
-    returns)
+    (λ c. omega (arith, c .band-end .ensures .past)) (λ c. omega arith) (λ c. omega arith) (λ c. omega arith) band-requires add-words loop-less loop-again
+    same-length returns)

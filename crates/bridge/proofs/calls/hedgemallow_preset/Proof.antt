@@ -1,4 +1,4 @@
--- `bridge::calls::hedgemallow_preset` meets its contract: no state, or the call's answer. Assumes nothing.
+-- `bridge::calls::hedgemallow_preset` meets its contract: no state, or the call's answer. Word for word as hedgemallow_enabled. Assumes nothing.
 use borrow.Author.Needs.{needs}
 use mathlib.Core.Path.{ap, _∙_}
 use Rattle.cards.specs.Answers.{told}

@@ -1,4 +1,4 @@
--- `bridge::calls::hedgemallow_set_enabled` meets its contract: no state, or the call's reply. Assumes nothing.
+-- `bridge::calls::hedgemallow_set_enabled` meets its contract: no state, or the call's reply. Word for word as hedgemallow_reset. Assumes nothing.
 use borrow.Author.Needs.{needs}
 use Rattle.chain.specs.Answers.{called}
 use Rattle.bridge.proofs.Replies.{read, unread, on-none, on-station}

@@ -14,5 +14,5 @@ abbrev μ-loop : tie.MeasureT-loop
 pub digits-down-spec : {M : Type 1} → statement M
 digits-down-spec =
     tie.close
-    (tie.spec Inv-loop μ-loop (λ c. omega arith) (λ c. omega (arith, c .before .pre)) (λ c. omega arith) (λ c. omega (arith, c .before .before .loop .inv)) (λ c κs. tt)
-    (λ c. omega arith) (λ c. omega (arith, c .before .before .before .loop .inv)) (λ c. tt))
+    (tie.spec Inv-loop μ-loop (λ c. omega arith) (λ c. omega (arith, c .before .pre)) (λ c. omega arith) (λ c. omega (arith, c .before .before .loop .inv))
+    (λ c κs. tt) (λ c. omega arith) (λ c. omega (arith, c .before .before .before .loop .inv)) (λ c. tt))

@@ -13,5 +13,6 @@ abbrev μ-loop : tie.MeasureT-loop
 pub highest-spec : {M : Type 1} → statement M
 highest-spec =
     tie.close
-    (tie.spec Inv-loop μ-loop (λ c. omega arith) (λ c. omega (arith, c .before .before .loop .inv, c .before .before .before .pre .0)) (λ c. c .before .before .before .loop .inv) (λ c. omega arith)
-    (λ c. omega arith) (λ c. omega (arith, c .before .before .before .loop .inv)) (λ c. c .before .loop .inv))
+    (tie.spec Inv-loop μ-loop (λ c. omega arith) (λ c. omega (arith, c .before .before .loop .inv, c .before .before .before .pre .0))
+    (λ c. c .before .before .before .loop .inv) (λ c. omega arith) (λ c. omega arith) (λ c. omega (arith, c .before .before .before .loop .inv))
+    (λ c. c .before .loop .inv))

@@ -14,5 +14,5 @@ abbrev μ-loop : tie.MeasureT-loop
 pub passes-spec : {M : Type 1} → statement M
 passes-spec =
     tie.close
-    (tie.spec Inv-loop μ-loop (λ c. search needs) (λ c κs. tt) (λ c. omega arith) (λ c. omega arith) (λ c. omega arith) (λ c. omega arith) (λ c κs. tt) (λ c. omega arith) (λ c. omega arith)
-    (λ c. omega arith) (λ c. tt))
+    (tie.spec Inv-loop μ-loop (λ c. search needs) (λ c κs. tt) (λ c. tt) (λ c. omega arith) (λ c. omega arith) (λ c. omega arith) (λ c. omega arith)
+    (λ c κs. tt) (λ c. tt) (λ c. omega arith) (λ c. omega arith) (λ c. omega arith) (λ c. tt))

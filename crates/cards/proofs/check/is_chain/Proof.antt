@@ -49,16 +49,16 @@ returns c =
     sym (scanned-next (l .loop .inv) long (s .pre) (omega arith) ∙ step (s .args .t1) _ (l .loop .i) (omega arith)
     ∙ simp (sym (c .before .is-normal .ensures) ∙ not-true _ (c .if1 .taken)))
 
--- the record of the turn is normalised, and `holds` says whether its kind was seen
-normal : (c : tie.After-holds Inv-loop μ-loop) → normalPass (getD (c .before .before .before .before .before .before .before .args .t1) (c .before .before .before .before .before .before .loop .i) past .pass) ≡ true
+-- the record of the turn is normalised, and `is_among` says whether its kind was seen
+normal : (c : tie.After-is-among Inv-loop μ-loop) → normalPass (getD (c .before .before .before .before .before .before .before .args .t1) (c .before .before .before .before .before .before .loop .i) past .pass) ≡ true
 normal c = sym (c .before .before .before .is-normal .ensures) ∙ not-false _ (c .before .before .if1 .left)
 
-seen : (c : tie.After-holds Inv-loop μ-loop) → let a = c .before .before .before .before .before .before .before .args in let i = c .before .before .before .before .before .before .loop .i in
-    among (kindOf (getD (a .t1) i past .pass)) (kinds (take i (a .t1))) ≡ c .holds .result
+seen : (c : tie.After-is-among Inv-loop μ-loop) → let a = c .before .before .before .before .before .before .before .args in let i = c .before .before .before .before .before .before .loop .i in
+    among (kindOf (getD (a .t1) i past .pass)) (kinds (take i (a .t1))) ≡ c .is-among .result
 seen c =
     let a = c .before .before .before .before .before .before .before .args in
     let i = c .before .before .before .before .before .before .loop .i in
-    ap (λ (k : ℕ). among k (kinds (take i (a .t1)))) (sym (c .before .kind-of .ensures)) ∙ sym (c .holds .ensures)
+    ap (λ (k : ℕ). among k (kinds (take i (a .t1)))) (sym (c .before .kind-of .ensures)) ∙ sym (c .is-among .ensures)
 
 returns-2 : tie.Need-returns-2 Inv-loop μ-loop
 returns-2 c =
@@ -78,18 +78,18 @@ returns-3 : tie.Need-returns-3 Inv-loop μ-loop
 returns-3 c =
     let l = c .before .before .before .before .before .before .before .before .before in
     let s = l .before in
-    let holds = c .before .before .before in
+    let seen-at = c .before .before .before in
     sym (scanned-next (l .loop .inv) (s .good .0 .1 .0 .1) (s .pre) (omega arith) ∙ step (s .args .t1) _ (l .loop .i) (omega (arith, s .good .0 .1 .0 .1))
-    ∙ simp (normal holds, seen holds ∙ c .before .before .if2 .left, rises (c .before) ∙ lt-ltb _ _ (c .if3 .taken)))
+    ∙ simp (normal seen-at, seen seen-at ∙ c .before .before .if2 .left, rises (c .before) ∙ lt-ltb _ _ (c .if3 .taken)))
 
 loop-again : tie.Need-loop-again Inv-loop μ-loop
 loop-again c =
     let l = c .before .before .before .before .before .before .before .before .before in
     let s = l .before in
-    let holds = c .before .before .before in
+    let seen-at = c .before .before .before in
     scanned-more (l .loop .inv) (s .good .0 .1 .0 .1) (s .pre) (omega arith)
     (step (s .args .t1) _ (l .loop .i) (omega (arith, s .good .0 .1 .0 .1))
-    ∙ simp (normal holds, seen holds ∙ c .before .before .if2 .left, rises (c .before) ∙ le-ltb _ _ (c .if3 .left)))
+    ∙ simp (normal seen-at, seen seen-at ∙ c .before .before .if2 .left, rises (c .before) ∙ le-ltb _ _ (c .if3 .left)))
 
 returns-4 : tie.Need-returns-4 Inv-loop μ-loop
 unfolding normalChain

@@ -10,7 +10,7 @@ use Rattle.cards.proofs.check.may_ask.Tie as tie
 returns : tie.Need-returns
 returns c =
     let s = c .before .before .before .before in
-    c .holds .ensures ∙ ap (λ (q : Pending). askable q (take (s .args .n) (s .args .records))) (sym (c .before .before .pending .given .1))
+    c .is-among .ensures ∙ ap (λ (q : Pending). askable q (take (s .args .n) (s .args .records))) (sym (c .before .before .pending .given .1))
 
 pub may-ask-spec : {M : Type 1} → statement M
 may-ask-spec = tie.close (tie.spec (λ c. search needs) (λ c κs. search needs) returns (λ c. search needs) (λ c. search needs))

@@ -10,6 +10,6 @@ pub bloom-spec : {M : Type 1} → statement M
 unfolding bloomAt ofBits
 bloom-spec =
     tie.close
-    (tie.spec (λ c κs. search needs) (λ c. search needs) (λ c. search needs) (λ c κs. search needs) (λ c. search steps) (λ c κs. search steps) (λ c. search needs)
-    (λ c. search needs) (λ c κs. search needs) (λ c. search steps) (λ c κs. search steps) (λ c. search needs) (λ c. search needs) (λ c κs. search needs)
-    (λ c. search steps) (λ c. search steps))
+    (tie.spec (λ c κs. search needs) (λ c. search needs) (λ c. search needs) (λ c κs. search needs) (λ c. search steps) (λ c κs. search steps)
+    (λ c. search needs) (λ c. search needs) (λ c κs. search needs) (λ c. search steps) (λ c κs. search steps) (λ c. search needs) (λ c. search needs)
+    (λ c κs. search needs) (λ c. search steps) (λ c. search steps))

@@ -10,5 +10,5 @@ pub persistence-spec : {M : Type 1} → statement M
 unfolding persistenceAt ofBits round
 persistence-spec =
     tie.close
-    (tie.spec (λ c κs. search needs) (λ c. search needs) (λ c. search needs) (λ c κs. search needs) (λ c. search steps) (λ c κs. search steps) (λ c. search needs)
-    (λ c. search needs) (λ c κs. search needs) (λ c. search steps) (λ c. search steps))
+    (tie.spec (λ c κs. search needs) (λ c. search needs) (λ c. search needs) (λ c κs. search needs) (λ c. search steps) (λ c κs. search steps)
+    (λ c. search needs) (λ c. search needs) (λ c κs. search needs) (λ c. search steps) (λ c. search steps))

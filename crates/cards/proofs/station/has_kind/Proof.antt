@@ -16,7 +16,7 @@ returns : tie.Need-returns
 returns c =
     let f = c .before in
     let s = f .before .before in
-    c .holds .ensures ∙ ap (λ (rs : List Record). among (s .args .kind) (kinds rs)) (of-ten (s .args .station .n) _ _ (f .few .ensures .0) (long s))
+    c .is-among .ensures ∙ ap (λ (rs : List Record). among (s .args .kind) (kinds rs)) (of-ten (s .args .station .n) _ _ (f .few .ensures .0) (long s))
 
 pub has-kind-spec : {M : Type 1} → statement M
 has-kind-spec = tie.close (tie.spec (λ c κs. tt) (λ c κs. search needs) returns)

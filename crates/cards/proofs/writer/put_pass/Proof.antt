@@ -13,5 +13,5 @@ put-pass-spec =
     (λ c κs. search lays) (λ c. search needs) (λ c κs. search lays) (λ c κs. search lays) (λ c κs. search lays) (λ c. search needs) (λ c κs. search lays)
     (λ c κs. search lays) (λ c. search needs) (λ c κs. search lays) (λ c κs. search lays) (λ c. search needs) (λ c κs. search lays) (λ c. search needs)
     (λ c κs. search lays) (λ c κs. search lays) (λ c κs. search lays) (λ c κs. search lays) (λ c. search needs) (λ c κs. search lays) (λ c. search needs)
-    (λ c κs. search lays) (λ c. search needs) (λ c κs. search lays) (λ c. search lays) (λ c. search lays) (λ c. search lays) (λ c. search lays) (λ c. search lays)
-    (λ c. search lays) (λ c. search lays) (λ c. search lays) (λ c. search lays) (λ c. search lays))
+    (λ c κs. search lays) (λ c. search needs) (λ c κs. search lays) (λ c. search lays) (λ c. search lays) (λ c. search lays) (λ c. search lays)
+    (λ c. search lays) (λ c. search lays) (λ c. search lays) (λ c. search lays) (λ c. search lays) (λ c. search lays))

@@ -1,5 +1,4 @@
 -- `chain::pipeline::reset` meets its contract. Assumes nothing.
-use mathlib.Core.Path.{sym, _∙_}
 use Rattle.num.specs.Laws.Refusals.{refuses, accepts}
 use Rattle.chain.proofs.pipeline.reset.Statement.{statement}
 use Rattle.chain.proofs.pipeline.reset.Tie as tie

@@ -34,7 +34,7 @@ returns-2 c =
     let start = else .before .before in
     let a = start .args in
     let few = present _ _ (none else) .0 .few in
-    switches (a .kind) (a .station) (place .place .result) (place .place .ensures) (omega (arith, long start)) (none else) (a .on) (held .still-held .ensures)
+    switches (a .kind) (a .station) (place .place .result) (place .place .ensures) (omega (arith, long start)) (none else) (a .on) (held .held-after .ensures)
 
 pub set-enabled-spec : {M : Type 1} → statement M
 set-enabled-spec =

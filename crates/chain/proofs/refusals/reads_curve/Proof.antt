@@ -37,5 +37,5 @@ returns-2 c =
 pub reads-curve-spec : {M : Type 1} → statement M
 reads-curve-spec =
     tie.close
-    (tie.spec Inv-loop μ-loop (λ c. scanned-none _ _ _) (λ c. omega arith) (λ c. omega arith) (λ c κs. search needs) returns (λ c. omega arith) (λ c. omega arith)
-    loop-again returns-2)
+    (tie.spec Inv-loop μ-loop (λ c. scanned-none _ _ _) (λ c. omega arith) (λ c. omega arith) (λ c κs. search needs) returns (λ c. omega arith)
+    (λ c. omega arith) loop-again returns-2)

@@ -140,4 +140,5 @@ stops-spec =
     tie.close
     (tie.spec (λ c κs. tt) returns (λ c κs. tt) returns-2 (λ c κs. tt) returns-3 (λ c. omega (arith, area-by c)) returns-4 depth-requires mul-if5 returns-5
     (λ c. omega (arith, area-by (c .before .before .before .before))) (λ c. omega (arith, width-by (c .before .before .before .before)))
-    (λ c. omega (arith, area-by (c .before .before .before .before), width-by (c .before .before .before .before))) returns-6 returns-7 lacks-curve-requires returns-8 returns-9)
+    (λ c. omega (arith, area-by (c .before .before .before .before), width-by (c .before .before .before .before))) returns-6 returns-7 lacks-curve-requires
+    returns-8 returns-9)

@@ -42,5 +42,5 @@ returns-4 c =
 pub frame-fault-spec : {M : Type 1} → statement M
 frame-fault-spec =
     tie.close
-    (tie.spec returns (λ c κs. omega arith) (λ c κs. omega arith) (λ c κs. tt) returns-2 (λ c. omega (arith, few c)) (λ c. omega (arith, few c)) (λ c. omega (arith, few c))
-    returns-3 returns-4)
+    (tie.spec returns (λ c κs. omega arith) (λ c κs. omega arith) (λ c κs. tt) returns-2 (λ c. omega (arith, few c)) (λ c. omega (arith, few c))
+    (λ c. omega (arith, few c)) returns-3 returns-4)

@@ -54,5 +54,5 @@ frame-spec =
     (tie.spec (λ c κs. omega (arith, c .before .before .before .before .before .before .pre .0 .long))
     (λ c κs. omega (arith, c .before .before .before .before .before .before .before .pre .0 .long)) (λ c. omega (arith, few c))
     (λ c. omega (arith, start c .pre .0 .long)) (λ c. omega (arith, start c .pre .0 .long)) (λ c. omega arith)
-    (λ c. omega (arith, few (c .before), start (c .before) .pre .1 .words-room)) (λ c. sym (lent (c .before .before))) show-requires (λ c. search needs) (λ c. search needs)
-    (λ c. search needs) (λ c. search needs) (λ c. search needs) returns)
+    (λ c. omega (arith, few (c .before), start (c .before) .pre .1 .words-room)) (λ c. sym (lent (c .before .before))) show-requires (λ c. search needs)
+    (λ c. search needs) (λ c. search needs) (λ c. search needs) (λ c. search needs) returns)

@@ -1,4 +1,4 @@
--- `events::play::show` meets its contract: the station's refusal, or the pixels, the call, the line. Assumes nothing.
+-- `events::play::show` meets its contract: the station's refusal, or the pixels, the call, the line. From `words-kept` on as frames' `show`. Assumes nothing.
 use borrow.Author.Needs.{needs}
 use Prim.Native.Nat.{_*_}
 use mathlib.Core.Path.{_≡_, _∙_}

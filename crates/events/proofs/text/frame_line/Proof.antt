@@ -46,7 +46,8 @@ loop-again c =
 pub frame-line-spec : {M : Type 1} → statement M
 frame-line-spec =
     tie.close
-    (tie.spec Inv-loop μ-loop (λ c. omega arith) (λ c. no-pixel (c .before .before .args .frame .now) (c .before .before .args .out .now) (omega arith)) (λ c. omega (arith, c .before .loop .inv .1)) (λ c. omega arith) (λ c. omega arith)
-    (λ c. omega (arith, out-room c)) (λ c. omega arith) (λ c. omega arith) put-pixel-requires (λ c. omega arith) (λ c. omega arith) loop-again
-    (λ c. omega (arith, ends c)) (λ c. omega (arith, c .before .loop .inv .1)) (λ c. simp length-set (omega (arith, c .before .loop .inv .2 .kept, size c)))
+    (tie.spec Inv-loop μ-loop (λ c. omega arith) (λ c. no-pixel (c .before .before .args .frame .now) (c .before .before .args .out .now) (omega arith))
+    (λ c. omega (arith, c .before .loop .inv .1)) (λ c. omega arith) (λ c. omega arith) (λ c. omega (arith, out-room c)) (λ c. omega arith) (λ c. omega arith)
+    put-pixel-requires (λ c. omega arith) (λ c. omega arith) loop-again (λ c. omega (arith, ends c)) (λ c. omega (arith, c .before .loop .inv .1))
+    (λ c. simp length-set (omega (arith, c .before .loop .inv .2 .kept, size c)))
     (λ c. line-ends _ _ _ _ _ (c .before .loop .inv) (c .loop-test .left) (c .before .before .before .before .pre .1)))

@@ -35,7 +35,8 @@ returns-3 c =
 pub number-line-spec : {M : Type 1} → statement M
 number-line-spec =
     tie.close
-    (tie.spec (λ c. omega arith) (λ c. simp length-set (omega arith)) (λ c κs. omega arith) (λ c. simp length-set (omega arith)) (λ c. simp length-set (omega arith))
-    (λ c. simp length-set) returns (λ c κs. omega arith) (λ c. simp length-set (omega arith)) (λ c κs. omega arith) (λ c. simp length-set (omega arith))
-    (λ c. simp length-set (omega arith)) (λ c. simp length-set) returns-2 (λ c κs. omega arith) (λ c. simp length-set (omega arith)) (λ c κs. omega arith)
-    (λ c. simp length-set (omega arith)) (λ c κs. omega arith) (λ c. simp length-set (omega arith)) (λ c. simp length-set (omega arith)) (λ c. simp length-set) returns-3)
+    (tie.spec (λ c. omega arith) (λ c. simp length-set (omega arith)) (λ c κs. omega arith) (λ c. simp length-set (omega arith))
+    (λ c. simp length-set (omega arith)) (λ c. simp length-set) returns (λ c κs. omega arith) (λ c. simp length-set (omega arith)) (λ c κs. omega arith)
+    (λ c. simp length-set (omega arith)) (λ c. simp length-set (omega arith)) (λ c. simp length-set) returns-2 (λ c κs. omega arith)
+    (λ c. simp length-set (omega arith)) (λ c κs. omega arith) (λ c. simp length-set (omega arith)) (λ c κs. omega arith) (λ c. simp length-set (omega arith))
+    (λ c. simp length-set (omega arith)) (λ c. simp length-set) returns-3)

@@ -22,6 +22,6 @@ returns c =
 pub put-pixel-spec : {M : Type 1} → statement M
 put-pixel-spec =
     tie.close
-    (tie.spec (λ c. omega arith) (λ c κs. omega arith) (λ c. simp length-set (omega arith)) (λ c κs. omega arith) (λ c. simp length-set (omega arith)) (λ c κs. omega arith)
-    (λ c. simp length-set (omega arith)) (λ c κs. omega arith) (λ c. simp length-set (omega arith)) (λ c κs. omega arith) (λ c. simp length-set (omega arith)) (λ c κs. omega arith)
-    (λ c. simp length-set (omega arith)) (λ c. simp length-set) returns)
+    (tie.spec (λ c. omega arith) (λ c κs. omega arith) (λ c. simp length-set (omega arith)) (λ c κs. omega arith) (λ c. simp length-set (omega arith))
+    (λ c κs. omega arith) (λ c. simp length-set (omega arith)) (λ c κs. omega arith) (λ c. simp length-set (omega arith)) (λ c κs. omega arith)
+    (λ c. simp length-set (omega arith)) (λ c κs. omega arith) (λ c. simp length-set (omega arith)) (λ c. simp length-set) returns)

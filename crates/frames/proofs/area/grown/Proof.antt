@@ -1,5 +1,4 @@
 -- `frames::area::grown` meets its contract. Assumes nothing.
-use mathlib.Core.Path.{refl}
 use native.Mathlib.Omega.{arith}
 use borrow.Author.Tests.{lt-ltb, le-ltb}
 use Rattle.frames.proofs.area.grown.Statement.{statement}

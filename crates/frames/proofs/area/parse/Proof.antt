@@ -1,10 +1,8 @@
 -- `frames::area::parse` meets its contract: what was read, test by test. Assumes nothing.
 use Prim.Native.Nat.{_≤_}
-use mathlib.Core.Bool.{false}
-use mathlib.Core.Path.{_≡_, sym, _∙_}
+use mathlib.Core.Path.{sym, _∙_}
 use native.Mathlib.Omega.{arith}
 use borrow.Author.Tests.{not-true, not-false}
-use Rattle.frames.specs.Area.{isLarge}
 use Rattle.frames.proofs.Words.{all-small, named-few, named-empty, named-large, named-whole, named-as}
 use Rattle.frames.proofs.area.parse.Statement.{statement}
 use Rattle.frames.proofs.area.parse.Tie as tie
@@ -40,5 +38,6 @@ returns-4 c =
 pub parse-spec : {M : Type 1} → statement M
 parse-spec =
     tie.close
-    (tie.spec (λ c κs. tt) returns returns-2 (λ c κs. tt) returns-3 (λ c. omega (arith, small (c .before) .0)) (λ c. omega (arith, small (c .before .before) .1))
-    (λ c. omega (arith, small (c .before .before .before) .2)) (λ c. omega (arith, small (c .before .before .before .before) .3)) returns-4)
+    (tie.spec (λ c κs. tt) returns returns-2 (λ c κs. tt) returns-3 (λ c. omega (arith, small (c .before) .0))
+    (λ c. omega (arith, small (c .before .before) .1)) (λ c. omega (arith, small (c .before .before .before) .2))
+    (λ c. omega (arith, small (c .before .before .before .before) .3)) returns-4)

@@ -1,5 +1,5 @@
 -- `frames::area::read` meets its contract: byte after byte. Assumes nothing.
-use Prim.Native.Nat.{ℕ, _+_, _-_, _≤_}
+use Prim.Native.Nat.{_+_, _-_, _≤_}
 use mathlib.Core.Path.{_≡_, refl, sym, ap, _∙_}
 use native.Mathlib.Omega.{arith}
 use lib.ListN.{length, drop}
@@ -31,4 +31,5 @@ returns c = sym (read-all _ _ _ (c .loop-test .left)) ∙ c .before .loop .inv .
 pub read-spec : {M : Type 1} → statement M
 read-spec =
     tie.close
-    (tie.spec Inv-loop μ-loop (λ c. (refl, omega arith)) (λ c. omega arith) (λ c κs. c .before .before .loop .inv .1) (λ c. omega arith) (λ c. omega arith) loop-again returns)
+    (tie.spec Inv-loop μ-loop (λ c. (refl, omega arith)) (λ c. omega arith) (λ c κs. c .before .before .loop .inv .1) (λ c. omega arith) (λ c. omega arith)
+    loop-again returns)

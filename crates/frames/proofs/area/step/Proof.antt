@@ -1,5 +1,5 @@
 -- `frames::area::step` meets its contract: each test went as the definition's. Assumes nothing.
-use Prim.Native.Nat.{ℕ, _≤_}
+use Prim.Native.Nat.{_≤_}
 use mathlib.Core.Bool.{false}
 use mathlib.Core.Path.{_≡_, sym, _∙_}
 use borrow.Author.Needs.{needs}
@@ -44,5 +44,5 @@ returns-5 c =
 pub step-spec : {M : Type 1} → statement M
 step-spec =
     tie.close
-    (tie.spec (λ c κs. tt) (λ c. omega (arith, in-digits c)) (λ c κs. omega (arith, in-digits c)) returns (λ c κs. search needs) returns-2 (λ c κs. search needs) returns-3
-    (λ c κs. search needs) returns-4 (λ c κs. omega arith) returns-5)
+    (tie.spec (λ c κs. tt) (λ c. omega (arith, in-digits c)) (λ c κs. omega (arith, in-digits c)) returns (λ c κs. search needs) returns-2
+    (λ c κs. search needs) returns-3 (λ c κs. search needs) returns-4 (λ c κs. omega arith) returns-5)

@@ -4,7 +4,6 @@ use mathlib.Core.List.{List}
 use mathlib.Core.Path.{_≡_, ap, _∙_}
 use borrow.Author.Needs.{needs}
 use native.Mathlib.Omega.{arith}
-use lib.ListN.{length}
 use Rattle.areas.specs.Areas.{judged}
 use Rattle.areas.specs.declared.Answer.{Answer}
 use Rattle.raster.specs.Pixels.{unpacked}
@@ -31,5 +30,5 @@ returns c =
 pub measure-spec : {M : Type 1} → statement M
 measure-spec =
     tie.close
-    (tie.spec (λ c κs. omega (arith, c .before .before .before .before .before .pre .words-room, c .before .before .before .before .before .pre .pixels-room)) (λ c κs. tt) (λ c κs. tt) (λ c. search needs)
-    (λ c. search needs) returns)
+    (tie.spec (λ c κs. omega (arith, c .before .before .before .before .before .pre .words-room, c .before .before .before .before .before .pre .pixels-room))
+    (λ c κs. tt) (λ c κs. tt) (λ c. search needs) (λ c. search needs) returns)

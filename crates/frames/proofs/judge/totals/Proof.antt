@@ -1,6 +1,7 @@
--- `frames::judge::totals` meets its contract: a frame that is taken lies whole in the file, and its words in the scratch. Assumes nothing.
+-- `frames::judge::totals` meets its contract: a frame that is taken lies whole in the file, and its words in the scratch. The frame in the file as in `filter`.
+-- Assumes nothing.
 use borrow.Author.Needs.{needs}
-use Prim.Native.Nat.{ℕ, _-_, _*_, _≤_}
+use Prim.Native.Nat.{ℕ, _*_}
 use mathlib.Core.List.{List, _++_}
 use mathlib.Core.Path.{_≡_, sym, ap, _∙_}
 use native.Mathlib.Omega.{arith}
@@ -67,6 +68,7 @@ returns-2 c =
 pub totals-spec : {M : Type 1} → statement M
 totals-spec =
     tie.close
-    (tie.spec (λ c κs. tt) (λ c. search needs) (λ c. search needs) (λ c κs. tt) returns (λ c. omega (arith, few _ _ _ _ _ (whole c))) (λ c. omega (arith, whole c .ends))
-    (λ c. omega (arith, whole c .ends)) (λ c. search needs) (λ c. omega (arith, whole (c .before) .few)) (λ c. sym (lent (start (c .before .before) .args .words .now) _ (whole (c .before .before)))) measure-requires
-    (λ c. search needs) (λ c. search needs) returns-2)
+    (tie.spec (λ c κs. tt) (λ c. search needs) (λ c. search needs) (λ c κs. tt) returns (λ c. omega (arith, few _ _ _ _ _ (whole c)))
+    (λ c. omega (arith, whole c .ends)) (λ c. omega (arith, whole c .ends)) (λ c. search needs) (λ c. omega (arith, whole (c .before) .few))
+    (λ c. sym (lent (start (c .before .before) .args .words .now) _ (whole (c .before .before)))) measure-requires (λ c. search needs) (λ c. search needs)
+    returns-2)

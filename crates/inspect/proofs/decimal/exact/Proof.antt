@@ -34,4 +34,5 @@ returns-2 c =
 pub exact-spec : {M : Type 1} → statement M
 exact-spec =
     tie.close
-    (tie.spec (λ c κs. tt) (λ c κs. search needs) returns (λ c κs. omega arith) (λ c κs. (search needs, c .before .decode .ensures .0, c .before .decode .ensures .1)) returns-2)
+    (tie.spec (λ c κs. tt) (λ c κs. search needs) returns (λ c κs. omega arith)
+    (λ c κs. (search needs, c .before .decode .ensures .0, c .before .decode .ensures .1)) returns-2)

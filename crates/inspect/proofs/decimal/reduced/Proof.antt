@@ -20,4 +20,5 @@ loop-again c =
 pub reduced-spec : {M : Type 1} → statement M
 reduced-spec =
     tie.close
-    (tie.spec Inv-loop μ-loop (λ c. (omega arith, omega arith, refl)) (λ c. c .before .before .loop .inv) (λ c. omega arith) (λ c. omega arith) loop-again (λ c. c .before .loop .inv))
+    (tie.spec Inv-loop μ-loop (λ c. (omega arith, omega arith, refl)) (λ c. c .before .before .loop .inv) (λ c. omega arith) (λ c. omega arith) loop-again
+    (λ c. c .before .loop .inv))

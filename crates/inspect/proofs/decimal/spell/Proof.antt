@@ -23,6 +23,6 @@ small c =
 pub spell-spec : {M : Type 1} → statement M
 spell-spec =
     tie.close
-    (tie.spec Inv-loop μ-loop (λ c. unspelled _ _ (c .pre)) (λ c. omega arith) (λ c. omega (arith, c .before .loop .inv .long)) (λ c. omega arith) (λ c. omega arith)
-    (λ c. spell-more (c .before .loop .inv) (c .loop-test .taken)) (λ c. c .before .loop .inv .long ∙ sym (c .before .before .pre))
+    (tie.spec Inv-loop μ-loop (λ c. unspelled _ _ (c .pre)) (λ c. omega arith) (λ c. omega (arith, c .before .loop .inv .long)) (λ c. omega arith)
+    (λ c. omega arith) (λ c. spell-more (c .before .loop .inv) (c .loop-test .taken)) (λ c. c .before .loop .inv .long ∙ sym (c .before .before .pre))
     (λ c. spelled-all (c .before .loop .inv) (c .loop-test .left) (small (c .before .before))))

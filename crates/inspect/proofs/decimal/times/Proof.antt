@@ -22,7 +22,8 @@ below c =
 pub times-spec : {M : Type 1} → statement M
 times-spec =
     tie.close
-    (tie.spec Inv-loop μ-loop (λ c. none _ _ _ (c .pre .0) (c .pre .2)) (λ c. omega (arith, c .before .before .loop .inv .digits .long)) (λ c. omega (arith, below (c .before)))
-    (λ c. omega (arith, below (c .before))) (λ c. omega (arith, c .before .before .loop .inv .digits .long)) (λ c. omega arith) (λ c. omega arith)
-    (λ c. turn (c .before .before .loop .inv) (c .before .loop-test .taken)) (λ c. c .before .loop .inv .digits .long ∙ sym (c .before .before .pre .0 .long))
+    (tie.spec Inv-loop μ-loop (λ c. none _ _ _ (c .pre .0) (c .pre .2)) (λ c. omega (arith, c .before .before .loop .inv .digits .long))
+    (λ c. omega (arith, below (c .before))) (λ c. omega (arith, below (c .before))) (λ c. omega (arith, c .before .before .loop .inv .digits .long))
+    (λ c. omega arith) (λ c. omega arith) (λ c. turn (c .before .before .loop .inv) (c .before .loop-test .taken))
+    (λ c. c .before .loop .inv .digits .long ∙ sym (c .before .before .pre .0 .long))
     (λ c. done (c .before .loop .inv) (c .before .before .pre .0) (c .loop-test .left) (c .before .before .pre .3)))

@@ -35,5 +35,8 @@ returns-2 c =
 pub units-spec : {M : Type 1} → statement M
 units-spec =
     tie.close
-    (tie.spec (λ c κs. c .before .before .before .pre .0) (λ c. omega arith) scale-requires (λ c. c .before .before .scale .ensures .0 .long ∙ sym (c .before .before .before .before .before .before .before .before .before .before .pre .0)) returns (λ c κs. omega arith)
-    (λ c κs. c .before .before .before .before .pre .0) scale-requires-2 (λ c. c .before .before .scale2 .ensures .0 .long ∙ sym (c .before .before .before .before .before .before .before .before .before .before .before .pre .0)) returns-2)
+    (tie.spec (λ c κs. c .before .before .before .pre .0) (λ c. omega arith) scale-requires
+    (λ c. c .before .before .scale .ensures .0 .long ∙ sym (c .before .before .before .before .before .before .before .before .before .before .pre .0)) returns
+    (λ c κs. omega arith) (λ c κs. c .before .before .before .before .pre .0) scale-requires-2
+    (λ c. c .before .before .scale2 .ensures .0 .long ∙ sym (c .before .before .before .before .before .before .before .before .before .before .before .pre .0))
+    returns-2)

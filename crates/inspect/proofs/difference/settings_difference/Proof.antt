@@ -43,4 +43,5 @@ returns-2 c =
 pub settings-difference-spec : {M : Type 1} → statement M
 settings-difference-spec =
     tie.close
-    (tie.spec Inv-loop μ-loop (λ c. compared-none _ _ _) (λ c κs. tt) (λ c κs. tt) (λ c κs. tt) returns (λ c. omega arith) (λ c. omega arith) loop-again returns-2)
+    (tie.spec Inv-loop μ-loop (λ c. compared-none _ _ _) (λ c κs. tt) (λ c κs. tt) (λ c κs. tt) returns (λ c. omega arith) (λ c. omega arith) loop-again
+    returns-2)

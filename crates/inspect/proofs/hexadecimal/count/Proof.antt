@@ -60,5 +60,5 @@ pub count-spec : {M : Type 1} → statement M
 count-spec =
     tie.close
     (tie.spec Inv-loop μ-loop (λ c. record { done = _; read = read-none _; many = refl; less = omega arith }) (λ c κs. omega arith) (λ c. search needs)
-    (λ c. omega arith) (λ c. omega arith) loop-again (λ c. search needs) (λ c. omega (arith, c .before .before .before .before .loop .inv .less)) (λ c. omega arith) (λ c. omega arith) loop-again-2 (λ c. search needs)
-    returns returns-2)
+    (λ c. omega arith) (λ c. omega arith) loop-again (λ c. search needs) (λ c. omega (arith, c .before .before .before .before .loop .inv .less))
+    (λ c. omega arith) (λ c. omega arith) loop-again-2 (λ c. search needs) returns returns-2)

@@ -1,10 +1,10 @@
 -- `inspect::layout::field_at` meets its contract: record by record, until one holds the bit. Assumes nothing.
 use borrow.Author.Needs.{needs}
-use Prim.Native.Nat.{_-_, _≤_}
+use Prim.Native.Nat.{_-_}
 use native.Mathlib.Omega.{arith}
-use mathlib.Core.Path.{ap, sym, _∙_}
+use mathlib.Core.Path.{sym, _∙_}
 use borrow.Author.Tests.{lt-ltb, le-ltb}
-use Rattle.inspect.specs.Layout.{fieldFrom, fieldOf}
+use Rattle.inspect.specs.Layout.{fieldOf}
 use Rattle.inspect.proofs.Walking.{Walked, walked-none, walked-found, walked-more, walked-all}
 use Rattle.inspect.proofs.layout.field_at.Statement.{statement}
 use Rattle.inspect.proofs.layout.field_at.Tie as tie

@@ -1,7 +1,6 @@
 -- `inspect::layout::in_record` meets its contract: each test went as the definition's. Assumes nothing.
 use borrow.Author.Needs.{needs}
 use native.Mathlib.Omega.{arith}
-use mathlib.Core.Path.{sym, _∙_}
 use borrow.Author.Tests.{lt-ltb, le-ltb}
 use Rattle.inspect.specs.Layout.{inRecord}
 use Rattle.inspect.proofs.layout.in_record.Statement.{statement}
@@ -25,4 +24,5 @@ returns-3 c =
 pub in-record-spec : {M : Type 1} → statement M
 in-record-spec =
     tie.close
-    (tie.spec (λ c. search needs) returns (λ c. search needs) returns-2 (λ c κs. tt) (λ c. search needs) (λ c. omega arith) (λ c κs. c .bits-of .ensures .1) returns-3)
+    (tie.spec (λ c. search needs) returns (λ c. search needs) returns-2 (λ c κs. tt) (λ c. search needs) (λ c. omega arith) (λ c κs. c .bits-of .ensures .1)
+    returns-3)

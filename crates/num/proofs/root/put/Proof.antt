@@ -11,7 +11,9 @@ use lib.Ieee.Bits.{ofBits-toBits}
 use Rattle.num.specs.Root.{rootOf}
 use Rattle.num.specs.Private.{operand}
 use Rattle.num.proofs.Patterns.{no-nan}
-use Rattle.num.proofs.RootOperand.{operand-is, operand-above, root-beyond, root-not-above, number-above}
+use Rattle.num.specs.Const.{c0·0}
+use Rattle.num.specs.Laws.Order.{lt-number-right}
+use Rattle.num.proofs.RootOperand.{operand-is, operand-above, root-beyond, root-not-above}
 use Rattle.num.proofs.root.put.Statement.{statement}
 use Rattle.num.proofs.root.put.Tie as tie
 
@@ -22,7 +24,7 @@ held c = subst T (sym (c .good .0 .1)) tt
 float-to-bits-b : tie.Need-float-to-bits-b
 float-to-bits-b c =
     let x = c .before .args .x in
-    subst (λ (y : Float). T (not (isNan y))) (sym (c .above-zero .ensures)) (number-above (operand x) (operand-above x))
+    subst (λ (y : Float). T (not (isNan y))) (sym (c .above-zero .ensures)) (lt-number-right c0·0 (operand x) (operand-above x))
 
 float-from-bits-r : tie.Need-float-from-bits-r
 float-from-bits-r c = no-nan _ (c .before .pre .0)

@@ -11,7 +11,9 @@ use lib.Ieee.{Float, binary32, ofBits, toBits, fits, isNan}
 use lib.Ieee.Bits.{ofBits-toBits}
 use Rattle.num.specs.Root.{nearestRoot, rootOf}
 use Rattle.num.specs.Private.{operand}
-use Rattle.num.proofs.RootOperand.{operand-is, operand-fits, operand-above, root-of-units, number-above, pattern-above}
+use Rattle.num.specs.Const.{c0·0}
+use Rattle.num.specs.Laws.Order.{lt-number-right}
+use Rattle.num.proofs.RootOperand.{operand-is, operand-fits, operand-above, root-of-units, pattern-above}
 use Rattle.num.proofs.root.ready.Statement.{statement}
 use Rattle.num.proofs.root.ready.Tie as tie
 
@@ -22,7 +24,7 @@ held c = subst T (sym (c .good .0 .1)) tt
 float-to-bits-finite : tie.Need-float-to-bits-finite
 float-to-bits-finite c =
     let x = c .before .args .x in
-    subst (λ (y : Float). T (not (isNan y))) (sym (c .above-zero .ensures)) (number-above (operand x) (operand-above x))
+    subst (λ (y : Float). T (not (isNan y))) (sym (c .above-zero .ensures)) (lt-number-right c0·0 (operand x) (operand-above x))
 
 finite-requires : tie.Need-finite-requires
 finite-requires c κs =

@@ -93,5 +93,5 @@ returns c = let v = c .before .loop in ends _ _ _ (v .place) (v .left) (c .loop-
 pub whole-roots-spec : {M : Type 1} → statement M
 whole-roots-spec =
     tie.close
-    (tie.spec Inv-loop μ-loop (λ c κs. tt) loop-holds (λ c. omega arith) digits-requires (λ c. omega arith) loop-again
-    (λ c. c .before .loop .inv .1 .first) (λ c. c .before .loop .inv .1 .second ∙ sym (c .before .before .before .before .before .before .before .before .pre .0)) returns)
+    (tie.spec Inv-loop μ-loop (λ c κs. tt) loop-holds (λ c. omega arith) digits-requires (λ c. omega arith) loop-again (λ c. c .before .loop .inv .1 .first)
+    (λ c. c .before .loop .inv .1 .second ∙ sym (c .before .before .before .before .before .before .before .before .pre .0)) returns)

@@ -9,6 +9,7 @@ use lib.IntN.{ℤ, pos}
 use lib.Dec.{T, eqb}
 use lib.Ieee.{Float, nan, inf, fin, binary32, up, down, neg, lt, eq, fits, ofBits}
 use lib.Ieee.Back.{whole-unique}
+use Rattle.num.specs.Laws.Bools.{both}
 use Rattle.num.specs.Const.{c0·0}
 use Rattle.num.specs.Steps.{plusZeroOf, absOf}
 use Rattle.num.proofs.steps.abs.Statement.{statement}
@@ -28,10 +29,6 @@ below-zero (inf false) h = absurd (true≢false (sym h))
 below-zero (fin true m e) h = refl
 below-zero (fin false m e) h = absurd (none-below (m * up e * 1) (down e) (ltb-true (m * up e * 1) (0 * down e) h))
 
-both : (p q : Bool) → (p && q) ≡ true → p ≡ true
-both true q h = refl
-both false q h = h
-
 unsigned-fits : (s : Bool) (m : ℕ) (e : ℤ) → T (fits binary32 (fin s m e)) → T (fits binary32 (fin false m e))
 unfolding fits
 unsigned-fits s zero e h = h
@@ -47,7 +44,7 @@ at-zero nan f h = absurd (true≢false (sym h))
 at-zero (inf s) f h = absurd (true≢false (sym h))
 at-zero (fin s m e) f h =
     whole-unique binary32 (fin false 0 (pos 0)) (fin false m e) false 0 zero-fits (unsigned-fits s m e f) (refl, refl)
-    (refl, eqb-true (m * up e * 1) (0 * down e) (both (eqb (m * up e * 1) (0 * down e)) _ h))
+    (refl, eqb-true (m * up e * 1) (0 * down e) (both (eqb (m * up e * 1) (0 * down e)) _ h .0))
 
 nothing : (a b : ℕ) → a + b ≤ 0 → (a ≡ b) × (a ≡ 0)
 nothing a b h = (omega arith, omega arith)

@@ -87,8 +87,7 @@ returns c =
 pub apply-spec : {M : Type 1} → statement M
 apply-spec =
     tie.close
-    (tie.spec cast-adaptive (λ c κs. search needs) adaptive-requires (λ c κs. tt) (λ c. omega (arith, c .line .ensures, start c .pre .wide)) (λ c. sym (part (c .before)))
-    (λ c κs. omega (arith, part (c .before), start (c .before) .pre .wide))
-    (λ c. let f = c .before .before in simp length-append (omega (arith, f .falls .kept .0, part (lines f))))
-    (λ c. sym (many (c .before .before .before)))
+    (tie.spec cast-adaptive (λ c κs. search needs) adaptive-requires (λ c κs. tt) (λ c. omega (arith, c .line .ensures, start c .pre .wide))
+    (λ c. sym (part (c .before))) (λ c κs. omega (arith, part (c .before), start (c .before) .pre .wide))
+    (λ c. let f = c .before .before in simp length-append (omega (arith, f .falls .kept .0, part (lines f)))) (λ c. sym (many (c .before .before .before)))
     (λ c κs. let f = c .before .before .before in (start (lines f) .pre, many f)) collect-requires (λ c. search needs) returns)

@@ -41,6 +41,6 @@ loop-again c =
 pub rows-spec : {M : Type 1} → statement M
 rows-spec =
     tie.close
-    (tie.spec Inv-loop μ-loop (λ c. no-rows _ (c .before .before .pre .0 .area)) (λ c. omega (arith, fits c)) (λ c. omega (arith, fits c)) (λ c. omega arith) (λ c. omega arith)
-    (λ c. omega (arith, fits c)) warm-requires
-    row-requires (λ c. omega arith) (λ c. omega arith) loop-again (λ c. c .before .loop .inv .so-far .kept) (λ c. rows-all (c .before .loop .inv) (c .loop-test .left)))
+    (tie.spec Inv-loop μ-loop (λ c. no-rows _ (c .before .before .pre .0 .area)) (λ c. omega (arith, fits c)) (λ c. omega (arith, fits c)) (λ c. omega arith)
+    (λ c. omega arith) (λ c. omega (arith, fits c)) warm-requires row-requires (λ c. omega arith) (λ c. omega arith) loop-again
+    (λ c. c .before .loop .inv .so-far .kept) (λ c. rows-all (c .before .loop .inv) (c .loop-test .left)))

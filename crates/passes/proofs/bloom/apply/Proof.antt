@@ -1,5 +1,5 @@
 -- `passes::bloom::apply` meets its contract: the planes at the start of the scratch, then the frame. Assumes nothing.
-use Prim.Native.Nat.{ℕ, _+_, _*_, _<_}
+use Prim.Native.Nat.{ℕ, _*_, _<_}
 use mathlib.Core.Path.{_≡_, sym, ap, _∙_}
 use mathlib.Core.List.{List, _++_}
 use native.Mathlib.Omega.{arith}
@@ -117,6 +117,7 @@ apply-spec =
     tie.close
     (tie.spec (λ c. search needs) (λ c κs. omega arith) (λ c κs. tt) (λ c κs. tt) (λ c. search needs) (λ c. sym (planes-long (c .before))) (λ c. search needs)
     (λ c. let k = c .before .before .before in sym (row-long k _ (k .before .line .ensures))) (λ c. search needs)
-    (λ c. let k = c .before .before .before .before in sym (row-long k _ (k .before .before .weight-line .ensures .long))) (λ c. search needs) horizontal-requires
-    (λ c. search needs) (λ c. let h = c .before .before .before .before .before in sym (ap length (shared h) ∙ written h)) (λ c. search needs) (λ c. search needs)
-    (λ c. sym (sums-long (lines (c .before .before .before .before .before .before)))) composite-rows-requires collect-requires (λ c. search needs) (λ c. search needs) returns)
+    (λ c. let k = c .before .before .before .before in sym (row-long k _ (k .before .before .weight-line .ensures .long))) (λ c. search needs)
+    horizontal-requires (λ c. search needs) (λ c. let h = c .before .before .before .before .before in sym (ap length (shared h) ∙ written h))
+    (λ c. search needs) (λ c. search needs) (λ c. sym (sums-long (lines (c .before .before .before .before .before .before)))) composite-rows-requires
+    collect-requires (λ c. search needs) (λ c. search needs) returns)

@@ -37,5 +37,5 @@ returns c = summed-all (c .before .loop .inv) (c .before .before .before .before
 pub accumulate-spec : {M : Type 1} → statement M
 accumulate-spec =
     tie.close
-    (tie.spec Inv-loop μ-loop (λ c κs. search needs) loop-holds (λ c. omega arith) (λ c. omega arith) (λ c κs. omega arith) (λ c. omega arith) (λ c. omega arith)
-    loop-again (λ c. omega arith) returns)
+    (tie.spec Inv-loop μ-loop (λ c κs. search needs) loop-holds (λ c. omega arith) (λ c. omega arith) (λ c κs. omega arith) (λ c. omega arith)
+    (λ c. omega arith) loop-again (λ c. omega arith) returns)

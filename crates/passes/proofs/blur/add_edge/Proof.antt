@@ -21,5 +21,6 @@ loop-again c = more (c .before .before .before .loop .inv) nan (c .before .befor
 pub add-edge-spec : {M : Type 1} → statement M
 add-edge-spec =
     tie.close
-    (tie.spec Inv-loop μ-loop (λ c. none _ _) (λ c. omega arith) (λ c. omega arith) (λ c. omega arith) (λ c κs. (omega arith, omega arith, omega arith, c .before .before .before .before .before .pre .3)) (λ c. omega arith)
-    (λ c. omega arith) (λ c. omega arith) (λ c. omega arith) loop-again (λ c. omega arith) (λ c. all (c .before .loop .inv) (c .loop-test .left)))
+    (tie.spec Inv-loop μ-loop (λ c. none _ _) (λ c. omega arith) (λ c. omega arith) (λ c. omega arith)
+    (λ c κs. (omega arith, omega arith, omega arith, c .before .before .before .before .before .pre .3)) (λ c. omega arith) (λ c. omega arith)
+    (λ c. omega arith) (λ c. omega arith) loop-again (λ c. omega arith) (λ c. all (c .before .loop .inv) (c .loop-test .left)))

@@ -11,7 +11,7 @@ use Rattle.num.specs.Rewrite.{rewrite, every}
 use Rattle.num.specs.Laws.Rewrite.{Rewritten, length-rewrite}
 use Rattle.passes.specs.Private.{at, onward}
 use Rattle.passes.proofs.Offsets.{fourfold-all}
-use Rattle.passes.proofs.RowLoops.{further, further-long}
+use Rattle.num.specs.Laws.Rewrite.{further, further-long}
 use Rattle.passes.proofs.blur.add_four_offsets.Statement.{statement}
 use Rattle.passes.proofs.blur.add_four_offsets.Tie as tie
 
@@ -65,5 +65,5 @@ returns c =
 pub add-four-offsets-spec : {M : Type 1} → statement M
 add-four-offsets-spec =
     tie.close
-    (tie.spec (λ c κs. search needs) (λ c κs. search needs) (λ c. search needs) (λ c κs. search needs) (λ c. search needs) (λ c κs. search needs) (λ c. search needs)
-    (λ c. search needs) (λ c. search needs) (λ c. search needs) (λ c. search needs) add-edge-requires (λ c. search needs) returns)
+    (tie.spec (λ c κs. search needs) (λ c κs. search needs) (λ c. search needs) (λ c κs. search needs) (λ c. search needs) (λ c κs. search needs)
+    (λ c. search needs) (λ c. search needs) (λ c. search needs) (λ c. search needs) (λ c. search needs) add-edge-requires (λ c. search needs) returns)

@@ -31,4 +31,5 @@ add-sample-requires-4 c κs = let s = c .before .before .before .before in (s .p
 pub add-samples-spec : {M : Type 1} → statement M
 add-samples-spec =
     tie.close
-    (tie.spec add-sample-requires (λ c. search needs) add-sample-requires-2 (λ c. search needs) add-sample-requires-3 (λ c. search needs) add-sample-requires-4 returns)
+    (tie.spec add-sample-requires (λ c. search needs) add-sample-requires-2 (λ c. search needs) add-sample-requires-3 (λ c. search needs) add-sample-requires-4
+    returns)

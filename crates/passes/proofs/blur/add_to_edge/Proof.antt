@@ -11,7 +11,7 @@ use Rattle.num.specs.Rewrite.{rewrite, every}
 use Rattle.num.specs.Laws.Rewrite.{Rewritten}
 use Rattle.passes.specs.Private.{at, onward}
 use Rattle.passes.proofs.Offsets.{fourfold-none}
-use Rattle.passes.proofs.RowLoops.{further, further-long}
+use Rattle.num.specs.Laws.Rewrite.{further, further-long}
 use Rattle.passes.proofs.blur.add_to_edge.Statement.{statement}
 use Rattle.passes.proofs.blur.add_to_edge.Tie as tie
 
@@ -67,6 +67,6 @@ returns c =
 pub add-to-edge-spec : {M : Type 1} → statement M
 add-to-edge-spec =
     tie.close
-    (tie.spec (λ c. search needs) (λ c κs. search needs) (λ c κs. search needs) (λ c. search needs) (λ c κs. search needs) (λ c. search needs) (λ c. search needs)
-    (λ c. search needs) (λ c. search needs) (λ c. search needs) (λ c κs. search needs) (λ c. search needs) (λ c. search needs) (λ c. search needs) (λ c. search needs)
-    add-middle-requires (λ c. search needs) returns)
+    (tie.spec (λ c. search needs) (λ c κs. search needs) (λ c κs. search needs) (λ c. search needs) (λ c κs. search needs) (λ c. search needs)
+    (λ c. search needs) (λ c. search needs) (λ c. search needs) (λ c. search needs) (λ c κs. search needs) (λ c. search needs) (λ c. search needs)
+    (λ c. search needs) (λ c. search needs) add-middle-requires (λ c. search needs) returns)

@@ -10,4 +10,5 @@ returns c = rw (c .before .before .before .offset-weight .ensures) (rw (c .befor
 pub four-weights-spec : {M : Type 1} → statement M
 four-weights-spec =
     tie.close
-    (tie.spec (λ c κs. search needs) (λ c. search needs) (λ c κs. search needs) (λ c. search needs) (λ c κs. search needs) (λ c. search needs) (λ c κs. search needs) returns)
+    (tie.spec (λ c κs. search needs) (λ c. search needs) (λ c κs. search needs) (λ c. search needs) (λ c κs. search needs) (λ c. search needs)
+    (λ c κs. search needs) returns)

@@ -10,7 +10,6 @@ use borrow.Author.Tests.{le-leb, lt-leb, not-true, not-false}
 use lib.Ieee.{Float, nan}
 use lib.ListN.{length, take, drop, getD, drop-of-length-le}
 use lib.Seq.{length-take-le, slice-cons}
-use Rattle.passes.specs as Text
 use Rattle.passes.specs.ColorCorrection.{inUnit, allInUnit, goodCurve}
 use Rattle.passes.proofs.color_correction.is_good_curve.Statement.{statement}
 use Rattle.passes.proofs.color_correction.is_good_curve.Tie as tie

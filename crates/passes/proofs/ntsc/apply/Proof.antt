@@ -65,4 +65,5 @@ apply-spec =
     (λ c. let k = c .before .before in sym (row-long k _ (k .before .before .before .line .ensures))) (λ c. search needs)
     (λ c. let k = c .before .before .before in sym (row-long k _ (k .before .before .line2 .ensures))) (λ c. search needs)
     (λ c. let k = c .before .before .before .before in sym (row-long k _ (k .before .line3 .ensures))) (λ c. search needs)
-    (λ c. let k = c .before .before .before .before .before in sym (row-long k _ (k .weight-line .ensures .long))) rows-requires collect-requires (λ c. search needs) returns)
+    (λ c. let k = c .before .before .before .before .before in sym (row-long k _ (k .weight-line .ensures .long))) rows-requires collect-requires
+    (λ c. search needs) returns)

@@ -10,10 +10,10 @@ use Rattle.passes.proofs.persistence.begin_line.Statement.{statement}
 use Rattle.passes.proofs.persistence.begin_line.Tie as tie
 
 abbrev Inv-loop : tie.InvT-loop
-Inv-loop acc₀ row w which i₀ acc i = Rewritten i (λ x v. channel which (unpack (getD row x 0)) ⊗ w) acc₀ acc
+Inv-loop acc₀ part w which i₀ acc i = Rewritten i (λ x v. channel which (unpack (getD part x 0)) ⊗ w) acc₀ acc
 
 abbrev μ-loop : tie.MeasureT-loop
-μ-loop acc₀ row w which i₀ acc i = length acc₀ - i
+μ-loop acc₀ part w which i₀ acc i = length acc₀ - i
 
 loop-again : tie.Need-loop-again Inv-loop μ-loop
 loop-again c = more (c .before .before .before .before .loop .inv) nan (omega arith) (cc)

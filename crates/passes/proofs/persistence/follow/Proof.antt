@@ -71,8 +71,8 @@ many : (c : tie.After-weights) → let k = start (c .before .before) .args .dept
     length (take k (c .weights .last .0 ++ drop k (c .before .before .line .result))) ≡ k
 many c = ap length (begins c) ∙ c .weights .kept .0 ∙ part (c .before .before)
 
-blend-rows-requires : tie.Need-blend-rows-requires
-blend-rows-requires c κs =
+blend-parts-requires : tie.Need-blend-parts-requires
+blend-parts-requires c κs =
     let d = c .before .before .before .before in
     let s = start (d .before .before) in
     subst (λ (m : ℕ). m * length (s .args .frame .now) ≤ length (s .args .history .now)) (sym (many d)) (s .pre .1)
@@ -92,7 +92,7 @@ returns c =
     let d = b .before .before .before .before .before in
     let l = d .before .before in
     let a = start l .args in (
-      by-weights (take (a .depth) (l .line .result)) _ (a .depth) _ _ (part l) (blends _ _ _ _ _ _ (b .blend-rows .ensures) (k .collect .ensures)) (begins d ∙ d .weights .ensures)
+      by-weights (take (a .depth) (l .line .result)) _ (a .depth) _ _ (part l) (blends _ _ _ _ _ _ (b .blend-parts .ensures) (k .collect .ensures)) (begins d ∙ d .weights .ensures)
           (l .before .total .ensures),
       h .shift .ensures ∙ ap (λ (z : List ℕ). shifted (a .depth) z (a .history .now)) (copied l .copy .ensures),
     )
@@ -102,4 +102,5 @@ follow-spec =
     tie.close
     (tie.spec (λ c κs. search needs) (λ c κs. tt) (λ c κs. tt) (λ c. search needs) (λ c. sym (part (c .before))) (λ c κs. tt)
     (λ c. simp length-append (omega (arith, c .before .before .weights .kept .0, part (c .before .before .before .before))))
-    (λ c. sym (many (c .before .before .before))) blend-rows-requires (λ c κs. search needs) shift-requires (λ c. search needs) (λ c. search needs) (λ c. search needs) returns)
+    (λ c. sym (many (c .before .before .before))) blend-parts-requires (λ c κs. search needs) shift-requires (λ c. search needs) (λ c. search needs)
+    (λ c. search needs) returns)

@@ -15,16 +15,16 @@ use Rattle.passes.proofs.persistence.mix_line.Statement.{statement}
 use Rattle.passes.proofs.persistence.mix_line.Tie as tie
 
 abbrev Inv-loop : tie.InvT-loop
-Inv-loop acc₀ row at n w ws history which count start₀ j₀ acc start j =
-    (start ≡ j * n + at) × Summed (mixed w (λ k. getD ws k nan) history row n at which) (length ws) j acc₀ acc
+Inv-loop acc₀ part at n w ws history which count start₀ j₀ acc start j =
+    (start ≡ j * n + at) × Summed (mixed w (λ k. getD ws k nan) history part n at which) (length ws) j acc₀ acc
 
 abbrev μ-loop : tie.MeasureT-loop
-μ-loop acc₀ row at n w ws history which count start₀ j₀ acc start j = length ws - j
+μ-loop acc₀ part at n w ws history which count start₀ j₀ acc start j = length ws - j
 
 loop-holds : tie.Need-loop-holds Inv-loop μ-loop
 loop-holds c =
     let a = c .before .before .before .before .before .before .before .before .args in
-    (omega (arith, zero-mul (a .n)), summed-none (a .acc .now) _ (first _ _ (a .history .now) (a .row .now) _ _ _ (a .acc .now) (c .before .before .begin-line .ensures)))
+    (omega (arith, zero-mul (a .n)), summed-none (a .acc .now) _ (first _ _ (a .history .now) (a .part .now) _ _ _ (a .acc .now) (c .before .before .begin-line .ensures)))
 
 module _ (c : tie.In-loop Inv-loop μ-loop) where
   abbrev start : tie.Start Inv-loop μ-loop
@@ -35,8 +35,8 @@ module _ (c : tie.In-loop Inv-loop μ-loop) where
   place-in = omega (arith, row-ends (start .args .n) (length (start .args .ws .now)) (c .before .loop .j) (c .loop-test .taken))
 
   abbrev part-length : let k = c .before .loop .start in
-      length (take (k + length (start .args .row .now) - k) (drop k (start .args .history .now))) ≡ length (start .args .row .now)
-  part-length = lent-length (c .before .loop .start) (length (start .args .row .now)) (start .args .history .now) (omega (arith, place-in))
+      length (take (k + length (start .args .part .now) - k) (drop k (start .args .history .now))) ≡ length (start .args .part .now)
+  part-length = lent-length (c .before .loop .start) (length (start .args .part .now)) (start .args .history .now) (omega (arith, place-in))
 
 add-line-requires : tie.Need-add-line-requires Inv-loop μ-loop
 add-line-requires c κs =
@@ -50,7 +50,7 @@ loop-again c =
     let a = start i .args in
     let turn : (l .j + 1) * a .n ≡ l .j * a .n + a .n = rw add-one (suc-mul (l .j) (a .n)) in (
       omega (arith, turn),
-      summed-more (l .inv .1) _ _ (i .loop-test .taken) (λ x q. next _ _ (a .history .now) (a .row .now) _ _ _ (l .j) (l .start) (length (a .row .now)) x (l .inv .0) (omega arith))
+      summed-more (l .inv .1) _ _ (i .loop-test .taken) (λ x q. next _ _ (a .history .now) (a .part .now) _ _ _ (l .j) (l .start) (length (a .part .now)) x (l .inv .0) (omega arith))
           (c .before .before .add-line .ensures),
     )
 
@@ -58,7 +58,7 @@ returns : tie.Need-returns Inv-loop μ-loop
 returns c =
     let b = c .before .before .before .before in
     let a = b .before .before .before .before .before .before .args in
-    summed-all (c .before .loop .inv .1) (a .acc .now) (c .loop-test .left) (first _ _ (a .history .now) (a .row .now) _ _ _ (a .acc .now) (b .begin-line .ensures))
+    summed-all (c .before .loop .inv .1) (a .acc .now) (c .loop-test .left) (first _ _ (a .history .now) (a .part .now) _ _ _ (a .acc .now) (b .begin-line .ensures))
 
 pub mix-line-spec : {M : Type 1} → statement M
 mix-line-spec =

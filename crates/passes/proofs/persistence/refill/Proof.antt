@@ -51,5 +51,5 @@ returns c =
 pub refill-spec : {M : Type 1} → statement M
 refill-spec =
     tie.close
-    (tie.spec Inv-loop μ-loop loop-holds add-end mul-copy (λ c. omega arith) (λ c. omega arith) part-copy-end copy-requires (λ c. omega arith) (λ c. omega arith)
-    loop-again (λ c. omega arith) returns)
+    (tie.spec Inv-loop μ-loop loop-holds add-end mul-copy (λ c. omega arith) (λ c. omega arith) part-copy-end copy-requires (λ c. omega arith)
+    (λ c. omega arith) loop-again (λ c. omega arith) returns)

@@ -20,7 +20,7 @@ use Rattle.num.specs.Laws.Sized.{exact, sized-finite, within-sized}
 use Rattle.num.specs.Ranges.{within}
 use Rattle.passes.specs.Arith.{Arith, Agrees, plain}
 use Rattle.passes.specs.Blur.{distance, inside, weight, taken, total, blurAt}
-use Rattle.passes.specs.Laws.Inside.Shared.{both}
+use Rattle.num.specs.Laws.Bools.{both}
 use Rattle.passes.specs.Laws.Range.{Has, Plus, signed, whole⁺, wide, plus, times, over-one, plus⁺, zero⁺, one⁺}
 use Rattle.passes.specs.Laws.Range.{one-less}
 

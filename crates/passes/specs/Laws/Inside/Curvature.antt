@@ -20,7 +20,8 @@ use Rattle.num.specs.Steps.{roundOf}
 use Rattle.num.specs.Ranges.{within}
 use Rattle.passes.specs.Arith.{Arith, Agrees, plain}
 use Rattle.passes.specs.Curvature as Curvature
-use Rattle.passes.specs.Laws.Inside.Shared.{neither, position-in}
+use Rattle.num.specs.Laws.Bools.{neither}
+use Rattle.passes.specs.Laws.Inside.Shared.{position-in}
 use Rattle.passes.specs.Laws.Range.{Has, signed, lit, lit⁺, whole⁺, plus, times, negated, round, one⁺}
 use Rattle.passes.specs.Rows.{Frame}
 use Rattle.passes.specs.Laws.Rows.{placed-ext, row-ends}

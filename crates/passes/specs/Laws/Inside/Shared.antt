@@ -1,11 +1,11 @@
 -- What the arguments of several passes share: three channels with their bounds (`Tint`: each from -n to n, `Tint⁺`:
 -- each from 0 to n), the ways to a word, lumas, positions along a side, and words that are in the frame. Assumes
 -- nothing.
-use mathlib.Core.Path.{_≡_, refl, sym, ap₂, subst}
+use mathlib.Core.Path.{_≡_, sym, ap₂, subst}
 use mathlib.Core.List.{List}
 use Prim.Native.Nat.{ℕ, zero, suc, _+_, _-_, _*_, _/_, _%_, _≤_, _<_, max}
 use native.Mathlib.Omega.{arith}
-use mathlib.Core.Bool.{Bool, true, false, _&&_, _||_, cond, true≢false}
+use mathlib.Core.Bool.{Bool, cond}
 use lib.Dec.{T, leb, lit≤}
 use lib.ListN.{getD}
 use lib.Ieee.{Float, ofBits}
@@ -24,16 +24,6 @@ use Rattle.passes.specs.Laws.Range.{clamp-one, clamp-top}
 use Rattle.passes.specs.Rows.{Frame}
 use Rattle.passes.specs.Laws.Rows.{row-ends}
 use Rattle.passes.specs.declared.pixel.Rgb.{Rgb}
-
-pub both : (p q : Bool) → (p && q) ≡ true → (p ≡ true) × (q ≡ true)
-both true true e = (refl, refl)
-both true false e = absurd (true≢false (sym e))
-both false q e = absurd (true≢false (sym e))
-
-pub neither : (p q : Bool) → (p || q) ≡ false → (p ≡ false) × (q ≡ false)
-neither false false e = (refl, refl)
-neither false true e = absurd (true≢false e)
-neither true q e = absurd (true≢false e)
 
 -- ---- three channels
 

@@ -16,6 +16,7 @@ pub pack-spec : {M : Type 1} → statement M
 pack-spec =
     tie.close
     (tie.spec Inv-loop μ-loop (λ c. none _ _) (λ c. omega arith) (λ c. omega arith) (λ c. omega arith) (λ c. omega arith) (λ c. omega arith) (λ c. omega arith)
-    (λ c. omega arith) (λ c. omega arith) (λ c. simp length-set (omega arith)) (λ c. omega arith) (λ c. omega arith) (λ c. omega arith) (λ c. simp length-set (omega arith))
-    (λ c. omega arith) (λ c. omega arith) (λ c. more (c .before .before .loop .inv) (c .before .loop-test .taken) (c .before .before .before .pre))
-    (λ c. c .before .loop .inv .kept) (λ c. all (c .before .loop .inv) (c .loop-test .left)))
+    (λ c. omega arith) (λ c. omega arith) (λ c. simp length-set (omega arith)) (λ c. omega arith) (λ c. omega arith) (λ c. omega arith)
+    (λ c. simp length-set (omega arith)) (λ c. omega arith) (λ c. omega arith)
+    (λ c. more (c .before .before .loop .inv) (c .before .loop-test .taken) (c .before .before .before .pre)) (λ c. c .before .loop .inv .kept)
+    (λ c. all (c .before .loop .inv) (c .loop-test .left)))

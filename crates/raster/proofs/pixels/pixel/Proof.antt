@@ -9,5 +9,5 @@ returns c = simp (c .before .before .at .ensures .0, c .before .at2 .ensures .0,
 pub pixel-spec : {M : Type 1} → statement M
 pixel-spec =
     tie.close
-    (tie.spec (λ c κs. omega arith) (λ c. omega arith) (λ c κs. omega arith) (λ c. omega arith) (λ c κs. omega arith) (λ c. omega arith) (λ c. omega arith) (λ c. omega arith)
-    (λ c. omega arith) (λ c. omega arith) returns)
+    (tie.spec (λ c κs. omega arith) (λ c. omega arith) (λ c κs. omega arith) (λ c. omega arith) (λ c κs. omega arith) (λ c. omega arith) (λ c. omega arith)
+    (λ c. omega arith) (λ c. omega arith) (λ c. omega arith) returns)

@@ -15,5 +15,6 @@ abbrev μ-loop : tie.MeasureT-loop
 pub unpack-spec : {M : Type 1} → statement M
 unpack-spec =
     tie.close
-    (tie.spec Inv-loop μ-loop (λ c. none _ _) (λ c. omega arith) (λ c κs. omega arith) (λ c. omega arith) (λ c. omega arith) (λ c. omega arith) (λ c. omega arith)
-    (λ c. more (c .before .before .loop .inv) (c .before .loop-test .taken) (c .pixel .ensures)) (λ c. c .before .loop .inv .kept) (λ c. all (c .before .loop .inv) (c .loop-test .left)))
+    (tie.spec Inv-loop μ-loop (λ c. none _ _) (λ c. omega arith) (λ c κs. omega arith) (λ c. omega arith) (λ c. omega arith) (λ c. omega arith)
+    (λ c. omega arith) (λ c. more (c .before .before .loop .inv) (c .before .loop-test .taken) (c .pixel .ensures)) (λ c. c .before .loop .inv .kept)
+    (λ c. all (c .before .loop .inv) (c .loop-test .left)))

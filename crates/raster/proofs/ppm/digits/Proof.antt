@@ -19,6 +19,7 @@ digits-spec =
     tie.close
     (tie.spec Inv-loop μ-loop (λ c. record { whole = refl; end = refl }) (λ c. omega arith) (λ c κs. search needs)
     (λ c. digits-stop (c .before .before .before .before .loop .inv) (c .before .before .before .loop-test .taken) (c .before .is-digit .ensures) (c .if1 .taken))
-    (λ c. digit-within _ (c .before .is-digit .ensures) (c .if1 .left) .0) (λ c κs. digit-within _ (c .before .is-digit .ensures) (c .if1 .left) .1) (λ c. omega arith) (λ c. omega arith)
+    (λ c. digit-within _ (c .before .is-digit .ensures) (c .if1 .left) .0) (λ c κs. digit-within _ (c .before .is-digit .ensures) (c .if1 .left) .1)
+    (λ c. omega arith) (λ c. omega arith)
     (λ c. digits-more (c .before .before .before .before .before .loop .inv) (c .before .before .before .before .loop-test .taken) (c .before .before .is-digit .ensures) (c .before .if1 .left) (c .grown .ensures))
     (λ c. digits-end (c .before .loop .inv) (c .loop-test .left)))

@@ -19,6 +19,6 @@ unfolding headerIn
 header-spec =
     tie.close
     (tie.spec (λ c. search steps depth 12) (λ c κs. search needs) (λ c. search steps depth 12) (λ c κs. search needs) (λ c. search needs) (λ c. search needs)
-    (λ c κs. search needs) (λ c. search steps depth 12) (λ c κs. search needs) (λ c. search needs) (λ c. search needs)
-    (λ c κs. search needs) (λ c. search steps depth 12) (λ c κs. search needs) (λ c. search needs) (λ c. search needs)
-    (λ c κs. search needs) (λ c. search steps depth 12) shared-slice-read-is-white (λ c κs. search needs) (λ c. search steps depth 12) (λ c. search steps depth 12) add-t11 (λ c. search steps depth 12))
+    (λ c κs. search needs) (λ c. search steps depth 12) (λ c κs. search needs) (λ c. search needs) (λ c. search needs) (λ c κs. search needs)
+    (λ c. search steps depth 12) (λ c κs. search needs) (λ c. search needs) (λ c. search needs) (λ c κs. search needs) (λ c. search steps depth 12)
+    shared-slice-read-is-white (λ c κs. search needs) (λ c. search steps depth 12) (λ c. search steps depth 12) add-t11 (λ c. search steps depth 12))

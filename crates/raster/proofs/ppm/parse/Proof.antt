@@ -24,6 +24,6 @@ pub parse-spec : {M : Type 1} → statement M
 unfolding frameIn parseOf
 parse-spec =
     tie.close
-    (tie.spec (λ c κs. search needs) (λ c. search needs) (λ c. search needs) (λ c. search steps depth 12) (λ c. search steps depth 12) (λ c. search steps depth 12)
-    (λ c. search steps depth 12) (λ c. search steps depth 12) mul-count (λ c. search steps depth 12) mul-end add-end (λ c. search steps depth 12) (λ c. search steps depth 12)
-    (λ c. search steps depth 12))
+    (tie.spec (λ c κs. search needs) (λ c. search needs) (λ c. search needs) (λ c. search steps depth 12) (λ c. search steps depth 12)
+    (λ c. search steps depth 12) (λ c. search steps depth 12) (λ c. search steps depth 12) mul-count (λ c. search steps depth 12) mul-end add-end
+    (λ c. search steps depth 12) (λ c. search steps depth 12) (λ c. search steps depth 12))

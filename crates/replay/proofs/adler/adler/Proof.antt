@@ -1,6 +1,6 @@
 -- `replay::adler::adler` meets its contract: the sums of the first i bytes. Assumes nothing.
 use Prim.Native.Nat.{ℕ, _+_, _*_, _-_, _≤_}
-use mathlib.Core.Path.{_≡_, ap}
+use mathlib.Core.Path.{ap}
 use mathlib.Core.List.{List}
 use native.Mathlib.Omega.{arith}
 use lib.ListN.{length}
@@ -37,4 +37,5 @@ adler-spec =
     tie.close
     (tie.spec Inv-loop μ-loop (λ c. record { so-far = none _ _ _; small-a = omega arith; small-b = omega arith }) (λ c. omega arith)
     (λ c κs. (c .before .before .loop .inv .small-a, c .before .before .loop .inv .small-b)) (λ c. omega arith) (λ c. omega arith) loop-again
-    (λ c. omega (arith, c .before .before .loop .inv .small-b)) (λ c. let inv = c .before .before .before .loop .inv in omega (arith, inv .small-a, inv .small-b)) returns)
+    (λ c. omega (arith, c .before .before .loop .inv .small-b))
+    (λ c. let inv = c .before .before .before .loop .inv in omega (arith, inv .small-a, inv .small-b)) returns)

@@ -7,12 +7,14 @@ use Rattle.totals.proofs.measured.outside.Statement.{statement}
 use Rattle.totals.proofs.measured.outside.Tie as tie
 
 abbrev Inv-loop : tie.InvT-loop
-Inv-loop first file words₀ areas n k₀ t9 words k = (k ≤ n) × (length words ≡ length words₀)
+Inv-loop i first file words₀ areas n k₀ words k = (k ≤ n) × (length words ≡ length words₀)
 
 abbrev μ-loop : tie.MeasureT-loop
-μ-loop first file words₀ areas n k₀ t9 words k = n - k
+μ-loop i first file words₀ areas n k₀ words k = n - k
 
 pub outside-spec : {M : Type 1} → statement M
 outside-spec =
     tie.close
-    (tie.spec Inv-loop μ-loop (λ c. search needs) (λ c. search needs) (λ c. search needs) (λ c. search needs) (λ c. search needs) (λ c. search needs) (λ c. search needs) (λ c κs. search needs) (λ c. search needs) (λ c κs. search needs) (λ c. search needs) (λ c κs. search needs) (λ c. search needs) (λ c. search needs) (λ c. search needs) (λ c. search needs) (λ c. search needs) (λ c. search needs) (λ c. search needs))
+    (tie.spec Inv-loop μ-loop (λ c. search needs) (λ c. search needs) (λ c. search needs) (λ c. search needs) (λ c. search needs) (λ c. search needs)
+    (λ c. search needs) (λ c κs. search needs) (λ c. search needs) (λ c κs. search needs) (λ c. search needs) (λ c. search needs) (λ c. search needs)
+    (λ c. search needs) (λ c. search needs) (λ c. search needs) (λ c. search needs))

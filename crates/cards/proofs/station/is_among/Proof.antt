@@ -1,4 +1,4 @@
--- `cards::station::holds` meets its contract: a record of the kind decides, any other leaves it to those after it. Assumes nothing.
+-- `cards::station::is_among` meets its contract: a record of the kind decides, any other leaves it to those after it. Assumes nothing.
 use borrow.Author.Needs.{needs}
 use Prim.Native.Nat.{_-_}
 use mathlib.Core.Path.{sym, _∙_}
@@ -6,8 +6,8 @@ use native.Mathlib.Omega.{arith}
 use borrow.Author.Tests.{eq-eqb, ne-eqb}
 use Rattle.cards.specs.Records.{among, kinds}
 use Rattle.cards.specs.Laws.Scans.{Scanned, scanned-none, scanned-next, scanned-more, scanned-all}
-use Rattle.cards.proofs.station.holds.Statement.{statement}
-use Rattle.cards.proofs.station.holds.Tie as tie
+use Rattle.cards.proofs.station.is_among.Statement.{statement}
+use Rattle.cards.proofs.station.is_among.Tie as tie
 
 abbrev Inv-loop : tie.InvT-loop
 Inv-loop n kind records i₀ i = Scanned (λ _ rs. among kind (kinds rs)) records n i
@@ -32,8 +32,8 @@ returns-2 c =
     let s = c .before .before in
     sym (scanned-all (c .before .loop .inv) (s .good .0 .1 .0 .1) (s .pre) (omega arith))
 
-pub holds-spec : {M : Type 1} → statement M
-holds-spec =
+pub is-among-spec : {M : Type 1} → statement M
+is-among-spec =
     tie.close
-    (tie.spec Inv-loop μ-loop (λ c. scanned-none _ _ _) (λ c. omega arith) (λ c. omega arith) (λ c κs. search needs) returns (λ c. omega arith) (λ c. omega arith)
-    loop-again returns-2)
+    (tie.spec Inv-loop μ-loop (λ c. scanned-none _ _ _) (λ c. omega arith) (λ c. omega arith) (λ c κs. search needs) returns (λ c. omega arith)
+    (λ c. omega arith) loop-again returns-2)

@@ -1,4 +1,4 @@
--- `passes::persistence::blend_row` meets its contract: three channels of the mix at each place are the mix. Assumes nothing.
+-- `passes::persistence::blend_part` meets its contract: three channels of the mix at each place are the mix. Assumes nothing.
 use Prim.Native.Nat.{ℕ, _≤_}
 use native.Mathlib.Nat.{zero-add}
 use native.Mathlib.Omega.{arith}
@@ -12,8 +12,8 @@ use Rattle.num.specs.Laws.Rewrite.{none, part, rewrite-at}
 use Rattle.passes.specs.Private.{Begins, markClamped, blendedWord, mixedChannel}
 use Rattle.passes.proofs.Mixes.{whole}
 use Rattle.passes.proofs.Offsets.{front, begun}
-use Rattle.passes.proofs.persistence.blend_row.Statement.{statement}
-use Rattle.passes.proofs.persistence.blend_row.Tie as tie
+use Rattle.passes.proofs.persistence.blend_part.Statement.{statement}
+use Rattle.passes.proofs.persistence.blend_part.Tie as tie
 
 -- a line whose front was lent and came back filled
 begins : {f : ℕ → Float} {new : List Float} (line : List Float) (n : ℕ) → length line ≡ 64 → n ≤ 64 → new ≡ fill f (take n line) → Begins 64 n f (new ++ drop n line)
@@ -30,12 +30,12 @@ first c = c .before .before .before .before .before
 abbrev second : tie.After-mix-line3 → tie.After-mix-line2
 second c = c .before .before .before .before .before
 
--- one channel of the row that the call was lent
+-- one channel of the part that the call was lent
 abbrev mixed : tie.Start → ℕ → ℕ → Float
-mixed s which = let a = s .args in mixedChannel (a .w) (a .ws .now) (a .history .now) (a .row .now) (a .n) (a .at) which
+mixed s which = let a = s .args in mixedChannel (a .w) (a .ws .now) (a .history .now) (a .part .now) (a .n) (a .at) which
 
 abbrev count : tie.Start → ℕ
-count s = length (s .args .row .now)
+count s = length (s .args .part .now)
 
 reds : (c : tie.After-mix-line) → let s = start c in Begins 64 (count s) (mixed s 0) (c .mix-line .last .0 ++ drop (count s) (c .before .before .before .short .result))
 reds c = begins _ _ (c .before .before .before .short .ensures) (start c .pre .0) (c .mix-line .ensures)
@@ -57,8 +57,8 @@ mix-line-requires-2 c κs = let p = c .before .before .before .before .before .b
 mix-line-requires-3 : tie.Need-mix-line-requires-3
 mix-line-requires-3 c κs = let p = c .before .before .before .before .before .before .before .before .before .before .before .before .before .before .before .before .pre in (front _ _ _ (c .before .before .short3 .ensures) (p .0), p .1, p .2)
 
-finish-row-requires : tie.Need-finish-row-requires
-finish-row-requires c κs =
+finish-part-requires : tie.Need-finish-part-requires
+finish-part-requires c κs =
     let m = c .before .before .before .before .before in
     let l = start (first (second m)) .pre .0 in
     (omega (arith, reds (first (second m)) .long), omega (arith, greens (second m) .long), omega (arith, blues m .long))
@@ -69,13 +69,17 @@ returns c =
     let m = c .before .before .before .before .before .before .before .before in
     let g = second m in
     let r = first g in
-    c .before .before .finish-row .ensures
-    ∙ rewrite-at _ _ _ (start r .args .row .now) 0 (λ x l. ap markClamped (whole _ (reds r .value x l) (greens g .value x l) (blues m .value x l)))
+    c .before .before .finish-part .ensures
+    ∙ rewrite-at _ _ _ (start r .args .part .now) 0 (λ x l. ap markClamped (whole _ (reds r .value x l) (greens g .value x l) (blues m .value x l)))
 
-pub blend-row-spec : {M : Type 1} → statement M
-blend-row-spec =
+pub blend-part-spec : {M : Type 1} → statement M
+blend-part-spec =
     tie.close
-    (tie.spec (λ c κs. tt) (λ c. search needs) (λ c. sym (front _ _ _ (c .before .short .ensures) (c .before .before .before .before .before .pre .0))) mix-line-requires (λ c κs. tt) (λ c. search needs)
-    (λ c. sym (front _ _ _ (c .before .short2 .ensures) (c .before .before .before .before .before .before .before .before .before .before .pre .0))) mix-line-requires-2 (λ c κs. tt) (λ c. search needs)
-    (λ c. sym (front _ _ _ (c .before .short3 .ensures) (c .before .before .before .before .before .before .before .before .before .before .before .before .before .before .before .pre .0))) mix-line-requires-3 (λ c. sym (reds (first (second (c .before .before .before))) .long))
-    (λ c. sym (greens (second (c .before .before .before .before)) .long)) (λ c. sym (blues (c .before .before .before .before .before) .long)) finish-row-requires (λ c. search needs) returns)
+    (tie.spec (λ c κs. tt) (λ c. search needs) (λ c. sym (front _ _ _ (c .before .short .ensures) (c .before .before .before .before .before .pre .0)))
+    mix-line-requires (λ c κs. tt) (λ c. search needs)
+    (λ c. sym (front _ _ _ (c .before .short2 .ensures) (c .before .before .before .before .before .before .before .before .before .before .pre .0)))
+    mix-line-requires-2 (λ c κs. tt) (λ c. search needs)
+    (λ c. sym (front _ _ _ (c .before .short3 .ensures) (c .before .before .before .before .before .before .before .before .before .before .before .before .before .before .before .pre .0)))
+    mix-line-requires-3 (λ c. sym (reds (first (second (c .before .before .before))) .long))
+    (λ c. sym (greens (second (c .before .before .before .before)) .long)) (λ c. sym (blues (c .before .before .before .before .before) .long))
+    finish-part-requires (λ c. search needs) returns)

@@ -1,4 +1,4 @@
--- `cards::check::remembers` meets its contract: persistence that is on decides, any other record leaves it to those after it. Assumes nothing.
+-- `cards::check::persists` meets its contract: persistence that is on decides, any other record leaves it to those after it. Assumes nothing.
 use borrow.Author.Needs.{needs}
 use Prim.Native.Nat.{_-_}
 use mathlib.Core.Path.{sym, _∙_}
@@ -7,8 +7,8 @@ use native.Mathlib.Omega.{arith}
 use borrow.Author.Tests.{eq-eqb, ne-eqb}
 use Rattle.cards.specs.Normal.{persists}
 use Rattle.cards.specs.Laws.Scans.{Scanned, scanned-none, scanned-next, scanned-more, scanned-all}
-use Rattle.cards.proofs.check.remembers.Statement.{statement}
-use Rattle.cards.proofs.check.remembers.Tie as tie
+use Rattle.cards.proofs.check.persists.Statement.{statement}
+use Rattle.cards.proofs.check.persists.Tie as tie
 
 abbrev Inv-loop : tie.InvT-loop
 Inv-loop n records i₀ i = Scanned (λ _. persists) records n i
@@ -41,8 +41,8 @@ returns-2 c =
     let s = c .before .before in
     sym (scanned-all (c .before .loop .inv) (s .good .0 .1 .0 .1) (s .pre) (omega arith))
 
-pub remembers-spec : {M : Type 1} → statement M
-remembers-spec =
+pub persists-spec : {M : Type 1} → statement M
+persists-spec =
     tie.close
-    (tie.spec Inv-loop μ-loop (λ c. scanned-none _ _ _) (λ c. omega arith) (λ c. omega arith) (λ c κs. search needs) returns (λ c. omega arith) (λ c. omega arith)
-    loop-again returns-2)
+    (tie.spec Inv-loop μ-loop (λ c. scanned-none _ _ _) (λ c. omega arith) (λ c. omega arith) (λ c κs. search needs) returns (λ c. omega arith)
+    (λ c. omega arith) loop-again returns-2)

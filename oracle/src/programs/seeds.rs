@@ -1,0 +1,67 @@
+//! Inputs that the fuzzer begins with, for the programs `card` and `filter`, in the form that fuzz.rs reads.
+
+use super::cards;
+use super::files;
+use crate::random::Random;
+
+/// The first byte that stands before a text as an argument, and before what the file holds that an argument names.
+pub const TEXT: u8 = 0;
+pub const FILE: u8 = 128;
+
+/// One card or two, good ones and damaged ones, as a text or as a file.
+pub fn card(random: &mut Random) -> Vec<u8> {
+    if random.one_in(2) {
+        let mut seed = vec![0];
+        let card = cards::card(random);
+        argument(&card, &mut seed, random);
+        return seed;
+    }
+    let mut seed = vec![120];
+    for card in cards::pair(random) {
+        argument(&card, &mut seed, random);
+    }
+    seed
+}
+
+fn argument(card: &[u8], seed: &mut Vec<u8>, random: &mut Random) {
+    let given = cards::given(card, random);
+    match given.file {
+        Some(bytes) => {
+            seed.push(FILE);
+            string(&bytes, seed);
+        }
+        None => {
+            seed.push(TEXT);
+            string(given.argument.as_bytes(), seed);
+        }
+    }
+}
+
+/// Two bytes for the length, the low one first, and the bytes.
+fn string(bytes: &[u8], seed: &mut Vec<u8>) {
+    let length = bytes.len().min(u16::MAX.into());
+    seed.extend((length as u16).to_le_bytes());
+    seed.extend(&bytes[..length]);
+}
+
+/// A run: its options, a card, a curve by a seed of its own, and headers of small frames.
+pub fn filter(random: &mut Random) -> Vec<u8> {
+    // No option twice.
+    let mut seed = vec![random.below(5) as u8];
+    let card = cards::good(random);
+    argument(&card, &mut seed, random);
+    seed.extend([0, random.word() as u8, random.word() as u8]);
+    let count = random.within(1, 4);
+    seed.push(count as u8 - 1);
+    let mut size = (random.within(1, 32), random.within(1, 32));
+    for _ in 0..count {
+        if random.one_in(4) {
+            size = (size.1, size.0);
+        }
+        // Another file than the last one, drawn by its header.
+        seed.extend([0, 0]);
+        string(&files::header(size.0, size.1, random), &mut seed);
+        seed.extend([0, random.word() as u8]);
+    }
+    seed
+}
