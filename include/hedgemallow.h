@@ -61,7 +61,7 @@
  * card, and a state with such a setting may be refused by 13.
  *
  * Stack. hedgemallow_apply takes less than 48 KiB, whatever the card and the size of the frame, and
- * hedgemallow_areas less than 44 KiB (45,336 and 41,288 bytes were measured on 2026-11-17). A thread that is
+ * hedgemallow_areas less than 44 KiB (45,432 and 41,288 bytes were measured on 2026-11-17). A thread that is
  * made with a small stack should have 64 KiB left for either.
  *
  * No function keeps a pointer, allocates, or has state of its own, so calls on different buffers
