@@ -26,6 +26,9 @@ module _ (acc src : List Float) (radius k more less : ℕ) (e : length acc ≡ l
   abbrev four : ℕ → Float → Float
   four x = onward (λ i w. at src i ⊗ w) (length src) radius x k 4
 
+  abbrev count : ℕ → ℕ
+  count = insides (length src) radius k 4
+
   module _ (h : ys ≡ rewrite (length src - (k + 3 - radius)) four acc) where
     most : Rewritten (length src - more) four acc ys
     most = record {
@@ -40,18 +43,18 @@ module _ (acc src : List Float) (radius k more less : ℕ) (e : length acc ≡ l
     fits : length src - more + length (take (length src - less - (length src - more)) (drop (length src - more) ys)) ≤ length src
     fits = edge-in (length src) less more _ (omega arith) (omega arith) edge-long
 
-    done : (right : List Float) → right ≡ every (λ d. four (length src - more + d)) (take (length src - less - (length src - more)) (drop (length src - more) ys))
-        → take (length src - more) ys ++ (right ++ drop (length src - less - (length src - more)) (drop (length src - more) ys)) ≡ every four acc
-    done right hr = fourfold-all acc src radius k e (length src - less) (ap (λ (x : ℕ). length src - x) el) (further (length src - less) most (omega arith) right (omega arith) hr)
-
--- what is counted up to the edge, and at it
-counted : (n radius k more less m : ℕ) {before edge : ℕ} → radius - k + (k + 3 - radius) < n → more ≡ k + 3 - radius → less ≡ k - radius → m ≡ n - less - (n - more)
-    → before ≡ sum (n - (k + 3 - radius)) (insides n radius k 4) → edge ≡ sum m (λ d. insides n radius k 4 (n - more + d))
-    → before + edge ≡ sum n (insides n radius k 4)
-counted n radius k more less m some em el e hb he =
-    let f : ℕ → ℕ = insides n radius k 4 in
-    counted-on (n - more) (n - less) m f (omega arith) e (hb ∙ ap (λ (x : ℕ). sum (n - x) f) (sym em)) he
-    ∙ right-none n radius k (n - less) (ap (λ (x : ℕ). n - x) el) (omega arith)
+    -- up to the edge `a` are counted, and at it `b`
+    done : (right : List Float) {a b : ℕ}
+        → right ≡ every (λ d. four (length src - more + d)) (take (length src - less - (length src - more)) (drop (length src - more) ys))
+        → a ≡ sum (length src - (k + 3 - radius)) count
+        → b ≡ sum (length (take (length src - less - (length src - more)) (drop (length src - more) ys))) (λ d. count (length src - more + d))
+        → (take (length src - more) ys ++ (right ++ drop (length src - less - (length src - more)) (drop (length src - more) ys)) ≡ every four acc)
+        × (a + b ≡ sum (length src) count)
+    done right hr ha hb = (
+      fourfold-all acc src radius k e (length src - less) (ap (λ (x : ℕ). length src - x) el) (further (length src - less) most (omega arith) right (omega arith) hr),
+      counted-on (length src - more) (length src - less) _ count (omega arith) edge-long (ha ∙ ap (λ (x : ℕ). sum (length src - x) count) (sym em)) hb
+          ∙ right-none (length src) radius k (length src - less) (ap (λ (x : ℕ). length src - x) el) (omega arith),
+    )
 
 add-edge-requires : tie.Need-add-edge-requires
 add-edge-requires c κs =
@@ -66,43 +69,26 @@ add-edge-requires c κs =
       o .before .before .four-weights .ensures,
     )
 
-module _ (c : tie.After-slice-known3) where
-  abbrev second : tie.After-monus2
-  second = c .before .before .before .before
-
-  abbrev begun : tie.After-add-to-edge
-  begun = second .before .before .before .before
-
-  abbrev start : tie.Start
-  start = begun .before .before .before .before .before
-
-  both-count : begun .add-to-edge .result + c .before .before .add-edge .result
-      ≡ sum (length (start .args .src .now)) (insides (length (start .args .src .now)) (start .args .radius) (start .args .k) 4)
-  both-count =
-      let a = start .args in
-      let more = second .before .monus in
-      let less = second .monus2 in
-      let o = begun .add-to-edge in
-      counted (length (a .src .now)) (a .radius) (a .k) (more .result) (less .result) _ (start .pre .3) (more .ensures) (less .ensures)
-      (edge-long (a .acc .now) (a .src .now) (a .radius) (a .k) (more .result) (less .result) (start .pre .0) (start .pre .3) (more .ensures) (less .ensures) (o .last .0) (o .ensures .0))
-      (o .ensures .1) (c .before .before .add-edge .ensures .1)
-
 returns : tie.Need-returns
 returns c =
-    let s = start c in
+    let m2 = c .before .before .before .before in
+    let m1 = m2 .before in
+    let o = m1 .before .before .before in
+    let s = o .before .before .before .before .before in
     let a = s .args in
-    let more = second c .before .monus in
-    let less = second c .monus2 in
-    let o = begun c .add-to-edge in
-    let edge = c .before .before .add-edge in (
-      done (a .acc .now) (a .src .now) (a .radius) (a .k) (more .result) (less .result) (s .pre .0) (s .pre .3) (more .ensures) (less .ensures)
-          (o .last .0) (o .ensures .0) (edge .last .0) (edge .ensures .0),
-      both-count c,
-    )
+    let most = o .add-to-edge in
+    let edge = c .before .before .add-edge in
+    done (a .acc .now) (a .src .now) (a .radius) (a .k) (m1 .monus .result) (m2 .monus2 .result) (s .pre .0) (s .pre .3) (m1 .monus .ensures) (m2 .monus2 .ensures)
+    (most .last .0) (most .ensures .0) (edge .last .0) (edge .ensures .0) (most .ensures .1) (edge .ensures .1)
+
+-- no place counts more than four
+sum-fits : tie.Need-add-result
+sum-fits c =
+    let a = c .before .before .before .before .before .before .before .before .before .before .before .before .before .args in
+    omega (arith, line-few (length (a .src .now)) (a .radius) (a .k) (length (a .src .now)) (omega arith) (returns c .1))
 
 pub add-four-offsets-spec : {M : Type 1} → statement M
 add-four-offsets-spec =
     tie.close
     (tie.spec (λ c κs. search needs) (λ c κs. search needs) (λ c. search needs) (λ c κs. search needs) (λ c. search needs) (λ c κs. search needs)
-    (λ c. search needs) (λ c. search needs) (λ c. search needs) (λ c. search needs) (λ c. search needs) add-edge-requires
-    (λ c. let a = start c .args in omega (arith, line-few (length (a .src .now)) (a .radius) (a .k) (length (a .src .now)) (omega arith) (both-count c))) (λ c. search needs) returns)
+    (λ c. search needs) (λ c. search needs) (λ c. search needs) (λ c. search needs) (λ c. search needs) add-edge-requires sum-fits (λ c. search needs) returns)
