@@ -1,6 +1,6 @@
 /* A host in C: opens a card and runs two rounds of frames. In the first a referee asks for a switch, which takes hold before the second.
    It prints a checksum of the last picture of each round and how the switches stand then, as a front end shows them, and of the whole
-   the channels that were clipped on the way and the totals of the last picture's middle. */
+   the channels that were clipped and the samples that blurs took on the way, and the totals of the last picture's middle. */
 #include <stdio.h>
 #include <stdlib.h>
 #include "hedgemallow.h"
@@ -59,7 +59,7 @@ int main(void) {
     uint8_t state[HEDGEMALLOW_STATE];
     must("the card", hedgemallow_open(card, sizeof card, state));
     size_t words = must("the depth", hedgemallow_depth(state)) * (size_t)COUNT;
-    uint32_t preset = 0, clipped[1], sum = 0;
+    uint32_t preset = 0, reports[2], clipped = 0, samples = 0;
     for (uint32_t number = 0; number < FRAMES; number++) {
         /* Between the rounds what was asked for takes hold. */
         if (number == ROUND) {
@@ -72,16 +72,17 @@ int main(void) {
         if (number == 2) must("what is asked for", hedgemallow_ask(state, HEDGEMALLOW_SCANLINES, 0));
         if (number == 3) preset = must("the step", hedgemallow_cycle_lut(state));
         must("the frame", hedgemallow_apply(state, frame, COUNT, WIDTH, HEIGHT, history, words, floats,
-                                            HEDGEMALLOW_FLOATS(WIDTH, HEIGHT), ints, COUNT, curve, 0, clipped));
-        sum += clipped[0];
+                                            HEDGEMALLOW_FLOATS(WIDTH, HEIGHT), ints, COUNT, curve, 0, reports));
+        clipped += reports[0];
+        samples += reports[1];
     }
     uint8_t again[HEDGEMALLOW_CARD];
     uint32_t length = must("the writing", hedgemallow_write(state, again, sizeof again));
     uint64_t totals[3];
     uint32_t read[1];
     must("the area", hedgemallow_areas(frame, COUNT, WIDTH, HEIGHT, middle, 4, totals, 3, read));
-    printf("frames %d, preset %u, card %u bytes, picture %08X, clipped %u\n", FRAMES, (unsigned)preset, (unsigned)length,
-           (unsigned)checksum(), (unsigned)sum);
+    printf("frames %d, preset %u, card %u bytes, picture %08X, clipped %u, samples %u\n", FRAMES, (unsigned)preset, (unsigned)length,
+           (unsigned)checksum(), (unsigned)clipped, (unsigned)samples);
     printf("middle: %u words, red %lu, green %lu, blue %lu\n", (unsigned)read[0], (unsigned long)totals[0], (unsigned long)totals[1],
            (unsigned long)totals[2]);
     show(state);

@@ -1,6 +1,6 @@
 //! A host in Rust: opens a card and runs two rounds of frames. In the first a referee asks for a switch, which takes hold before the
 //! second. It prints a checksum of the last picture of each round and how the switches stand then, as a front end shows them, and of
-//! the whole the channels that were clipped on the way and the totals of the last picture's middle.
+//! the whole the channels that were clipped and the samples that blurs took on the way, and the totals of the last picture's middle.
 
 use hedgemallow::{areas, history_words, scratch_words, Kind, Preset, Refusal, Station, KINDS};
 
@@ -56,7 +56,7 @@ fn run() -> Result<(), Refusal> {
     let mut ints = vec![0; scratch.ints];
     let mut history = vec![0; history_words(&CARD, WIDTH, HEIGHT)?];
     let mut frame = vec![0; WIDTH * HEIGHT];
-    let (mut preset, mut clipped) = (Preset::WarmCrt, 0);
+    let (mut preset, mut clipped, mut samples) = (Preset::WarmCrt, 0, 0);
     for number in 0..FRAMES {
         // Between the rounds what was asked for takes hold.
         if number == ROUND {
@@ -72,13 +72,15 @@ fn run() -> Result<(), Refusal> {
             _ => {}
         }
         // The card has no colour, so it reads no curve.
-        clipped += station.apply(&mut frame, WIDTH, HEIGHT, &mut history, &mut floats, &mut ints, &[])?;
+        let counts = station.apply(&mut frame, WIDTH, HEIGHT, &mut history, &mut floats, &mut ints, &[])?;
+        clipped += counts.clipped;
+        samples += counts.samples;
     }
     let length = station.write(&mut [0; 72])?;
     let mut totals = [0; 3];
     let read = areas(&frame, WIDTH, HEIGHT, &MIDDLE, &mut totals)?;
     println!(
-        "frames {FRAMES}, preset {}, card {length} bytes, picture {:08X}, clipped {clipped}",
+        "frames {FRAMES}, preset {}, card {length} bytes, picture {:08X}, clipped {clipped}, samples {samples}",
         preset as u8,
         checksum(&frame)
     );

@@ -61,7 +61,7 @@
  * card, and a state with such a setting may be refused by 13.
  *
  * Stack. hedgemallow_apply takes less than 48 KiB, whatever the card and the size of the frame, and
- * hedgemallow_areas less than 44 KiB (45,432 and 41,288 bytes were measured on 2026-11-17). A thread that is
+ * hedgemallow_areas less than 44 KiB (45,656 and 41,288 bytes were measured on 2026-11-17). A thread that is
  * made with a small stack should have 64 KiB left for either.
  *
  * No function keeps a pointer, allocates, or has state of its own, so calls on different buffers
@@ -162,14 +162,21 @@ uint32_t hedgemallow_open(const uint8_t *card, size_t card_len, uint8_t state[HE
 uint32_t hedgemallow_write(const uint8_t state[HEDGEMALLOW_STATE], uint8_t *buffer, size_t buffer_len);
 
 /* A frame: the passes that are on, by ascending kind, over the first count words of the
-   framebuffer. clipped[0] is how many channels their final conversions clipped, since they lay
-   strictly below 0 or strictly above the top end, added up over the passes: no part of the answer,
-   since it may be above 255. The curve is only read, and only where colour has a gamma other than 1.
+   framebuffer. The curve is only read, and only where colour has a gamma other than 1. Two numbers are
+   reported, each added up over the passes. They are no part of the answer, since they may be above 255.
+       reports[0]  how many channels the final conversions clipped, since they lay strictly below 0 or
+                   strictly above the top end
+       reports[1]  how many samples the blurs took, NTSC along each row, bloom along each row and then
+                   along each column: for each pixel those up to bleed or radius places away, itself
+                   included, that are inside the row or column, counted once for all channels. Along a
+                   line of n pixels that is n * (2 * r + 1) - r * (r + 1) where r is below n, else n * n
+   The samples depend on the card, with its switches, and on width and height alone: 393,019,392 at
+   most, at 1024 by 1024 with NTSC and bloom on, both at 64. A refusal leaves both places.
    Refusals 13, 8, 9, 10, 11, 16, in that order. */
 uint32_t hedgemallow_apply(uint8_t state[HEDGEMALLOW_STATE], uint32_t *framebuffer, size_t framebuffer_len,
                            size_t width, size_t height, uint32_t *history, size_t history_len,
                            float *floats, size_t floats_len, uint32_t *ints, size_t ints_len,
-                           const float *curve, size_t curve_len, uint32_t clipped[1]);
+                           const float *curve, size_t curve_len, uint32_t reports[2]);
 
 /* Forgets what the history holds; its words stay. Refusals 13, 12. */
 uint32_t hedgemallow_reset(uint8_t state[HEDGEMALLOW_STATE]);

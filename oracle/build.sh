@@ -58,18 +58,31 @@ modules() {
     done
 }
 
-# Writes a copy of the original's passes to target/oracle/counted in which each final clamp of a channel is the one of
-# oracle/src/clipped.rs, which counts. Six passes have such clamps, one for each of three channels.
+# Where a copy of the original counts. Six passes have final clamps, one for each of three channels; a blur adds up weights in one place
+# for each of its directions.
+counting_places() {
+    for pass in auto_gradient bloom color_correction lut ntsc persistence; do
+        echo " 3 $pass.rs:crate::reports::clamp("
+        case $pass in
+        bloom) echo " 2 $pass.rs:crate::reports::sample(" ;;
+        ntsc) echo " 1 $pass.rs:crate::reports::sample(" ;;
+        esac
+    done
+}
+
+# Writes a copy of the original's passes to target/oracle/counted which counts by oracle/src/reports.rs: each final clamp of a channel is
+# the one there, and the weight of each sample goes through there before it is added.
 copy_counting() {
     mkdir -p target/oracle/counted || return 1
     for file in "$original"/src/postprocess/*.rs; do
-        sed -E 's/\b(final_[rgb]|[rgb]|red|green|blue)\.clamp\(0\.0, (1|255)\.0\)/crate::clipped::clamp(\1, \2.0)/g' "$file" \
+        sed -E -e 's/\b(final_[rgb]|[rgb]|red|green|blue)\.clamp\(0\.0, (1|255)\.0\)/crate::reports::clamp(\1, \2.0)/g' \
+            -e 's/\bweight_sum \+= weight;/weight_sum += crate::reports::sample(weight);/g' "$file" \
             >"target/oracle/counted/${file##*/}" || return 1
     done
-    counting=$(cd target/oracle/counted && grep -o 'crate::clipped::clamp(' -- *.rs | sort | uniq -c | tr -s ' ')
-    asked=$(for pass in auto_gradient bloom color_correction lut ntsc persistence; do echo " 3 $pass.rs:crate::clipped::clamp("; done)
+    counting=$(cd target/oracle/counted && grep -oE 'crate::reports::(clamp|sample)\(' -- *.rs | sort | uniq -c | tr -s ' ')
+    asked=$(counting_places)
     [ "$counting" = "$asked" ] && return
-    printf 'Error: the final clamps of the original are not where they were. Found:\n%s\nasked:\n%s\n' "$counting" "$asked" >&2
+    printf 'Error: the final clamps or the samples of the original are not where they were. Found:\n%s\nasked:\n%s\n' "$counting" "$asked" >&2
     return 1
 }
 

@@ -51,13 +51,16 @@ static int told(char letter, uint32_t answer) {
 /* A frame and what is lent to it. */
 struct frame {
     size_t width, height, words, places;
-    uint32_t *picture, *ints, *clipped;
+    uint32_t *picture, *ints, *reports;
     float *floats;
 };
 
+/* What an accepted frame reports is shown to valgrind. */
 static uint32_t apply(const struct frame *f, const float *curve, size_t length) {
-    return hedgemallow_apply(state, f->picture, f->words, f->width, f->height, history, f->places, f->floats, 3 * (f->words + f->width), f->ints, f->words, curve, length,
-                             f->clipped);
+    uint32_t answer = hedgemallow_apply(state, f->picture, f->words, f->width, f->height, history, f->places, f->floats, 3 * (f->words + f->width), f->ints, f->words,
+                                        curve, length, f->reports);
+    if (!answer) fprintf(nowhere, "%u %u\n", (unsigned)f->reports[0], (unsigned)f->reports[1]);
+    return answer;
 }
 
 static void show(FILE *to, const struct frame *f) {
@@ -102,13 +105,13 @@ static int frame(void) {
         history = room(places * sizeof *history);
         count = words;
     }
-    struct frame f = {width, height, words, places, room(words * 4), room(words * 4), room(4), room(3 * (words + width) * 4)};
+    struct frame f = {width, height, words, places, room(words * 4), room(words * 4), room(8), room(3 * (words + width) * 4)};
     for (size_t i = 0; i < words; i++)
         f.picture[i] = (uint32_t)pixels[3 * i] << 16 | (uint32_t)pixels[3 * i + 1] << 8 | pixels[3 * i + 2];
     tell(&f);
     free(f.picture);
     free(f.ints);
-    free(f.clipped);
+    free(f.reports);
     free(f.floats);
     return 1;
 }

@@ -5,7 +5,7 @@
 #[path = "bridge.rs"]
 mod plain;
 
-pub use plain::{Answer, Lent, State};
+pub use plain::{Answer, Lent, State, UNTOLD};
 
 use crate::pages::{self, NONE, PAGE, READ_WRITE};
 
@@ -59,6 +59,7 @@ struct Rooms {
     floats: Room,
     ints: Room,
     curve: Room,
+    reports: Room,
 }
 
 thread_local! {
@@ -70,6 +71,7 @@ thread_local! {
         floats: Room::new(),
         ints: Room::new(),
         curve: Room::new(),
+        reports: Room::new(),
     });
 }
 
@@ -127,19 +129,21 @@ fn bits(floats: &[f32]) -> Vec<u32> {
 }
 
 pub fn apply(state: &mut State, width: usize, height: usize, lent: Lent) -> Answer {
-    let (answer, after, [framebuffer, history, floats, ints]) = twice(|rooms, guard| {
+    let (answer, after, [framebuffer, history, floats, ints, reports]) = twice(|rooms, guard| {
         let copy = array(rooms.state.lay(&*state, guard));
         let framebuffer = rooms.framebuffer.lay(lent.framebuffer, guard);
         let history = rooms.history.lay(lent.history, guard);
         let floats = rooms.floats.lay(lent.floats, guard);
         let ints = rooms.ints.lay(lent.ints, guard);
         let curve = rooms.curve.lay(lent.curve, guard);
+        let reports = rooms.reports.lay(&*lent.reports, guard);
         let laid = Lent {
             framebuffer: &mut *framebuffer,
             history: &mut *history,
             floats: &mut *floats,
             ints: &mut *ints,
             curve: &*curve,
+            reports: (&mut *reports).try_into().expect("there are two places"),
         };
         let answer = plain::apply(copy, width, height, laid);
         assert!(bits(curve) == bits(lent.curve), "the curve was written");
@@ -148,6 +152,7 @@ pub fn apply(state: &mut State, width: usize, height: usize, lent: Lent) -> Answ
             history.to_vec(),
             bits(floats),
             ints.to_vec(),
+            reports.to_vec(),
         ];
         (answer, *copy, left)
     });
@@ -158,6 +163,7 @@ pub fn apply(state: &mut State, width: usize, height: usize, lent: Lent) -> Answ
         *x = f32::from_bits(word);
     }
     lent.ints.copy_from_slice(&ints);
+    lent.reports.copy_from_slice(&reports);
     answer
 }
 

@@ -16,8 +16,6 @@ mod bench;
 #[cfg_attr(fuzz, path = "guarded.rs")]
 mod bridge;
 mod cards;
-#[cfg(with_original)]
-mod clipped;
 mod constants;
 #[cfg(fuzz)]
 mod fuzz;
@@ -35,6 +33,7 @@ mod probe;
 mod programs;
 mod race;
 mod random;
+mod reports;
 #[cfg(with_original)]
 mod runs;
 #[cfg(with_original)]

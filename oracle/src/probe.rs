@@ -3,6 +3,7 @@
 //! too. What a pass requires is asserted.
 
 use crate::cards::paper::Size;
+use crate::reports::Reports;
 
 /// The declarations, in a module of their own so that the safe functions may bear short names.
 mod exports {
@@ -46,6 +47,7 @@ mod exports {
             threshold: u8,
             strength: f32,
             radius: usize,
+            samples: *mut u32,
         ) -> u32;
         pub fn probe_color_correction(
             frame: *mut u32,
@@ -81,6 +83,7 @@ mod exports {
             height: usize,
             strength: f32,
             bleed: usize,
+            samples: *mut u32,
         ) -> u32;
         pub fn probe_persistence(
             frame: *mut u32,
@@ -224,8 +227,11 @@ pub fn limit(x: f32, lo: f32, hi: f32) -> f32 {
     unsafe { exports::probe_limit(x, lo, hi) }
 }
 
-// The passes. Those with a final clamp give how many channels it clipped. What is safe of a call is the same for all: each buffer is a slice of its own, goes
-// with its own length and is not kept.
+// The passes. Those with a final clamp give how many channels it clipped, and a blur also how many samples it took. What is safe of a
+// call is the same for all: each buffer is a slice or an array of its own, goes with its own length and is not kept.
+
+/// What stands where a pass puts a number, before it does: no pass counts so many.
+const UNTOLD: [u32; 1] = [u32::MAX];
 
 /// What a pass requires of its frame, by rows of `width` words. Not more is lent than that.
 fn assert_frame(frame: &[u32], width: usize, height: usize) {
@@ -258,13 +264,14 @@ pub fn bloom(
     threshold: u8,
     strength: f32,
     radius: usize,
-) -> u32 {
+) -> Reports {
     assert_frame(frame, width, height);
     assert_lendable(scratch.as_ptr(), scratch.len());
     assert!(scratch.len() >= 3 * frame.len());
     assert!(radius <= 64);
+    let mut samples = UNTOLD;
     // SAFETY: as said of the passes.
-    unsafe {
+    let clipped = unsafe {
         exports::probe_bloom(
             frame.as_mut_ptr(),
             frame.len(),
@@ -275,8 +282,11 @@ pub fn bloom(
             threshold,
             strength,
             radius,
+            samples.as_mut_ptr(),
         )
-    }
+    };
+    let [samples] = samples;
+    Reports { clipped, samples }
 }
 
 pub fn color_correction(
@@ -338,12 +348,22 @@ pub fn lut(frame: &mut [u32], preset: u8, strength: f32) -> u32 {
     unsafe { exports::probe_lut(frame.as_mut_ptr(), frame.len(), preset, strength) }
 }
 
-pub fn ntsc(frame: &mut [u32], width: usize, height: usize, strength: f32, bleed: usize) -> u32 {
+pub fn ntsc(
+    frame: &mut [u32],
+    width: usize,
+    height: usize,
+    strength: f32,
+    bleed: usize,
+) -> Reports {
     assert_frame(frame, width, height);
     assert!(bleed <= 64);
     let (start, len) = (frame.as_mut_ptr(), frame.len());
+    let mut samples = UNTOLD;
+    let told = samples.as_mut_ptr();
     // SAFETY: as said of the passes.
-    unsafe { exports::probe_ntsc(start, len, width, height, strength, bleed) }
+    let clipped = unsafe { exports::probe_ntsc(start, len, width, height, strength, bleed, told) };
+    let [samples] = samples;
+    Reports { clipped, samples }
 }
 
 /// Gives the clipped channels. `held` is the size of the frames that the history holds; after the call, `size` is.
@@ -363,7 +383,7 @@ pub fn persistence(
     assert!(history.len() >= usize::from(depth) * frame.len());
     assert!(scratch.len() >= frame.len());
     let (held, size) = (sides(held), sides(size));
-    let mut clipped = [u32::MAX];
+    let mut clipped = UNTOLD;
     // SAFETY: as said of the passes.
     unsafe {
         exports::probe_persistence(

@@ -4,6 +4,7 @@
 use std::fmt;
 
 use crate::cards::paper::Size;
+use crate::reports::Reports;
 
 /// How many differences of a count are printed.
 const SHOWN: usize = 5;
@@ -242,8 +243,9 @@ pub struct FrameTally {
     name: &'static str,
     frames: u64,
     words: u64,
-    /// The channels that the original clips.
+    /// The channels that the original clips, and the samples that it takes.
     clipped: u64,
+    samples: u64,
     /// The frames at which the original's memory is made to begin anew.
     turned: u64,
     /// Those whose channels start from a curve.
@@ -306,19 +308,35 @@ impl FrameTally {
         self.curved
     }
 
-    /// Holds the clipped channels that are reported here to those of the original.
-    pub fn check_clipped(
+    /// Holds what is reported here to what the original counts.
+    pub fn check_reports(
         &mut self,
         at: usize,
-        here: u32,
-        original: u32,
+        here: Reports,
+        original: Reports,
         what: impl FnOnce() -> String,
     ) {
-        self.clipped += u64::from(original);
+        self.clipped += u64::from(original.clipped);
+        self.samples += u64::from(original.samples);
         if here != original {
             self.differ(at, || {
+                format!("{}: here {here:?}, original {original:?}", what())
+            });
+        }
+    }
+
+    /// Holds the samples that the original takes to those of the paper.
+    pub fn check_paper(
+        &mut self,
+        at: usize,
+        original: u32,
+        paper: u32,
+        what: impl FnOnce() -> String,
+    ) {
+        if original != paper {
+            self.differ(at, || {
                 format!(
-                    "{}: here {here} clipped channels, original {original}",
+                    "{}: {original} samples of the original, by the paper {paper}",
                     what()
                 )
             });
@@ -335,6 +353,7 @@ impl FrameTally {
         self.frames += other.frames;
         self.words += other.words;
         self.clipped += other.clipped;
+        self.samples += other.samples;
         self.turned += other.turned;
         self.curved += other.curved;
         self.differences.join(other.differences);
@@ -348,12 +367,13 @@ impl fmt::Display for FrameTally {
             frames,
             words,
             clipped,
+            samples,
             differences,
             ..
         } = self;
         write!(
             f,
-            "{name}: {frames} frames, {words} words, {clipped} clipped channels compared, {differences}"
+            "{name}: {frames} frames, {words} words, {clipped} clipped channels, {samples} blur samples compared, {differences}"
         )
     }
 }

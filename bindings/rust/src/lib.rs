@@ -4,7 +4,7 @@
 //! The types see to pointers, lengths and threads. Two things are left to the caller, as the header
 //! says: the thread's control word for floats (MXCSR) rounds to nearest, keeps subnormal numbers and
 //! masks all exceptions, as Rust itself takes for granted; and a frame takes less than 48 KiB of stack,
-//! a call of `areas` less than 44 (45,432 and 41,288 bytes were measured on 2026-11-17).
+//! a call of `areas` less than 44 (45,656 and 41,288 bytes were measured on 2026-11-17).
 //!
 //! ```
 //! use hedgemallow::{scratch_words, Kind, Refusal, Station};
@@ -49,7 +49,7 @@ pub(crate) mod exports {
             ints_len: usize,
             curve: *const f32,
             curve_len: usize,
-            clipped: *mut u32,
+            reports: *mut u32,
         ) -> u32;
         pub fn hedgemallow_reset(state: *mut u8) -> u32;
         pub fn hedgemallow_set_enabled(state: *mut u8, kind: u8, on: u8) -> u32;
@@ -285,6 +285,29 @@ pub const AREAS: usize = 64;
 /// The version of these bindings: that of the header and of the library that is built beside them.
 pub const VERSION: &str = "0.1.0";
 
+/// What a frame reports, each number added up over the passes that are on.
+///
+/// The samples are those of NTSC, which blurs along each row, and of bloom, along each row and then along each column: for each pixel
+/// those up to bleed or radius places away, itself included, that are inside the row or column, counted once for all channels. They
+/// depend on the card, with its switches, and on width and height alone.
+///
+/// ```
+/// # use hedgemallow::{Counts, Refusal, Station};
+/// // NTSC at full strength with bleed 1, on: each of two pixels takes itself and the other.
+/// let mut station = Station::open(&[0x11, 0x19, 0xFC, 0x00, 0x00, 0x00, 0x08])?;
+/// let (mut floats, mut ints) = ([0.0; 12], [0; 2]);
+/// let counts = station.apply(&mut [0x808080; 2], 2, 1, &mut [], &mut floats, &mut ints, &[])?;
+/// assert_eq!(counts, Counts { clipped: 0, samples: 4 });
+/// # Ok::<(), Refusal>(())
+/// ```
+#[derive(Clone, Copy, Debug, PartialEq, Eq)]
+pub struct Counts {
+    /// The channels that a final conversion clipped, since they lay strictly below 0 or strictly above the top end.
+    pub clipped: u32,
+    /// The samples that blurs took: 393,019,392 at most, at 1024 by 1024 with NTSC and bloom on, both at 64.
+    pub samples: u32,
+}
+
 /// A station, as the [`STATE`] bytes of its state. It is no `Copy` type: a station that was used by value is gone, so one with the older
 /// state cannot go on beside it unnoticed. Who wants a second station says `clone`.
 #[derive(Clone, Debug, PartialEq, Eq, Hash)]
@@ -321,8 +344,8 @@ impl Station {
         report(unsafe { exports::hedgemallow_write(self.state.as_ptr(), to, len) }).map(|n| n as usize)
     }
 
-    /// A frame: the passes that are on, over the first width * height words of the framebuffer. The answer is how many channels
-    /// their final conversions clipped. One of another width or height than the frame before it begins the history anew.
+    /// A frame: the passes that are on, over the first width * height words of the framebuffer. The answer is what was counted on the
+    /// way. One of another width or height than the frame before it begins the history anew.
     ///
     /// The curve is read where the card has colour with a gamma other than 1, on or off: `BadCurve` tells that it has fewer than
     /// [`CURVE`] words then, or that one of the first so many is not in 0..1. With every other card `&[]` will do. Colour begins
@@ -338,8 +361,8 @@ impl Station {
         floats: &mut [f32],
         ints: &mut [u32],
         curve: &[f32],
-    ) -> Result<u32, Refusal> {
-        let mut clipped = [0];
+    ) -> Result<Counts, Refusal> {
+        let mut reports = [0; 2];
         let answer = unsafe {
             exports::hedgemallow_apply(
                 self.state.as_mut_ptr(),
@@ -355,10 +378,11 @@ impl Station {
                 ints.len(),
                 curve.as_ptr(),
                 curve.len(),
-                clipped.as_mut_ptr(),
+                reports.as_mut_ptr(),
             )
         };
-        report(answer).map(|_| clipped[0])
+        let [clipped, samples] = reports;
+        report(answer).map(|_| Counts { clipped, samples })
     }
 
     /// Forgets what the history holds.
@@ -655,8 +679,39 @@ mod tests {
         let card = [0x11, 0x79, 0xFC, 0, 0, 1, 0xFC, 0, 0, 1, 0xFC, 0, 0, 1, 0xFC, 0, 0, 0];
         let mut station = Station::open(&card).unwrap();
         let mut frame = [0, 0x010101, 0, 0x808080];
-        assert_eq!(station.apply(&mut frame, 2, 2, &mut [], &mut [0.0; 24], &mut [0; 4], &[]), Ok(6));
+        let counts = station.apply(&mut frame, 2, 2, &mut [], &mut [0.0; 24], &mut [0; 4], &[]);
+        assert_eq!(counts, Ok(Counts { clipped: 6, samples: 0 }));
         assert_eq!(frame, [0xFFFFFF; 4]);
+    }
+
+    /// NTSC at full strength with bleed 1; bloom above 100 at full strength with radius 1; both, with 2 for 1; all on.
+    const NTSC: [u8; 7] = [0x11, 0x19, 0xFC, 0, 0, 0, 0x08];
+    const BLOOM: [u8; 8] = [0x11, 0x2B, 0x21, 0xFC, 0, 0, 0, 0x08];
+    const BOTH: [u8; 14] = [0x12, 0x19, 0xFC, 0, 0, 0, 0x11, 0x59, 0x0F, 0xE0, 0, 0, 0, 0x80];
+
+    /// The samples of a grey frame, of which nothing is clipped.
+    fn samples(station: &mut Station, width: usize, height: usize) -> Result<u32, Refusal> {
+        let mut frame = [0x404040; 4];
+        let counts = station.apply(&mut frame, width, height, &mut [], &mut [0.0; 24], &mut [0; 4], &[])?;
+        assert_eq!(counts.clipped, 0);
+        Ok(counts.samples)
+    }
+
+    /// Along rows, and under bloom along columns too; of neither blur where it is off; none of a frame that is refused.
+    #[test]
+    fn a_frame_reports_the_samples_of_its_blurs() {
+        let [mut ntsc, mut bloom, mut both] = [&NTSC[..], &BLOOM, &BOTH].map(|card| Station::open(card).unwrap());
+        for (width, height, of_ntsc, of_bloom) in [(1, 1, 1, 2), (2, 1, 4, 6), (1, 2, 2, 6), (3, 1, 7, 10), (1, 4, 4, 14), (2, 2, 8, 16)] {
+            assert_eq!(samples(&mut ntsc, width, height), Ok(of_ntsc));
+            assert_eq!(samples(&mut bloom, width, height), Ok(of_bloom));
+        }
+        // At a radius of 2 each place of a line of three takes all three.
+        assert_eq!(samples(&mut both, 3, 1), Ok(9 + (9 + 3)));
+        both.set_enabled(Kind::Bloom, false).unwrap();
+        assert_eq!(samples(&mut both, 3, 1), Ok(9));
+        both.set_enabled(Kind::Ntsc, false).unwrap();
+        assert_eq!(samples(&mut both, 3, 1), Ok(0));
+        assert_eq!(samples(&mut ntsc, 0, 1), Err(BadSize));
     }
 
     /// Colour with brightness 0, contrast and saturation 1, and gamma 2; the same with gamma 1.
@@ -807,9 +862,12 @@ mod tests {
             assert_eq!((station.pending(), other.pending()), (Some((Kind::Lut, false)), None));
             assert_eq!((&station.state[..77], station.state[79]), (&other.state[..77], other.state[79]));
         };
-        let frame = |station: &mut Station| station.apply(&mut [0xFF; 2], 2, 1, &mut [0; 6], &mut [0.0; 12], &mut [0; 2], &[]);
+        let frame = |station: &mut Station| {
+            let counts = station.apply(&mut [0xFF; 2], 2, 1, &mut [0; 6], &mut [0.0; 12], &mut [0; 2], &[])?;
+            Ok(counts.clipped)
+        };
         both(&frame);
-        both(&|station| station.apply(&mut [], 2, 1, &mut [], &mut [], &mut [], &[]));
+        both(&|station| station.apply(&mut [], 2, 1, &mut [], &mut [], &mut [], &[]).map(|counts| counts.clipped));
         both(&|station| station.set_enabled(Kind::Lut, false).map(|_| 0));
         both(&|station| station.set_enabled(Kind::Lut, true).map(|_| 0));
         both(&|station| station.set_enabled(Kind::Bloom, true).map(|_| 0));

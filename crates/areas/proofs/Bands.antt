@@ -21,7 +21,8 @@ use Rattle.areas.proofs.Runs.{one-most}
 use Rattle.areas.proofs.Search.{placed-in}
 use Rattle.areas.proofs.Spread.{channel-small}
 use Rattle.areas.proofs.Strips.{as-rewrite}
-use Rattle.areas.proofs.Sums.{sum-ext, sum-zero, sum-bound, sum-split, sum-const, some-ext}
+use Rattle.num.specs.Laws.Sums.{sum-ext, sum-zero, sum-bound, sum-split, sum-const}
+use Rattle.areas.proofs.OneOf.{some-ext}
 
 -- ## The rows of a band
 

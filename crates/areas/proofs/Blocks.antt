@@ -12,7 +12,7 @@ use Rattle.areas.specs.declared.block.Band.{Band}
 use Rattle.areas.proofs.Spread.{spread-small}
 use Rattle.areas.proofs.Strips.{blank, changed, three}
 use Rattle.areas.proofs.Ranges.{over-empty, over-more}
-use Rattle.areas.proofs.Sums.{sum-ext, sum-bound, sum-more}
+use Rattle.num.specs.Laws.Sums.{sum-ext, sum-bound, sum-more}
 
 -- ## The columns
 

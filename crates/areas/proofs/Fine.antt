@@ -13,7 +13,7 @@ use Rattle.num.specs.Laws.Refusals.{by, side-fine}
 use Rattle.areas.specs.Areas.{count, areaAt, badArea, badAreas, badList, refusalOf}
 use Rattle.areas.specs.Private.{Inside, Placed, Framed}
 use Rattle.areas.specs.declared.area.Area.{Area}
-use Rattle.areas.proofs.Sums.{none-at}
+use Rattle.areas.proofs.OneOf.{none-at}
 
 in-frame : (w h : ℕ) (a : Area) → badArea w h a ≡ false → Inside w h a
 unfolding badArea

@@ -1,4 +1,4 @@
-pub mod Sums
+pub mod OneOf
 pub mod Strips
 pub mod Spread
 pub mod Ranges

@@ -14,7 +14,7 @@ use Rattle.areas.specs.Areas.{count, areaAt, holds, held}
 use Rattle.areas.specs.Private.{partOf, Spans, Changed, Marked, Marks, most, mostFrom, marked, Reaches}
 use Rattle.areas.specs.declared.area.Part.{Part}
 use Rattle.areas.proofs.Search.{part-held, held-part}
-use Rattle.areas.proofs.Sums.{some-at, one-of}
+use Rattle.areas.proofs.OneOf.{some-at, one-of}
 
 -- ## The largest of several
 

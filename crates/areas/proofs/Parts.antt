@@ -18,7 +18,8 @@ use Rattle.areas.specs.declared.block.Band.{Band}
 use Rattle.areas.proofs.Ranges.{over-empty, over-join}
 use Rattle.areas.proofs.Search.{placed-in, part-in, part-out, part-fits, part-held}
 use Rattle.areas.proofs.Spread.{channel-small, unspread-sum}
-use Rattle.areas.proofs.Sums.{sum-ext, sum-bound, sum-split, sum-none, sum-stop, sum-swap, some-at}
+use Rattle.num.specs.Laws.Sums.{sum-ext, sum-bound, sum-split, sum-none, sum-stop, sum-swap}
+use Rattle.areas.proofs.OneOf.{some-at}
 
 -- ## A part of the columns
 

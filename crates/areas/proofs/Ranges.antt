@@ -5,7 +5,7 @@ use native.Mathlib.Decide.{decLt}
 use native.Mathlib.Omega.{arith}
 use Rattle.areas.specs.Areas.{sum}
 use Rattle.areas.specs.Private.{over}
-use Rattle.areas.proofs.Sums.{sum-ext, sum-zero, sum-more, sum-split}
+use Rattle.num.specs.Laws.Sums.{sum-ext, sum-zero, sum-more, sum-split}
 
 module _ (F : ℕ → ℕ) where
   pub over-empty : (p q : ℕ) → q ≤ p → over p q F ≡ 0

@@ -15,7 +15,7 @@ use Rattle.areas.specs.Private.{marked, Closed, First, InPicture, column
 use Rattle.areas.specs.declared.area.Part.{Part}
 use Rattle.areas.specs.declared.block.Band.{Band}
 use Rattle.areas.proofs.Ranges.{over-empty, over-join}
-use Rattle.areas.proofs.Sums.{sum-bound, sum-none, sum-const}
+use Rattle.num.specs.Laws.Sums.{sum-bound, sum-none, sum-const}
 
 pub one-most : (o : Bool) → cond o 1 0 ≤ 1
 one-most true = omega arith

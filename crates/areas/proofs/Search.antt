@@ -13,7 +13,7 @@ use Rattle.areas.specs.Areas.{count, areaAt, holds, held}
 use Rattle.areas.specs.Private.{Inside, Placed, inRow, Edge, Edges, partOf, Spans}
 use Rattle.areas.specs.declared.area.Area.{Area}
 use Rattle.areas.specs.declared.area.Part.{Part}
-use Rattle.areas.proofs.Sums.{one-of}
+use Rattle.areas.proofs.OneOf.{one-of}
 
 -- a rectangle of the list, as it was read, is where that one is
 pub placed-at : {w h : ℕ} {areas : List ℕ} {a : Area} → Placed w h areas → (k : ℕ) → k < count areas → a ≡ areaAt areas k → Inside w h a

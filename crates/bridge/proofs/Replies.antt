@@ -125,10 +125,10 @@ write-some b buf new s x n t e f h = (
 -- ## Frame
 
 freed-is : (a : FrameAnswer) (k : ℕ) → freed (framedNumber (reportedFrame a)) k ≡ free a k
-freed-is (Frame.Shown n) k = refl
+freed-is (Frame.Shown n m) k = refl
 freed-is (Frame.Refused e) k = rw (ne-eqb (256 + e) 0 (λ z. omega (arith, z)))
 
--- what a frame tells: that it is shown, with its clipped channels, or refused
+-- what a frame tells: that it is shown, with its two numbers, or refused
 module _ (b old words past : List ℕ) (r : Applied) where
   abbrev tells : Shown
   tells = framedShown b old (framed (reportedFrame (r .answer)) (r .station) words past)
@@ -136,8 +136,8 @@ module _ (b old words past : List ℕ) (r : Applied) where
   by-answer : {a : FrameAnswer} → r .answer ≡ a → framedShown b old (framed (reportedFrame a) (r .station) words past) ≡ tells
   by-answer e = ap (λ (x : FrameAnswer). framedShown b old (framed (reportedFrame x) (r .station) words past)) (sym e)
 
-  pub shows : (new : List ℕ) (n : ℕ) → r .answer ≡ Frame.Shown n → new ≡ encoded (r .station) → shown 0 new words past (n ∷ []) ≡ tells
-  shows new n e f = ap (λ (z : List ℕ). shown 0 z words past (n ∷ [])) f ∙ by-answer e
+  pub shows : (new : List ℕ) (n m : ℕ) → r .answer ≡ Frame.Shown n m → new ≡ encoded (r .station) → shown 0 new words past (n ∷ m ∷ []) ≡ tells
+  shows new n m e f = ap (λ (z : List ℕ). shown 0 z words past (n ∷ m ∷ [])) f ∙ by-answer e
 
   pub shows-none : (k n : ℕ) → r .answer ≡ Frame.Refused k → n ≡ 256 + k → shown n b words past old ≡ tells
   shows-none k n e f = ap (λ (m : ℕ). shown m b words past old) f ∙ by-answer e

@@ -96,9 +96,9 @@ frameShown w h b words past floats ints curve old =
 abbrev pub freed : (number k : ℕ) → ℕ
 freed number k = cond (eqb number 0) k 0
 
--- what a frame promises: the number, the state, the framebuffer, the history, the number of clipped channels, and the scratch words that stay
-pub record Frames (w h : ℕ) (b words past : List ℕ) (floats : List Float) (ints : List ℕ) (curve : List Float) (clipped : List ℕ) (number : ℕ)
-    (b′ words′ past′ : List ℕ) (floats′ : List Float) (ints′ clipped′ : List ℕ) : Type 0 where
-  pub replies : shown number b′ words′ past′ clipped′ ≡ frameShown w h b words past (length floats) (length ints) curve clipped
+-- what a frame promises: the number, the state, the framebuffer, the history, what it reports, and the scratch words that stay
+pub record Frames (w h : ℕ) (b words past : List ℕ) (floats : List Float) (ints : List ℕ) (curve : List Float) (reports : List ℕ) (number : ℕ)
+    (b′ words′ past′ : List ℕ) (floats′ : List Float) (ints′ reports′ : List ℕ) : Type 0 where
+  pub replies : shown number b′ words′ past′ reports′ ≡ frameShown w h b words past (length floats) (length ints) curve reports
   pub floats-stay : drop (freed number (floatRoom w h)) floats′ ≡ drop (freed number (floatRoom w h)) floats
   pub ints-stay : drop (freed number (h * w)) ints′ ≡ drop (freed number (h * w)) ints

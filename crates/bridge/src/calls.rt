@@ -1,5 +1,5 @@
-// The exported calls. Each answers what the call reports, 0 where it reports nothing, or 256 and the refusal's number. A number that may be above 255 is
-// reported in a place of its own.
+// The exported calls. Each answers what the call reports, 0 where it reports nothing, or 256 and the refusal's number. What a frame reports, and what may be
+// above 255, has a place of its own.
 ghost use mathlib.Core.Path.{_≡_};
 ghost use Prim.Native.Nat.{_+_};
 ghost use mathlib.Core.Bool.{not};
@@ -81,7 +81,7 @@ pub extern "C" fn hedgemallow_write(state: &[u8; 80], buffer: &mut [u8]) -> u32
     }
 }
 
-// A frame; and how many channels were clipped.
+// A frame; and what it reports: how many channels were clipped, and how many samples were taken.
 #[no_mangle]
 pub extern "C" fn hedgemallow_apply(
     state: &mut [u8; 80],
@@ -92,11 +92,11 @@ pub extern "C" fn hedgemallow_apply(
     floats: &mut [f32],
     ints: &mut [u32],
     curve: &[f32],
-    clipped: &mut [u32; 1],
+    reports: &mut [u32; 2],
 ) -> u32
     ensures { λ r. ⌜ Frames width height (now (state .entry)) (now (framebuffer .entry)) (now (history .entry)) (now (floats .entry)) (now (ints .entry))
-        (now (curve .entry)) (now (clipped .entry)) r (now (state .exit)) (now (framebuffer .exit)) (now (history .exit)) (now (floats .exit))
-        (now (ints .exit)) (now (clipped .exit)) ⌝ }
+        (now (curve .entry)) (now (reports .entry)) r (now (state .exit)) (now (framebuffer .exit)) (now (history .exit)) (now (floats .exit))
+        (now (ints .exit)) (now (reports .exit)) ⌝ }
 {
     let opened = decode(*state);
     let answer = opened.answer;
@@ -117,9 +117,9 @@ pub extern "C" fn hedgemallow_apply(
     let told = applied.answer;
     let after = applied.station;
     match told {
-        FrameAnswer::Shown { clipped: n } => {
+        FrameAnswer::Shown { clipped, samples } => {
             *state = encode(after);
-            *clipped = [n];
+            *reports = [clipped, samples];
             0
         }
         FrameAnswer::Refused(k) => refusal(k),

@@ -1,4 +1,4 @@
-// A card in words: its passes in order, or why it is refused; then its normalised bytes.
+// A card in words: its passes in order, how many samples their blurs take, and its normalised bytes; or why it is refused.
 use crate::names;
 use crate::names::text;
 use crate::numbers;
@@ -9,10 +9,13 @@ use cards::station::Station;
 use cards::station::kind_of;
 use cards::writer;
 use cards::writer::Writing;
+use chain::samples::Sampling;
+use chain::samples::samples;
 use cli::input;
 use cli::names as called;
 use cli::output::end;
 use cli::words;
+use inspect::extent::Extent;
 use inspect::settings::Setting;
 use inspect::settings::setting_at;
 use libc::STDOUT_FILENO;
@@ -94,6 +97,30 @@ fn passes(station: Station) -> bool {
     true
 }
 
+// A line for the samples that the blurs take at a size. No station that a card opens is refused, nor is a size that has sides.
+fn sampled(station: Station, width: usize, height: usize) -> bool {
+    match samples(station, width, height) {
+        Sampling::Number(n) => {
+            text(b"  samples: ");
+            numbers::whole(n as usize);
+            text(b" at ");
+            numbers::whole(width);
+            text(b" by ");
+            numbers::whole(height);
+            end(b"\n")
+        }
+        Sampling::Refused(_) => end(b"  no samples\n"),
+    }
+}
+
+// The same for the size that is asked for, if one is.
+fn asked(station: Station, extent: Extent) -> bool {
+    match extent {
+        Extent::Sides(width, height) => sampled(station, width, height),
+        Extent::NoSize => true,
+    }
+}
+
 // The card as every card of this station is written.
 fn normalised(station: Station) -> bool {
     let mut card = [0u8; 72];
@@ -116,13 +143,16 @@ fn prefix(card: &[u8], n: usize) {
     }
 }
 
-// The card in words.
-fn described(card: &[u8]) -> bool {
+// The card in words. The samples are told of a frame of 256 by 240, and of the size that is asked for.
+fn described(card: &[u8], extent: Extent) -> bool {
     let opened = reader::open(card);
     let answer = opened.answer;
     let station = opened.station;
     match answer {
-        Answer::Accepted => passes(station) && normalised(station),
+        Answer::Accepted => passes(station)
+            && sampled(station, 256, 240)
+            && asked(station, extent)
+            && normalised(station),
         Answer::Refused(k) => {
             text(b"  ");
             words::refused(STDOUT_FILENO, card, k)
@@ -131,10 +161,10 @@ fn described(card: &[u8]) -> bool {
 }
 
 // The card that argument i gave, below that argument.
-pub fn titled(i: usize, card: &[u8]) -> bool {
+pub fn titled(i: usize, card: &[u8], extent: Extent) -> bool {
     let mut name = io::buffer();
     let given = input::argument(i, &mut name);
     let n = given.length;
     text(&name[..n]);
-    end(b"\n") && described(card)
+    end(b"\n") && described(card, extent)
 }

@@ -21,7 +21,7 @@ use Rattle.cards.specs.declared.station.Record.{Record}
 use Rattle.cards.specs.declared.station.Station.{Station}
 use Rattle.chain.specs.Agree.{SameFirst}
 use Rattle.chain.specs.Calls.{hold, stops, framed, refusingFrame, incoming, shown, shownBy, frameReply, frameReplyBy}
-use Rattle.chain.specs.Chain.{wash, over, overBy, turn, turnBy, chain, depth, reads, readsCurve}
+use Rattle.chain.specs.Chain.{wash, over, overBy, turn, turnBy, chain, depth, reads, readsCurve, samplesIn}
 use Rattle.chain.proofs.Goes.{goes}
 
 module _ (w h : ℕ) (curve other : List Float) where
@@ -67,6 +67,6 @@ reply-curve w h s words past floats ints {curve} {other} same =
         → unless k (refusingFrame s words past) (shown w h s words past curve) ≡ unless k (refusingFrame s words past) (shown w h s words past other)
     go zero e =
         let g = goes s w h (length words) (length past) floats ints curve e in
-        ap (λ (x : Flow). framed (acceptance (x .frame .clipped ∷ [])) (hold (x .held) s) (x .frame .words ++ drop (h * w) words) (x .past))
+        ap (λ (x : Flow). framed (acceptance (x .frame .clipped ∷ samplesIn w h (chainOf s) ∷ [])) (hold (x .held) s) (x .frame .words ++ drop (h * w) words) (x .past))
         (chain-curve w h curve other (chainOf s) (incoming w h s words past) (λ r. same .same-first (curve-long curve (g .curve-good r))))
     go (suc k) e = refl

@@ -39,6 +39,14 @@ normal-at seen [] h i d l = absurd (not-suc-le-zero l)
 normal-at seen (r ∷ rs) h zero d l = headed seen r rs h .normal
 normal-at seen (r ∷ rs) h (suc i) d l = normal-at (seen ++ kindOf (r .pass) ∷ []) rs (headed seen r rs h .others) i d (le-of-suc-le-suc l)
 
+-- so is that of each record of a good station's chain
+pub normal-of : (s : Station) → goodStation s ≡ true → length (s .records) ≡ 10 → (i : ℕ) (d : Record) → i < s .n
+    → normalPass (getD (s .records) i d .pass) ≡ true
+normal-of s e long i d l =
+    let g = good s e in
+    let many : length (chainOf s) ≡ s .n = length-take-le (s .n) (s .records) (omega (arith, g .few)) in
+    subst (λ (r : Record). normalPass (r .pass) ≡ true) (getD-take (s .n) (s .records) i d l) (normal-at [] (chainOf s) (g .normal) i d (omega arith))
+
 -- a chain reads the curve where one of its passes does
 reads-at : (rs : List Record) (i : ℕ) (d : Record) → i < length rs → reads (getD rs i d .pass) ≡ true → readsCurve rs ≡ true
 unfolding readsCurve
@@ -58,7 +66,7 @@ readies s size room lent e long fits read =
           let same : getD (chainOf s) i d ≡ getD (s .records) i d = getD-take (s .n) (s .records) i d l in
           let inside : i < length (chainOf s) = omega arith in
           record {
-            normal = subst (λ (r : Record). normalPass (r .pass) ≡ true) same (normal-at [] (chainOf s) (g .normal) i d inside);
+            normal = normal-of s e long i d l;
             past-room = subst (λ (r : Record). depthOf (r .pass) * area size ≤ room) same
                 (le-trans (mul-le-mul-right (area size) (deepest (chainOf s) i d inside)) fits);
             curve-room = subst (λ (r : Record). reads (r .pass) ≡ true → 256 ≤ lent) same (λ c. read (reads-at (chainOf s) i d inside c));

@@ -24,7 +24,7 @@ use Rattle.cards.specs.Answers.{Report, refusal, acceptance}
 use Rattle.chain.specs.Calls.{stops, lacks, askStops, commitStops, onFirst, presets, shownBy}
 use Rattle.chain.specs.Calls.{frameReplyBy}
 use Rattle.cards.specs.Card.{stationOf, headerAt, recordsAt, endsAt, endAt, stationAt, accepted, openOf}
-use Rattle.chain.specs.Chain.{wash, overBy, turnBy, depth, readsCurve}
+use Rattle.chain.specs.Chain.{wash, overBy, turnBy, depth, readsCurve, recordSamples}
 use Rattle.chain.specs.Machine.{Call, frame, reset, switch, ask, commit, step, State, Seen, call, after, run, saw}
 use Rattle.cards.specs.Normal.{settled, normalPass, normalChain, persists, goodStation}
 use Rattle.cards.specs.Passes.{passAt, persistenceAt, lutAt}
@@ -105,13 +105,13 @@ mixing = stationOf (record { on = true; pass = Persistence c0·30 1 } ∷ [])
 abbrev white : Call
 white = frame 1 1 (0xffffff ∷ []) 1 6 1 []
 
--- What the own list reports: acceptance with no channel clipped, refusal 10, and the presets. Before the point of agreement two stations may report different
+-- What the own list reports: acceptance with no channel clipped and no sample taken, refusal 10, and the presets. Before the point of agreement two stations may report different
 -- numbers: the first shared frame is mixed by one, and fills the history of the other.
 abbrev reports : List (List Report × List Report)
 reports =
-    (answers (saw (run (opened mixing (7 ∷ [])) (white ∷ [])) (white ∷ white ∷ [])), acceptance (3 ∷ []) ∷ acceptance (3 ∷ []) ∷ [])
-    ∷ (answers (saw (opened mixing (7 ∷ [])) (white ∷ white ∷ [])), acceptance (0 ∷ []) ∷ acceptance (3 ∷ []) ∷ [])
-    ∷ (answers (saw (opened station (90 ∷ 91 ∷ 92 ∷ [])) own), acceptance (0 ∷ []) ∷ refusal 10 ∷ map (λ p. acceptance (p ∷ [])) (0 ∷ 1 ∷ 2 ∷ 3 ∷ 4 ∷ 5 ∷ 6 ∷ []))
+    (answers (saw (run (opened mixing (7 ∷ [])) (white ∷ [])) (white ∷ white ∷ [])), acceptance (3 ∷ 0 ∷ []) ∷ acceptance (3 ∷ 0 ∷ []) ∷ [])
+    ∷ (answers (saw (opened mixing (7 ∷ [])) (white ∷ white ∷ [])), acceptance (0 ∷ 0 ∷ []) ∷ acceptance (3 ∷ 0 ∷ []) ∷ [])
+    ∷ (answers (saw (opened station (90 ∷ 91 ∷ 92 ∷ [])) own), acceptance (0 ∷ 0 ∷ []) ∷ refusal 10 ∷ map (λ p. acceptance (p ∷ [])) (0 ∷ 1 ∷ 2 ∷ 3 ∷ 4 ∷ 5 ∷ 6 ∷ []))
     ∷ []
 
 -- Of the shared list the point is the call after the second frame. A reset and a switching-off agree themselves, a committed one too; asking for it, a
@@ -134,7 +134,7 @@ points =
 
 pub runs-hold : Hold shows × Hold reports × Hold points
 unfolding point before saw run after call frameReplyBy unless shownBy stops lacks askStops commitStops goodStation fineHeld sameHeld
-    badSide settled normalPass normalChain persists depth readsCurve fold turnBy overBy wash onFirst presets ofBits ofInt add mul div
+    badSide settled normalPass normalChain persists depth readsCurve recordSamples fold turnBy overBy wash onFirst presets ofBits ofInt add mul div
     lt clampOf cutOf rewrite Text.Pixel.unpack Text.Pixel.pack Text.Pixel.packClamped Text.Persistence.persistence
     Text.Persistence.decay Text.Persistence.total Text.Persistence.add Text.Persistence.mix converted sum
     Text.Pixel.clip Text.Pixel.clips Text.Persistence.blend Persistence.copies Persistence.refilled Persistence.shifted
@@ -147,7 +147,7 @@ same p = frames (record { same-length = refl; same-first = λ fits. refl }) (rec
 
 pub agree : drop 2 (saw old (shared 7)) ≡ drop 2 (saw new (shared 8))
 unfolding point before saw run after call frameReplyBy unless shownBy stops lacks goodStation fineHeld sameHeld
-    badSide settled normalPass normalChain persists depth readsCurve fold turnBy overBy wash onFirst presets ofBits ofInt add mul div
+    badSide settled normalPass normalChain persists depth readsCurve recordSamples fold turnBy overBy wash onFirst presets ofBits ofInt add mul div
     lt clampOf cutOf rewrite Text.Pixel.unpack Text.Pixel.pack Text.Pixel.packClamped Text.Persistence.persistence
     Text.Persistence.decay Text.Persistence.total Text.Persistence.add Text.Persistence.mix converted sum
     Text.Pixel.clip Text.Pixel.clips Text.Persistence.blend Persistence.copies Persistence.refilled Persistence.shifted

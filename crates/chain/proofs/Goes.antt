@@ -1,7 +1,7 @@
 -- What no refusal of a frame tells, and how a refused and an accepted frame are said. Assumes nothing.
 use Prim.Native.Nat.{ℕ, zero, suc, _*_, _≤_, _<_}
 use native.Mathlib.Omega.{arith}
-use mathlib.Core.Path.{_≡_, refl, sym, ap, _∙_}
+use mathlib.Core.Path.{_≡_, refl, sym, ap, ap₂, _∙_}
 use mathlib.Core.Bool.{Bool, true, not, _&&_, _||_}
 use mathlib.Core.List.{List, [], _∷_, _++_}
 use borrow.Author.Tests.{ltb-false, not-false}
@@ -21,7 +21,7 @@ use Rattle.cards.specs.Alike.{chainOf}
 use Rattle.cards.specs.Answers.{refusal, acceptance}
 use Rattle.chain.specs.Calls.{floatRoom, hold, stops, framed, refusingFrame, shown, shownBy}
 use Rattle.chain.specs.Calls.{frameReply, frameReplyBy}
-use Rattle.chain.specs.Chain.{chain, depth, readsCurve}
+use Rattle.chain.specs.Chain.{chain, depth, readsCurve, samplesIn}
 use Rattle.chain.specs.Lent.{Lent, Readies}
 use Rattle.cards.specs.Normal.{goodStation}
 use Rattle.cards.specs.declared.station.Station.{Station}
@@ -92,10 +92,12 @@ module _ (k w h : ℕ) (s : Station) (words past : List ℕ) (floats ints : ℕ)
       go (suc j) q n = ap (λ (m : ℕ). unless m (refusingFrame s words past) (shown w h s words past curve)) q
 
   -- or what the chain makes of it
-  pub shown-frame : k ≡ 0 → {frame′ past′ : List ℕ} {held′ : Held} {clipped′ : ℕ}
+  pub shown-frame : k ≡ 0 → {frame′ past′ : List ℕ} {held′ : Held} {clipped′ samples′ : ℕ}
       → flow (painted frame′ clipped′) held′ past′ ≡ chain w h curve (chainOf s) (flow (painted (take (h * w) words) 0) (s .held) past)
-      → framed (acceptance (clipped′ ∷ [])) (hold held′ s) (frame′ ++ drop (h * w) words) past′ ≡ frameReply w h s words past floats ints curve
+      → samples′ ≡ samplesIn w h (chainOf s)
+      → framed (acceptance (clipped′ ∷ samples′ ∷ [])) (hold held′ s) (frame′ ++ drop (h * w) words) past′
+      ≡ frameReply w h s words past floats ints curve
   unfolding frameReplyBy unless shownBy
-  shown-frame z x =
-      ap (λ (y : Flow). framed (acceptance (y .frame .clipped ∷ [])) (hold (y .held) s) (y .frame .words ++ drop (h * w) words) (y .past)) x
+  shown-frame z x n =
+      ap₂ (λ (y : Flow) (m : ℕ). framed (acceptance (y .frame .clipped ∷ m ∷ [])) (hold (y .held) s) (y .frame .words ++ drop (h * w) words) (y .past)) x n
       ∙ ap (λ (m : ℕ). unless m (refusingFrame s words past) (shown w h s words past curve)) (sym z ∙ e)

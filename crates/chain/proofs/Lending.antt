@@ -4,17 +4,14 @@ use Prim.Native.Nat.{ℕ, _+_, _*_, _≤_, _<_}
 use native.Mathlib.Nat.{zero-add, add-zero}
 use native.Mathlib.Omega.{arith}
 use mathlib.Core.Path.{_≡_, refl, sym, ap, subst, _∙_}
-use mathlib.Core.Bool.{Bool, true, false, cond, _&&_}
+use mathlib.Core.Bool.{Bool, true, false, cond}
 use mathlib.Core.List.{List}
-use borrow.Author.Tests.{leb-true}
 use mir.Syntax.{w32}
 use mir.Val.{Fits}
-use lib.Dec.{leb}
 use lib.ListN.{length, take, getD}
 use lib.Ieee.{Float}
-use Rattle.num.specs.Const.{c0·0, c0·95, c1·0}
+use Rattle.num.specs.Const.{c0·0, c0·95}
 use Rattle.num.specs.Held.{Held, sized, sameHeld}
-use Rattle.num.specs.Laws.Bools.{both}
 use Rattle.num.specs.declared.size.Size.{Size}
 use Rattle.passes.specs as Text
 use Rattle.passes.specs.ColorCorrection.{curved}
@@ -24,13 +21,14 @@ use Rattle.passes.specs.Painted.{Painted, painted, onto}
 use Rattle.passes.specs.Plain.Persistence.{persistence, blend, shifted, refilled}
 use Rattle.passes.specs.Rows.{Frame}
 use Rattle.passes.specs.Laws.Rows.{frame-small}
-use Rattle.chain.specs.Chain.{wash, paint, over, overBy, turn, turnBy, chain, depthOf, reads}
+use Rattle.chain.specs.Chain.{wash, paint, over, overBy, turn, turnBy, chain, depthOf, reads, samplesOf, recordSamples, samplesIn}
 use Rattle.chain.specs.Lent.{Lent, Ready, Readies}
-use Rattle.cards.specs.Normal.{normalPass, settled, counted}
+use Rattle.cards.specs.Normal.{normalPass, settled}
 use Rattle.cards.specs.declared.station.Pass.{Pass}
 use Rattle.cards.specs.declared.station.Pass.the-variants.{Ntsc, Bloom, Persistence, ColorCorrection}
 use Rattle.cards.specs.declared.station.Record.{Record}
 use Rattle.cards.specs.declared.station.Station.{Station}
+use Rattle.chain.proofs.Taken.{count-fine, bleed-few, radius-few, Summed, summed-none, summed-fits, summed-more, summed-all}
 use Rattle.chain.proofs.PassCases.{by-memory, over-few, over-paints, Painter, no-depth, not-persistence}
 
 -- on a frame of which nothing was clipped yet
@@ -39,18 +37,12 @@ fresh t = ap (painted (t .words)) (sym (zero-add (t .clipped)))
 
 -- ## What a ready pass may rely on
 
--- a counted setting, after one that is none
-count-fine : (other : Bool) (most n : ℕ) → other && counted most n ≡ true → n ≤ most
-count-fine other most n e = leb-true n most (both (leb 1 n) (leb n most) (both other (counted most n) e .1) .1)
-
 module _ (size : Size) (pass : Pass) (room lent : ℕ) where
   pub bleed-fine : (strength : Float) (bleed : ℕ) → pass ≡ Ntsc strength bleed → Ready size pass room lent → bleed ≤ 64
-  unfolding normalPass
-  bleed-fine strength bleed e r = count-fine (settled c0·0 c1·0 strength) 64 bleed (ap normalPass (sym e) ∙ r .normal)
+  bleed-fine strength bleed e r = bleed-few pass (r .normal) strength bleed e
 
   pub radius-fine : (threshold : ℕ) (strength : Float) (radius : ℕ) → pass ≡ Bloom threshold strength radius → Ready size pass room lent → radius ≤ 64
-  unfolding normalPass
-  radius-fine threshold strength radius e r = count-fine (settled c0·0 c1·0 strength) 64 radius (ap normalPass (sym e) ∙ r .normal)
+  radius-fine threshold strength radius e r = radius-few pass (r .normal) threshold strength radius e
 
   pub curve-fine : (brightness contrast saturation gamma : Float) → pass ≡ ColorCorrection brightness contrast saturation gamma
       → Ready size pass room lent → curved gamma ≡ true → 256 ≤ lent
@@ -86,6 +78,10 @@ module _ (w h : ℕ) (curve : List Float) (pass : Pass) where
       ap (λ (y : Painted). flow y held past) (e ∙ fresh (paint w h curve pass frame))
       ∙ sym (over-paints w h curve (flow (painted frame 0) held past) pass (not-persistence pass t))
 
+-- the samples of a pass that was `case`
+pub samples-by : (w h : ℕ) (pass case : Pass) (n : ℕ) → pass ≡ case → n ≡ samplesOf w h case → n ≡ samplesOf w h pass
+samples-by w h pass case n e s = s ∙ ap (samplesOf w h) (sym e)
+
 -- the words alone, where a pass clips nothing
 pub none-clipped : (words other : List ℕ) → words ≡ other → painted words 0 ≡ painted other 0
 none-clipped words other e = ap (λ (l : List ℕ). painted l 0) e
@@ -103,6 +99,16 @@ module _ (w h : ℕ) (curve : List Float) (x : Flow) (r : Record) where
   pub turn-off : r .on ≡ false → x ≡ turn w h curve x r
   unfolding turnBy
   turn-off e = ap (λ (b : Bool). cond b (over w h curve (r .pass) x) x) (sym e)
+
+-- its samples
+module _ (w h : ℕ) (r : Record) where
+  pub samples-on : (n : ℕ) → r .on ≡ true → n ≡ samplesOf w h (r .pass) → n ≡ recordSamples w h r
+  unfolding recordSamples
+  samples-on n e s = s ∙ ap (λ (b : Bool). cond b (samplesOf w h (r .pass)) 0) (sym e)
+
+  pub samples-off : r .on ≡ false → 0 ≡ recordSamples w h r
+  unfolding recordSamples
+  samples-off e = ap (λ (b : Bool). cond b (samplesOf w h (r .pass)) 0) (sym e)
 
 -- ## What was clipped before
 
@@ -161,13 +167,14 @@ turn-few w h curve x r = of (r .on)
 
 -- ## The loop over the records
 
--- the first i of n records have turned the flow x into `frame`, `clipped`, `held` and `past`; `room` is the length of the history
+-- the first i of n records have turned the flow x into `frame`, `clipped`, `held` and `past`, and taken `samples`; `room` is the length of the history
 pub record Running
     (size : Size) (n i room : ℕ) (curve : List Float) (rs : List Record) (x : Flow)
-    (frame : List ℕ) (clipped : ℕ) (held : Held) (past : List ℕ) (floats : List Float) (ints : List ℕ) : Type 0
+    (frame : List ℕ) (clipped samples : ℕ) (held : Held) (past : List ℕ) (floats : List Float) (ints : List ℕ) : Type 0
   where
     pub near : i ≤ n
     pub so-far : Folded i (turn (size .width) (size .height) curve) x rs (flow (painted frame clipped) held past)
+    pub taken : Summed (size .width) (size .height) n i rs samples
     pub few : clipped ≤ 3145728 * i
     pub lent : Lent size frame floats ints
     pub kept : length past ≡ room
@@ -185,41 +192,52 @@ relent l f g k = record {
 module _ {size : Size} {n : ℕ} {curve : List Float} {rs : List Record} where
   -- before the first record
   pub running-none : {frame : List ℕ} {held : Held} {past : List ℕ} {floats : List Float} {ints : List ℕ} → Lent size frame floats ints
-      → Running size n 0 (length past) curve rs (flow (painted frame 0) held past) frame 0 held past floats ints
-  running-none l = record { near = omega arith; so-far = none _ _ _; few = omega arith; lent = l; kept = refl }
+      → Running size n 0 (length past) curve rs (flow (painted frame 0) held past) frame 0 0 held past floats ints
+  running-none l =
+      record { near = omega arith; so-far = none _ _ _; taken = summed-none _ _ _ _; few = omega arith; lent = l; kept = refl }
 
-  module _ {i room : ℕ} {x : Flow} {frame : List ℕ} {clipped : ℕ} {held : Held} {past : List ℕ} {floats : List Float} {ints : List ℕ}
-      (t : Running size n i room curve rs x frame clipped held past floats ints) where
-    -- the record at i has done its turn, and clipped `more′` channels; it began at a count of 0, so that `clipped` is added
-    module _ (d : Record) {frame′ : List ℕ} {more′ : ℕ} {held′ : Held} {past′ : List ℕ}
-        (e : flow (painted frame′ more′) held′ past′ ≡ turn (size .width) (size .height) curve (flow (painted frame 0) held past) (getD rs i d)) where
+  module _ {i room : ℕ} {x : Flow} {frame : List ℕ} {clipped samples : ℕ} {held : Held} {past : List ℕ} {floats : List Float} {ints : List ℕ}
+      (t : Running size n i room curve rs x frame clipped samples held past floats ints) where
+    -- the record at i has done its turn, and clipped `more′` channels; it began at a count of 0, so that `clipped` is added. So with the samples
+    module _ (d : Record) {frame′ : List ℕ} {more′ taken′ : ℕ} {held′ : Held} {past′ : List ℕ}
+        (e : (flow (painted frame′ more′) held′ past′ ≡ turn (size .width) (size .height) curve (flow (painted frame 0) held past) (getD rs i d))
+        × (taken′ ≡ recordSamples (size .width) (size .height) (getD rs i d))) where
       few-more : more′ ≤ 3145728
       few-more =
           let x = flow (painted frame 0) held past in
-          let same : more′ ≡ turn (size .width) (size .height) curve x (getD rs i d) .frame .clipped = ap (λ (y : Flow). y .frame .clipped) e in
+          let same : more′ ≡ turn (size .width) (size .height) curve x (getD rs i d) .frame .clipped = ap (λ (y : Flow). y .frame .clipped) (e .0) in
           omega (arith, turn-few (size .width) (size .height) curve x (getD rs i d), frame-small (t .lent .shape))
 
       pub running-few : i < n → n ≤ 10 → Fits w32 (clipped + more′)
       running-few l k = omega (arith, t .few, few-more)
 
-      pub running-more : i < n → n ≤ 10 → length rs ≡ 10 → {floats′ : List Float} {ints′ : List ℕ}
-          → length frame′ ≡ length frame → length past′ ≡ length past → length floats′ ≡ length floats → length ints′ ≡ length ints
-          → Running size n (i + 1) room curve rs x frame′ (clipped + more′) held′ past′ floats′ ints′
-      running-more l k long f p g h =
-          let turned = turn-adds (size .width) (size .height) clipped curve frame held past (getD rs i d) in
-          record {
-            near = omega arith;
-            so-far = more (t .so-far) d (omega arith) (ap (adding clipped) e ∙ sym turned);
-            few = omega (arith, t .few, few-more);
-            lent = relent (t .lent) f g h;
-            kept = p ∙ t .kept;
-          }
+      module _ (normal : normalPass (getD rs i d .pass) ≡ true) where
+        pub running-taken : i < n → n ≤ 10 → Fits w32 (samples + taken′)
+        running-taken l k = omega (arith, summed-fits (t .taken) d (e .1) normal (t .lent .shape .wide) (t .lent .shape .high) l k)
+
+        pub running-more : i < n → n ≤ 10 → length rs ≡ 10 → {floats′ : List Float} {ints′ : List ℕ}
+            → length frame′ ≡ length frame → length past′ ≡ length past → length floats′ ≡ length floats → length ints′ ≡ length ints
+            → Running size n (i + 1) room curve rs x frame′ (clipped + more′) (samples + taken′) held′ past′ floats′ ints′
+        running-more l k long f p g h =
+            let turned = turn-adds (size .width) (size .height) clipped curve frame held past (getD rs i d) in
+            record {
+              near = omega arith;
+              so-far = more (t .so-far) d (omega arith) (ap (adding clipped) (e .0) ∙ sym turned);
+              taken = summed-more (t .taken) d (e .1) normal (t .lent .shape .wide) (t .lent .shape .high) l k long;
+              few = omega (arith, t .few, few-more);
+              lent = relent (t .lent) f g h;
+              kept = p ∙ t .kept;
+            }
 
     -- after the last one
-    pub running-all : n ≤ i → flow (painted frame clipped) held past ≡ chain (size .width) (size .height) curve (take n rs) x
+    pub running-all : n ≤ i
+        → (flow (painted frame clipped) held past ≡ chain (size .width) (size .height) curve (take n rs) x)
+        × (samples ≡ samplesIn (size .width) (size .height) (take n rs))
     running-all l =
-        let all : i ≡ n = omega (arith, t .near) in
-        t .so-far .done ∙ ap (λ (k : ℕ). chain (size .width) (size .height) curve (take k rs) x) all
+        let all : i ≡ n = omega (arith, t .near) in (
+          t .so-far .done ∙ ap (λ (k : ℕ). chain (size .width) (size .height) curve (take k rs) x) all,
+          summed-all (t .taken) l,
+        )
 
 -- the record at i is ready
 pub running-ready : (size : Size) (s : Station) (i room lent : ℕ) (past : List ℕ) (d : Record)

@@ -1,10 +1,11 @@
 -- Laws that the proofs of several functions cite, and the theorems of specs/Claims.antt: Untouched, Asking; of specs/Agree.antt:
--- Agreement, Made; of specs/Numbers.antt: Numbers; of specs/StillPicture.antt: StillPicture; of specs/Marked.antt:
+-- Agreement, Made; of specs/Numbers.antt: Numbers; of specs/StillPicture.antt: StillPicture; of specs/Dearest.antt: Dearest; of specs/Marked.antt:
 -- Marked. Runs that are computed: Examples.
 pub mod PassCases
 pub mod Replies
 pub mod Depths
 pub mod First
+pub mod Taken
 pub mod Lending
 pub mod Goes
 pub mod Curves
@@ -24,3 +25,4 @@ pub mod Marked
 pub mod Untouched
 pub mod Asking
 pub mod Numbers
+pub mod Dearest

@@ -22,7 +22,7 @@ use Rattle.chain.specs.Agree.{on, takes, switchesOff, ends}
 use Rattle.cards.specs.Alike.{chainOf}
 use Rattle.chain.specs.Calls.{hold, rechain, pend, stops, lacks, waits, askStops, commitStops, onFirst, withSwitch, committed}
 use Rattle.chain.specs.Calls.{presets, stepLut, Framed, refusingFrame, incoming, shown, shownBy, frameReplyBy}
-use Rattle.chain.specs.Chain.{chain, depth}
+use Rattle.chain.specs.Chain.{chain, depth, samplesIn}
 use Rattle.chain.specs.Machine.{Call, frame, reset, switch, ask, commit, step, State, seen, Done, lend, still, call, after}
 use Rattle.cards.specs.Normal.{persists}
 use Rattle.cards.specs.declared.station.Pending.{Pending}
@@ -176,7 +176,7 @@ module _ (s : Station) (b : Held) (H G : List ℕ) (fit-s : Fit s) (fit-t : Fit 
           accepted = refl;
           alike = refl;
           near = near-after w h l curve p q first fits fits′ a n le (rw (and-true (persists (chainOf s))) at at);
-          answers = λ z. ap (λ (x : Painted). acceptance (x .clipped ∷ [])) (frame-same w h l curve p q first fits fits′ a (all z));
+          answers = λ z. ap (λ (x : Painted). acceptance (x .clipped ∷ samplesIn w h (chainOf s) ∷ [])) (frame-same w h l curve p q first fits fits′ a (all z));
           pictures = λ z. picture-same w h l curve p q first fits fits′ a (all z);
         }
     frame-step A all same (suc k) z n le at =

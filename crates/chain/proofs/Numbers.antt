@@ -33,7 +33,7 @@ use Rattle.cards.specs.Alike.{chainOf}
 use Rattle.cards.specs.Answers.{acceptance}
 use Rattle.chain.specs.Calls.{framed, hold, incoming, stops, refusingFrame, shown, shownBy}
 use Rattle.chain.specs.Calls.{frameReply, frameReplyBy}
-use Rattle.chain.specs.Chain.{wash, overBy, turn, turnBy, chain, depthOf, depth, reads, readsCurve}
+use Rattle.chain.specs.Chain.{wash, overBy, turn, turnBy, chain, depthOf, depth, reads, readsCurve, samplesIn}
 use Rattle.cards.specs.Normal.{negZero, settled, counted, normalPass, normalChain}
 use Rattle.chain.specs.Numbers.{Pass-inside, Numbers-inside, Casts-inside}
 use Rattle.chain.specs.Numbers.{Checked-inside}
@@ -223,7 +223,7 @@ module _ (A : Arith) (G : Agrees A) (w h : ℕ) (curve : List Float) where
           ≡ unless k (refusingFrame s words past) (shown w h s words past curve)
       go zero e =
           let g = goes s w h (length words) (length past) floats ints curve e in
-          ap (λ (x : Flow). framed (acceptance (x .frame .clipped ∷ [])) (hold (x .held) s) (x .frame .words ++ drop (h * w) words) (x .past))
+          ap (λ (x : Flow). framed (acceptance (x .frame .clipped ∷ samplesIn w h (chainOf s) ∷ [])) (hold (x .held) s) (x .frame .words ++ drop (h * w) words) (x .past))
           (chained (chainOf s) [] (incoming w h s words past) (good s (g .good) .normal) t
           (record { area = length-take-le (h * w) words (g .frame-room); wide = g .wide .1; high = g .high .1 })
           (g .past-room) (g .curve-good))

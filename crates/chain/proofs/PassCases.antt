@@ -19,7 +19,7 @@ use Rattle.passes.specs.Laws.Lengths.{persistence-length, persistence-few, hist
 use Rattle.passes.specs.Painted.{painted}
 use Rattle.passes.specs.Laws.Painted.{Paints}
 use Rattle.chain.specs.Calls.{next, steppedPass, presetOf}
-use Rattle.chain.specs.Chain.{wash, paint, over, overBy, depthOf, reads}
+use Rattle.chain.specs.Chain.{wash, paint, over, overBy, depthOf, reads, samplesOf}
 use Rattle.cards.specs.Passes.{kindOf}
 use Rattle.cards.specs.declared.station.Pass.{Pass}
 use Rattle.cards.specs.declared.station.Pass.the-variants.{Ntsc, Bloom, AutoGradient, Persistence, Lut, Curvature}
@@ -153,6 +153,20 @@ no-curve (Crt strength) n = refl
 no-curve (Vignette strength) n = refl
 no-curve (Scanlines strength) n = refl
 
+-- ## NTSC, bloom, or a pass that blurs nothing
+
+pub no-samples : (w h : ℕ) (p : Pass) → (kindOf p ≡ 1 → ⊥) → (kindOf p ≡ 2 → ⊥) → samplesOf w h p ≡ 0
+no-samples w h (Ntsc strength bleed) n b = absurd (n refl)
+no-samples w h (Bloom threshold strength radius) n b = absurd (b refl)
+no-samples w h (AutoGradient strength vertical horizontal) n b = refl
+no-samples w h (Persistence amount depth) n b = refl
+no-samples w h (Lut preset strength) n b = refl
+no-samples w h (Curvature amount) n b = refl
+no-samples w h (ColorCorrection brightness contrast saturation gamma) n b = refl
+no-samples w h (Crt strength) n b = refl
+no-samples w h (Vignette strength) n b = refl
+no-samples w h (Scanlines strength) n b = refl
+
 -- ## What the other arm of a `match` tells
 
 -- the kinds stand in the order of the enum's cases
@@ -189,3 +203,13 @@ not-lut = not-among (0 ∷ 1 ∷ 2 ∷ 3 ∷ 5 ∷ 6 ∷ 7 ∷ 8 ∷ 9 ∷ []) 4
 
 pub not-colour : Not (0 ∷ 1 ∷ 2 ∷ 3 ∷ 4 ∷ 5 ∷ 7 ∷ 8 ∷ 9 ∷ []) 7
 not-colour = not-among (0 ∷ 1 ∷ 2 ∷ 3 ∷ 4 ∷ 5 ∷ 7 ∷ 8 ∷ 9 ∷ []) 6 tt
+
+-- neither of the two that blur
+abbrev pub unblurring : List ℕ
+unblurring = 2 ∷ 3 ∷ 4 ∷ 5 ∷ 6 ∷ 7 ∷ 8 ∷ 9 ∷ []
+
+pub not-ntsc : Not unblurring 1
+not-ntsc = not-among unblurring 0 tt
+
+pub not-bloom : Not unblurring 2
+not-bloom = not-among unblurring 1 tt

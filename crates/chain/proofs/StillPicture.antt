@@ -31,7 +31,7 @@ use Rattle.chain.specs.Agree.{SameFirst, SameCall, frames}
 use Rattle.cards.specs.Alike.{chainOf}
 use Rattle.chain.specs.Calls.{hold, stops, lacks, Framed, framed, incoming, shown}
 use Rattle.chain.specs.Calls.{shownBy, frameReplyBy}
-use Rattle.chain.specs.Chain.{overBy, turnBy, chain, depth}
+use Rattle.chain.specs.Chain.{overBy, turnBy, chain, depth, samplesIn}
 use Rattle.chain.specs.Machine.{Call, frame, reset, State, Seen, picture, call, after, saw}
 use Rattle.cards.specs.Normal.{negZero, settled, counted, normalPass, normalChain, goodStation}
 use Rattle.cards.specs.Records.{kinds, among}
@@ -134,11 +134,11 @@ module _ (on : Bool) (amount : Float) (k w h : ℕ) (words : List ℕ) where
   turned false x set long room full = (still-itself (x .frame .words), refl, full)
 
   -- an accepted frame of which the chain made y
-  leaves : (s : State) (other : List ℕ) (lent : ℕ) (y : Flow) → Steady s → Still F (y .frame .words)
+  leaves : (s : State) (other : List ℕ) (lent samples : ℕ) (y : Flow) → Steady s → Still F (y .frame .words)
       → length (y .frame .words) ≡ h * w → k * (h * w) ≤ length (y .past)
       → (y .held ≡ sized w h → take (k * (h * w)) (y .past) ≡ copies k F)
-      → Gives lent s (framed (acceptance (y .frame .clipped ∷ [])) (hold (y .held) (s .station)) (y .frame .words ++ drop (h * w) other) (y .past))
-  leaves s other lent y t still long room full = (
+      → Gives lent s (framed (acceptance (y .frame .clipped ∷ samples ∷ [])) (hold (y .held) (s .station)) (y .frame .words ++ drop (h * w) other) (y .past))
+  leaves s other lent samples y t still long room full = (
     λ z. rw (take-at (y .frame .words) (drop (h * w) other) (h * w) long) still,
     record { is-alone = t .is-alone; full = λ g p held. take-append-le (k * (h * w)) (y .past) (drop lent (s .history)) room ∙ full held },
   )
@@ -160,9 +160,9 @@ module _ (on : Bool) (amount : Float) (k w h : ℕ) (words : List ℕ) where
       let p = turned on x (settings (s .station) on amount k (t .is-alone) (g .good)) fits room
       (λ held. rw fits (take-take (k * n) lent (s .history) lends ∙ t .full (g .good) (mul-pos (g .high .0) (g .wide .0)) held ∙ ap (copies k) one)) in
       subst
-      (λ (v : Flow). Gives lent s (framed (acceptance (v .frame .clipped ∷ [])) (hold (v .held) (s .station)) (v .frame .words ++ drop n other) (v .past)))
+      (λ (v : Flow). Gives lent s (framed (acceptance (v .frame .clipped ∷ samplesIn w h (chainOf (s .station)) ∷ [])) (hold (v .held) (s .station)) (v .frame .words ++ drop n other) (v .past)))
       (sym (ap (λ (rs : List Record). chain w h curve rs x) (t .is-alone)))
-      (leaves s other lent y t (rw one (p .0)) (p .0 .0 ∙ fits) (rw (p .1) room) (λ held. (rw fits at (p .2 held)) ∙ ap (copies k) (sym one)))
+      (leaves s other lent (samplesIn w h (chainOf (s .station))) y t (rw one (p .0)) (p .0 .0 ∙ fits) (rw (p .1) room) (λ held. (rw fits at (p .2 held)) ∙ ap (copies k) (sym one)))
 
   each : (s : State) (d : Call) (lent floats ints : ℕ) (curve : List Float) → Steady s → SameCall (frame w h words lent floats ints curve) d
       → (ok (call d s .gives .answer) ≡ true → Still F (call d s .gives .picture)) × Steady (after d s)

@@ -15,11 +15,13 @@ use Rattle.chain.specs.declared.pipeline.FrameAnswer.{FrameAnswer}
 use Rattle.chain.specs.declared.pipeline.FrameAnswer.the-variants as Frame
 use Rattle.chain.specs.declared.pipeline.Question.{Question}
 use Rattle.chain.specs.declared.pipeline.Question.the-variants as Question
+use Rattle.chain.specs.declared.samples.Sampling.{Sampling}
+use Rattle.chain.specs.declared.samples.Sampling.the-variants as Sampling
 use Rattle.cards.specs.declared.station.Station.{Station}
 
--- of a frame: acceptance reports how many channels were clipped
+-- of a frame: acceptance reports how many channels were clipped, and how many samples were taken
 abbrev pub reportedFrame : FrameAnswer → Report
-reportedFrame (Frame.Shown clipped) = acceptance (clipped ∷ [])
+reportedFrame (Frame.Shown clipped samples) = acceptance (clipped ∷ samples ∷ [])
 reportedFrame (Frame.Refused k) = refusal k
 
 -- of a preset step: acceptance reports the new preset
@@ -32,6 +34,11 @@ abbrev pub reportedQuestion : Question → Report
 reportedQuestion (Question.Number n) = acceptance (n ∷ [])
 reportedQuestion (Question.Refused k) = refusal k
 
+-- of how many samples a frame takes
+abbrev pub reportedSamples : Sampling → Report
+reportedSamples (Sampling.Number n) = acceptance (n ∷ [])
+reportedSamples (Sampling.Refused k) = refusal k
+
 abbrev pub called : Called → Reply
 called r = reply (reported (r .answer)) (r .station)
 
@@ -40,7 +47,7 @@ cycled r = reply (reportedStep (r .answer)) (r .station)
 
 -- the scratch words that a frame may change: k, or none where it is refused
 abbrev pub free : FrameAnswer → ℕ → ℕ
-free (Frame.Shown clipped) k = k
+free (Frame.Shown clipped samples) k = k
 free (Frame.Refused e) k = 0
 
 -- What a frame call promises. It gets a station, a framebuffer, a history, two scratches and a curve, and leaves `r` and the buffers with a prime. The

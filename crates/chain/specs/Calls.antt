@@ -13,7 +13,7 @@ use Rattle.passes.specs.Flow.{Flow, flow}
 use Rattle.passes.specs.Painted.{painted}
 use Rattle.cards.specs.Alike.{chainOf}
 use Rattle.cards.specs.Answers.{Report, refusal, acceptance, Reply, reply, refusing}
-use Rattle.chain.specs.Chain.{chainBy, depth, readsCurve}
+use Rattle.chain.specs.Chain.{chainBy, depth, readsCurve, samplesIn}
 use Rattle.cards.specs.Normal.{goodStation}
 use Rattle.cards.specs.Passes.{kindOf}
 use Rattle.cards.specs.Records.{kinds, among}
@@ -166,6 +166,13 @@ enabledReport kind s = unless (lacks s kind) refusal (acceptance (ofFirst kind s
 abbrev pub presetReport : Station → Report
 presetReport s = unless (lacks s 5) refusal (acceptance (ofFirst 5 (λ r. presetOf (r .pass)) (chainOf s)))
 
+-- of how many samples a frame of that size takes, no frame given: it asks for a good station and for two sides, as a frame does first
+unfoldable pub samplesStops : Station → (w h : ℕ) → ℕ
+samplesStops s w h = cond (not (goodStation s)) 13 (cond (badSide w || badSide h) 8 0)
+
+abbrev pub samplesReport : (w h : ℕ) → Station → Report
+samplesReport w h s = unless (samplesStops s w h) refusal (acceptance (samplesIn w h (chainOf s) ∷ []))
+
 -- ## Frame
 
 -- a frame leaves the framebuffer and the lent history too
@@ -187,11 +194,11 @@ incoming w h s words past = flow (painted (take (h * w) words) 0) (s .held) past
 
 module _ (A : Arith) (w h : ℕ) where
   -- an accepted frame: the chain runs over the first count words of the framebuffer, and it reports how many channels the
-  -- passes that are on clipped
+  -- passes that are on clipped, and how many samples their blurs took
   unfoldable pub shownBy : Station → (words past : List ℕ) → (curve : List Float) → Framed
   shownBy s words past curve =
       let x : Flow = chainBy A w h curve (chainOf s) (incoming w h s words past) in
-      framed (acceptance (x .frame .clipped ∷ [])) (hold (x .held) s) (x .frame .words ++ drop (h * w) words) (x .past)
+      framed (acceptance (x .frame .clipped ∷ samplesIn w h (chainOf s) ∷ [])) (hold (x .held) s) (x .frame .words ++ drop (h * w) words) (x .past)
 
   -- `floats` and `ints` are the lengths of the scratches
   unfoldable pub frameReplyBy : Station → (words past : List ℕ) → (floats ints : ℕ) → (curve : List Float) → Framed

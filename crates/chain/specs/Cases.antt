@@ -21,10 +21,12 @@ use Rattle.cards.specs.Answers.{Report, refusal, acceptance}
 use Rattle.cards.specs.Card.{stationOf}
 use Rattle.cards.specs.Normal.{settled, normalPass, normalChain, persists, goodStation}
 use Rattle.chain.specs.Calls.{floatRoom, hold, pend, stops, lacks, askStops, commitStops, onFirst, shownBy, frameReply, frameReplyBy}
+use Rattle.chain.specs.Calls.{samplesStops, samplesReport}
 use Rattle.chain.specs.Agree.{opened}
-use Rattle.chain.specs.Chain.{wash, overBy, turnBy, depth, readsCurve}
+use Rattle.passes.specs.Samples.{samples, ntscSamples, bloomSamples}
+use Rattle.chain.specs.Chain.{wash, overBy, turnBy, depth, readsCurve, recordSamples, samplesIn}
 use Rattle.chain.specs.Machine.{Call, frame, reset, switch, ask, commit, step, State, call, after, run, saw}
-use Rattle.cards.specs.declared.station.Pass.the-variants.{Persistence, Lut, ColorCorrection, Scanlines}
+use Rattle.cards.specs.declared.station.Pass.the-variants.{Ntsc, Bloom, Persistence, Lut, ColorCorrection, Scanlines}
 use Rattle.cards.specs.declared.station.Pending.{Pending}
 use Rattle.cards.specs.declared.station.Pending.the-variants.{Nothing, Switch}
 use Rattle.cards.specs.declared.station.Record.{Record}
@@ -81,7 +83,7 @@ rooms = (floatRoom 1 1, 6) ∷ (floatRoom 1024 1, 6 * 1024) ∷ (floatRoom 1 102
 pub rooms-hold : Hold rooms
 rooms-hold = refl
 
--- What a frame of two words and one row reports: the channels that the passes that are on clipped (request P5).
+-- What a frame of two words and one row reports: the channels that the passes that are on clipped (request P5); none of these blurs.
 -- LUT, high contrast, clips the three channels of black and those of white; colour, brightness 1, then clips those of white and none of
 -- black, which comes to lie exactly at the end; each alone the same. Persistence at 0.3 clips all six where its history is white, and
 -- none when it refills it. A refusal reports its number alone.
@@ -102,26 +104,60 @@ mixing = record { on = true; pass = Persistence c0·30 1 } ∷ record { on = tru
 
 abbrev pub reports : List (Report × Report)
 reports =
-    (reportOf [] nothing ends [], acceptance (0 ∷ []))
-    ∷ (reportOf (toned true true) nothing ends [], acceptance (9 ∷ []))
-    ∷ (reportOf (toned true false) nothing ends [], acceptance (6 ∷ []))
-    ∷ (reportOf (toned false true) nothing ends [], acceptance (3 ∷ []))
-    ∷ (reportOf (toned false false) nothing ends [], acceptance (0 ∷ []))
-    ∷ (reportOf mixing (sized 2 1) white white, acceptance (6 ∷ []))
-    ∷ (reportOf mixing (sized 1 2) white white, acceptance (0 ∷ []))
+    (reportOf [] nothing ends [], acceptance (0 ∷ 0 ∷ []))
+    ∷ (reportOf (toned true true) nothing ends [], acceptance (9 ∷ 0 ∷ []))
+    ∷ (reportOf (toned true false) nothing ends [], acceptance (6 ∷ 0 ∷ []))
+    ∷ (reportOf (toned false true) nothing ends [], acceptance (3 ∷ 0 ∷ []))
+    ∷ (reportOf (toned false false) nothing ends [], acceptance (0 ∷ 0 ∷ []))
+    ∷ (reportOf mixing (sized 2 1) white white, acceptance (6 ∷ 0 ∷ []))
+    ∷ (reportOf mixing (sized 1 2) white white, acceptance (0 ∷ 0 ∷ []))
     ∷ (reportOf mixing (sized 2 1) white (0xffffff ∷ []), refusal 10)
     ∷ []
 
 pub reports-hold : Hold reports
-unfolding frameReplyBy unless shownBy stops badSide goodStation fineHeld sameHeld normalChain normalPass settled persists depth readsCurve fold turnBy
-    overBy wash ofBits ofInt add sub mul div neg lt clampOf cutOf rewrite sum converted Text.Pixel.unpack Text.Pixel.unit Text.Pixel.pack
-    Text.Pixel.packClamped Text.Pixel.packUnit Text.Pixel.clip Text.Pixel.clips Text.Pixel.dim Text.Pixel.luma709
+unfolding frameReplyBy unless shownBy stops badSide goodStation fineHeld sameHeld normalChain normalPass settled persists depth readsCurve
+    recordSamples fold turnBy overBy wash ofBits ofInt add sub mul div neg lt clampOf cutOf rewrite sum converted Text.Pixel.unpack Text.Pixel.unit
+    Text.Pixel.pack Text.Pixel.packClamped Text.Pixel.packUnit Text.Pixel.clip Text.Pixel.clips Text.Pixel.dim Text.Pixel.luma709
     Text.ColorCorrection.colorCorrection Text.ColorCorrection.curved Text.ColorCorrection.start Text.ColorCorrection.colour eq ne
     Text.Lut.lut Text.Lut.colour Text.Lut.transform
     Text.Scanlines.scanlines Text.Scanlines.inRow Text.Persistence.persistence Text.Persistence.decay Text.Persistence.total
     Text.Persistence.add Text.Persistence.mix Text.Persistence.blend Persistence.copies Persistence.refilled
     Persistence.shifted
 reports-hold = refl
+
+-- The samples that a chain's blurs take (request P9). Two words in one row: each is inside for both, at radius 1 and above; a column of one has one.
+-- The largest total, by both blurs at 64.
+abbrev blurring : (ntsc bloom : Bool) → ℕ → List Record
+blurring ntsc bloom r = record { on = ntsc; pass = Ntsc c1·0 r } ∷ record { on = bloom; pass = Bloom 0 c1·0 r } ∷ []
+
+abbrev pub taken : List (ℕ × ℕ)
+taken =
+    (samplesIn 2 1 (blurring true true 1), 4 + (4 + 2))
+    ∷ (samplesIn 2 1 (blurring true false 1), 4)
+    ∷ (samplesIn 2 1 (blurring false true 64), 6)
+    ∷ (samplesIn 2 1 (blurring false false 1), 0)
+    ∷ (samplesIn 256 240 (blurring true true 4), 1644160)
+    ∷ (samplesIn 1024 1024 (blurring true true 64), 393019392)
+    ∷ []
+
+pub taken-hold : Hold taken
+unfolding fold recordSamples samples ntscSamples bloomSamples
+taken-hold = refl
+
+-- The question how many a frame takes: of that chain at 256 by 240, and of none; sides of 0 and of 1025 (8); a bad station, whatever the sides are (13).
+abbrev pub questions : List (Report × Report)
+questions =
+    (samplesReport 256 240 (stationOf (blurring true true 4)), acceptance (1644160 ∷ []))
+    ∷ (samplesReport 1024 1024 (stationOf []), acceptance (0 ∷ []))
+    ∷ (samplesReport 0 1 (stationOf []), refusal 8)
+    ∷ (samplesReport 1 1025 (stationOf []), refusal 8)
+    ∷ (samplesReport 0 1025 (hold (sized 1 1) (kept false)), refusal 13)
+    ∷ []
+
+pub questions-hold : Hold questions
+unfolding samplesStops unless badSide goodStation fineHeld sameHeld normalChain normalPass settled persists ofBits lt fold recordSamples samples ntscSamples
+    bloomSamples
+questions-hold = refl
 
 -- Frames with a curve (request P3): of one word, with all that is lent but the curve. Gamma 1.0 needs none, whatever is lent. At gamma 2, on or off, 255
 -- words are too few, and one step above 1 is bad (16), but not past the 256 words that are read. Scratch is asked for first (11).

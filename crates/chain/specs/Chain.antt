@@ -8,6 +8,7 @@ use Rattle.passes.specs.Arith.{Arith, plain}
 use Rattle.passes.specs.Fold.{fold}
 use Rattle.passes.specs.Flow.{Flow, flow}
 use Rattle.passes.specs.Painted.{Painted, onto, unclipped}
+use Rattle.passes.specs.Samples.{ntscSamples, bloomSamples}
 use Rattle.passes.specs.Ntsc.{ntsc}
 use Rattle.passes.specs.Bloom.{bloom}
 use Rattle.passes.specs.AutoGradient.{autoGradient}
@@ -126,3 +127,26 @@ reads (Scanlines strength) = false
 unfoldable pub readsCurve : List Record → Bool
 readsCurve [] = false
 readsCurve (r ∷ rs) = reads (r .pass) || readsCurve rs
+
+-- ## The samples that blurs take (request P9)
+
+-- those of a pass over a frame of width w and height h
+abbrev pub samplesOf : (w h : ℕ) → Pass → ℕ
+samplesOf w h (Ntsc strength bleed) = ntscSamples w h bleed
+samplesOf w h (Bloom threshold strength radius) = bloomSamples w h radius
+samplesOf w h (AutoGradient strength vertical horizontal) = 0
+samplesOf w h (Persistence amount depth) = 0
+samplesOf w h (Lut preset strength) = 0
+samplesOf w h (Curvature amount) = 0
+samplesOf w h (ColorCorrection brightness contrast saturation gamma) = 0
+samplesOf w h (Crt strength) = 0
+samplesOf w h (Vignette strength) = 0
+samplesOf w h (Scanlines strength) = 0
+
+-- a record's: its pass's, where it is on
+unfoldable pub recordSamples : (w h : ℕ) → Record → ℕ
+recordSamples w h r = cond (r .on) (samplesOf w h (r .pass)) 0
+
+-- of a chain, one record after the other
+abbrev pub samplesIn : (w h : ℕ) → List Record → ℕ
+samplesIn w h rs = fold (λ n r. n + recordSamples w h r) 0 rs

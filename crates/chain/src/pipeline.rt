@@ -34,9 +34,9 @@ pub struct Called {
     pub station: Station,
 }
 
-// What a frame answers: how many channels the passes that are on clipped, or a refusal's number.
+// What a frame answers: how many channels the passes that are on clipped, and how many samples their blurs took; or a refusal's number.
 pub enum FrameAnswer {
-    Shown { clipped: u32 },
+    Shown { clipped: u32, samples: u32 },
     Refused(u8),
 }
 
@@ -119,10 +119,11 @@ pub fn apply(
     );
     let held = run.held;
     let clipped = run.clipped;
+    let samples = run.samples;
     let mut after = station;
     after.held = held;
     Applied {
-        answer: FrameAnswer::Shown { clipped },
+        answer: FrameAnswer::Shown { clipped, samples },
         station: after,
     }
 }

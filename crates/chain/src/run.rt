@@ -5,7 +5,7 @@ ghost use lib.ListN.{length};
 ghost use Rattle.passes.specs.Flow.{flow};
 ghost use Rattle.passes.specs.Painted.{painted};
 ghost use Rattle.cards.specs.Alike.{chainOf};
-ghost use Rattle.chain.specs.Chain.{paint as paintOf, over, turn, chain};
+ghost use Rattle.chain.specs.Chain.{paint as paintOf, over, turn, chain, samplesOf, recordSamples, samplesIn};
 ghost use Rattle.chain.specs.Lent.{Lent, Ready, Readies};
 use cards::station::Pass;
 use cards::station::Record;
@@ -13,17 +13,24 @@ use cards::station::Station;
 use num::size::Size;
 use passes::auto_gradient;
 use passes::bloom;
+use passes::blur::Counts;
 use passes::color_correction;
 use passes::crt;
 use passes::curvature;
 use passes::lut;
 use passes::ntsc;
 use passes::persistence;
-use passes::persistence::Kept;
 use passes::scanlines;
 use passes::vignette;
 
-// A pass that keeps nothing, and how many channels it clipped; persistence is none, and leaves the frame.
+// What passes leave besides the frame and the history: what is held, the channels that were clipped, and the samples that blurs took.
+pub(crate) struct Run {
+    pub(crate) held: Size,
+    pub(crate) clipped: u32,
+    pub(crate) samples: u32,
+}
+
+// A pass that keeps nothing, and what it counts; persistence is none, and leaves the frame.
 pub(crate) fn paint(
     pass: Pass,
     size: Size,
@@ -31,9 +38,10 @@ pub(crate) fn paint(
     floats: &mut [f32],
     ints: &mut [u32],
     curve: &[f32],
-) -> u32
+) -> Counts
     requires { ⌜ Lent size (now frame) (now floats) (now ints) ⌝ ∗ ⌜ Ready size pass 0 (length (now curve)) ⌝ }
-    ensures { λ r. ⌜ painted (now (frame .exit)) r ≡ paintOf (size .width) (size .height) (now (curve .entry)) pass (now (frame .entry)) ⌝ }
+    ensures { λ r. ⌜ (painted (now (frame .exit)) (r .clipped) ≡ paintOf (size .width) (size .height) (now (curve .entry)) pass (now (frame .entry)))
+        × (r .samples ≡ samplesOf (size .width) (size .height) pass) ⌝ }
 {
     let width = size.width as usize;
     let height = size.height as usize;
@@ -62,33 +70,57 @@ pub(crate) fn paint(
             strength,
             vertical,
             horizontal,
-        } => auto_gradient::apply(frame, width, height, strength, vertical, horizontal),
+        } => Counts {
+            clipped: auto_gradient::apply(frame, width, height, strength, vertical, horizontal),
+            samples: 0,
+        },
         Pass::Persistence {
             amount: _,
             depth: _,
-        } => 0,
-        Pass::Lut { preset, strength } => lut::apply(frame, preset, strength),
+        } => Counts {
+            clipped: 0,
+            samples: 0,
+        },
+        Pass::Lut { preset, strength } => Counts {
+            clipped: lut::apply(frame, preset, strength),
+            samples: 0,
+        },
         Pass::Curvature { amount } => {
             curvature::apply(frame, ints, width, height, amount);
-            0
+            Counts {
+                clipped: 0,
+                samples: 0,
+            }
         }
         Pass::ColorCorrection {
             brightness,
             contrast,
             saturation,
             gamma,
-        } => color_correction::apply(frame, curve, brightness, contrast, saturation, gamma),
+        } => Counts {
+            clipped: color_correction::apply(frame, curve, brightness, contrast, saturation, gamma),
+            samples: 0,
+        },
         Pass::Crt { strength } => {
             crt::apply(frame, width, height, strength);
-            0
+            Counts {
+                clipped: 0,
+                samples: 0,
+            }
         }
         Pass::Vignette { strength } => {
             vignette::apply(frame, floats, width, height, strength);
-            0
+            Counts {
+                clipped: 0,
+                samples: 0,
+            }
         }
         Pass::Scanlines { strength } => {
             scanlines::apply(frame, width, height, strength);
-            0
+            Counts {
+                clipped: 0,
+                samples: 0,
+            }
         }
     }
 }
@@ -103,16 +135,28 @@ pub(crate) fn run_pass(
     floats: &mut [f32],
     ints: &mut [u32],
     curve: &[f32],
-) -> Kept
+) -> Run
     requires { ⌜ Lent size (now frame) (now floats) (now ints) ⌝ ∗ ⌜ Ready size pass (length (now history)) (length (now curve)) ⌝ }
-    ensures { λ r. ⌜ flow (painted (now (frame .exit)) (r .clipped)) (r .held) (now (history .exit))
-        ≡ over (size .width) (size .height) (now (curve .entry)) pass (flow (painted (now (frame .entry)) 0) held (now (history .entry))) ⌝ }
+    ensures { λ r. ⌜ (flow (painted (now (frame .exit)) (r .clipped)) (r .held) (now (history .exit))
+        ≡ over (size .width) (size .height) (now (curve .entry)) pass (flow (painted (now (frame .entry)) 0) held (now (history .entry))))
+        × (r .samples ≡ samplesOf (size .width) (size .height) pass) ⌝ }
 {
     if let Pass::Persistence { amount, depth } = pass {
-        return persistence::apply(frame, history, ints, amount, depth, held, size);
+        let kept = persistence::apply(frame, history, ints, amount, depth, held, size);
+        let now = kept.held;
+        let clipped = kept.clipped;
+        return Run {
+            held: now,
+            clipped,
+            samples: 0,
+        };
     }
-    let clipped = paint(pass, size, frame, floats, ints, curve);
-    Kept { held, clipped }
+    let counts = paint(pass, size, frame, floats, ints, curve);
+    Run {
+        held,
+        clipped: counts.clipped,
+        samples: counts.samples,
+    }
 }
 
 // A record: its pass, where it is on.
@@ -125,17 +169,22 @@ pub(crate) fn run_record(
     floats: &mut [f32],
     ints: &mut [u32],
     curve: &[f32],
-) -> Kept
+) -> Run
     requires { ⌜ Lent size (now frame) (now floats) (now ints) ⌝ ∗ ⌜ Ready size (rec .pass) (length (now history)) (length (now curve)) ⌝ }
-    ensures { λ r. ⌜ flow (painted (now (frame .exit)) (r .clipped)) (r .held) (now (history .exit))
-        ≡ turn (size .width) (size .height) (now (curve .entry)) (flow (painted (now (frame .entry)) 0) held (now (history .entry))) rec ⌝ }
+    ensures { λ r. ⌜ (flow (painted (now (frame .exit)) (r .clipped)) (r .held) (now (history .exit))
+        ≡ turn (size .width) (size .height) (now (curve .entry)) (flow (painted (now (frame .entry)) 0) held (now (history .entry))) rec)
+        × (r .samples ≡ recordSamples (size .width) (size .height) rec) ⌝ }
 {
     let on = rec.on;
     let pass = rec.pass;
     if on {
         return run_pass(pass, size, held, frame, history, floats, ints, curve);
     }
-    Kept { held, clipped: 0 }
+    Run {
+        held,
+        clipped: 0,
+        samples: 0,
+    }
 }
 
 // A station's chain: its first n records in their order.
@@ -147,23 +196,30 @@ pub(crate) fn run_chain(
     floats: &mut [f32],
     ints: &mut [u32],
     curve: &[f32],
-) -> Kept
+) -> Run
     requires { ⌜ Lent size (now frame) (now floats) (now ints) ⌝ ∗ ⌜ Readies size station (length (now history)) (length (now curve)) ⌝ }
-    ensures { λ r. ⌜ flow (painted (now (frame .exit)) (r .clipped)) (r .held) (now (history .exit))
+    ensures { λ r. ⌜ (flow (painted (now (frame .exit)) (r .clipped)) (r .held) (now (history .exit))
         ≡ chain (size .width) (size .height) (now (curve .entry)) (chainOf station)
-        (flow (painted (now (frame .entry)) 0) (station .held) (now (history .entry))) ⌝ }
+        (flow (painted (now (frame .entry)) 0) (station .held) (now (history .entry))))
+        × (r .samples ≡ samplesIn (size .width) (size .height) (chainOf station)) ⌝ }
 {
     let n = station.n;
     let records = station.records;
     let mut held = station.held;
     let mut clipped: u32 = 0;
+    let mut samples: u32 = 0;
     let mut i: usize = 0;
     while i < n {
         let r = records[i];
         let run = run_record(r, size, held, frame, history, floats, ints, curve);
         held = run.held;
         clipped += run.clipped;
+        samples += run.samples;
         i += 1;
     }
-    Kept { held, clipped }
+    Run {
+        held,
+        clipped,
+        samples,
+    }
 }

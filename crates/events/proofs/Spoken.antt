@@ -46,8 +46,8 @@ new-preset a p e = ap (line L) (sym (append-nil (numberOf p))) ∙ ap (λ (b : C
 pub no-preset : (a : Cycle) (k : ℕ) → a ≡ Cycle.Refused k → refusalLine k ≡ spoken L (reportedStep a)
 no-preset a k e = ap (λ (b : Cycle). spoken L (reportedStep b)) (sym e)
 
-pub picture : (words : List ℕ) (a : FrameAnswer) (n : ℕ) → a ≡ Frame.Shown n → line F (pixelsOf words) ≡ pictured (reportedFrame a) words
-picture words a n e = ap (λ (b : FrameAnswer). pictured (reportedFrame b) words) (sym e)
+pub picture : (words : List ℕ) (a : FrameAnswer) (n m : ℕ) → a ≡ Frame.Shown n m → line F (pixelsOf words) ≡ pictured (reportedFrame a) words
+picture words a n m e = ap (λ (b : FrameAnswer). pictured (reportedFrame b) words) (sym e)
 
 pub no-picture : (words : List ℕ) (a : FrameAnswer) (k : ℕ) → a ≡ Frame.Refused k → refusalLine k ≡ pictured (reportedFrame a) words
 no-picture words a k e = ap (λ (b : FrameAnswer). pictured (reportedFrame b) words) (sym e)

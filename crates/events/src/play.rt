@@ -58,13 +58,16 @@ fn step_line(answer: Cycle, out: &mut [u8]) -> usize
     }
 }
 
-// The line of a frame. How many channels were clipped is not printed: document 01's lines have no place for it.
+// The line of a frame. What it reports is not printed: document 01's lines have no place for it.
 fn picture_line(answer: FrameAnswer, frame: &[u32], out: &mut [u8]) -> usize
     requires { ⌜ (length (now frame) ≤ 1024) × (7170 ≤ length (now out)) ⌝ }
     ensures { λ r. ⌜ Printed (pictured (reportedFrame answer) (now (frame .entry))) r (now (out .entry)) (now (out .exit)) ⌝ }
 {
     match answer {
-        FrameAnswer::Shown { clipped: _ } => frame_line(out, frame),
+        FrameAnswer::Shown {
+            clipped: _,
+            samples: _,
+        } => frame_line(out, frame),
         FrameAnswer::Refused(k) => number_line(out, b'E', k),
     }
 }

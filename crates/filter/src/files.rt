@@ -31,15 +31,15 @@ pub struct Turn {
     pub more: bool,
 }
 
-// Writes the picture, of which so many channels were clipped.
-fn picture(i: usize, clipped: u32, tell: bool, file: &[u8]) -> bool {
+// Writes the picture; its frame reported these two numbers.
+fn picture(i: usize, clipped: u32, samples: u32, tell: bool, file: &[u8]) -> bool {
     let written = io::write_all(STDOUT_FILENO, file);
     if !written {
         os::fail(b"standard output");
         return false;
     }
     if tell {
-        says::clipped(i, clipped);
+        says::counts(i, clipped, samples);
     }
     true
 }
@@ -47,7 +47,7 @@ fn picture(i: usize, clipped: u32, tell: bool, file: &[u8]) -> bool {
 // Writes the picture, or says why there is none.
 fn write(i: usize, outcome: Outcome, tell: bool, file: &[u8]) -> bool {
     match outcome {
-        Outcome::Shown { clipped } => picture(i, clipped, tell, file),
+        Outcome::Shown { clipped, samples } => picture(i, clipped, samples, tell, file),
         Outcome::NoFrame(k) => {
             says::no_frame(i, k);
             false
@@ -59,7 +59,7 @@ fn write(i: usize, outcome: Outcome, tell: bool, file: &[u8]) -> bool {
     }
 }
 
-// Filters the frame in these bytes, which argument i named, and writes the picture. With `tell` it is said how many channels were clipped.
+// Filters the frame in these bytes, which argument i named, and writes the picture. With `tell` it is said what the frame reported.
 pub fn show(
     station: Station,
     i: usize,

@@ -1,8 +1,8 @@
 // Program `filter`: runs frames through a card and writes the pictures. Each argument after the card names a file with one frame as binary PPM. The frames go
 // through one station one after another, so persistence sees them in a row. The pictures are written to standard output one after another, each the file of
-// its frame with other pixels. Every file is looked at before anything is written. With the option --clipped it is said on standard error of each picture
-// how many channels were clipped. The option --curve names a file with the curve that is lent to each frame; without it none is lent. What becomes of a
-// file is decided by crate `frames`.
+// its frame with other pixels. Every file is looked at before anything is written. With the option --counts it is said on standard error of each picture
+// how many channels were clipped and how many samples were taken. The option --curve names a file with the curve that is lent to each frame; without it
+// none is lent. What becomes of a file is decided by crate `frames`.
 ghost use Prim.Native.Nat.{_≤_};
 
 mod memory; // the buffers that are lent
@@ -18,7 +18,7 @@ use libc::STDERR_FILENO;
 fn usage() {
     io::write_all(
         STDERR_FILENO,
-        b"usage: filter [--clipped] [--curve FILE] CARD FRAME..   (a card as a file or in hexadecimal; ",
+        b"usage: filter [--counts] [--curve FILE] CARD FRAME..   (a card as a file or in hexadecimal; ",
     );
     io::write_all(
         STDERR_FILENO,
@@ -147,11 +147,11 @@ fn play(at: usize, count: usize, tell: bool, named: usize)
     }
 }
 
-// Which option argument i is: 1 for --clipped, 2 for --curve, 0 for none.
+// Which option argument i is: 1 for --counts, 2 for --curve, 0 for none.
 fn option(i: usize) -> u8 {
     let mut name = io::buffer();
     let n = os::arg(i, &mut name);
-    if check::same(&name[..n], b"--clipped") {
+    if check::same(&name[..n], b"--counts") {
         return 1;
     }
     if check::same(&name[..n], b"--curve") {

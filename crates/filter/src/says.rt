@@ -1,4 +1,4 @@
-// Why something is refused, and how many channels of a picture were clipped: one line on standard error, behind the argument that gave it.
+// Why something is refused, and what a picture's frame reported: one line on standard error, behind the argument that gave it.
 use cli::says::name;
 use cli::says::text;
 use cli::words;
@@ -38,8 +38,10 @@ pub fn no_picture(i: usize, number: u8) {
 }
 
 // A picture that was written.
-pub fn clipped(i: usize, number: u32) {
+pub fn counts(i: usize, clipped: u32, samples: u32) {
     name(STDERR_FILENO, i);
-    io::print_decimal(STDERR_FILENO, number as u64);
-    text(b" clipped channels\n");
+    io::print_decimal(STDERR_FILENO, clipped as u64);
+    text(b" clipped channels, ");
+    io::print_decimal(STDERR_FILENO, samples as u64);
+    text(b" blur samples\n");
 }

@@ -41,12 +41,12 @@ unshown-keeps s file words past floats ints curve = go (parseOf (length words) f
     asks : (w h start n : ℕ) → stops s w h (h * w) (length past) floats ints curve ≡ n →
         let r : Result = unless n (λ k. result (Refused k) s file words past)
         (among start (h * w) file words (shown w h (replied w h s (drop start file) past floats ints curve))) in
-        ((clipped : ℕ) → r .outcome ≡ Shown clipped → ⊥) → r ≡ result (r .outcome) s file words past
-    asks w h start zero e unshown = absurd (unshown _ (ap (λ (r : Framed). outcomeOf (r .answer)) (sym (is-shown w h s (drop start file) past floats ints curve e))))
+        ((clipped samples : ℕ) → r .outcome ≡ Shown clipped samples → ⊥) → r ≡ result (r .outcome) s file words past
+    asks w h start zero e unshown = absurd (unshown _ _ (ap (λ (r : Framed). outcomeOf (r .answer)) (sym (is-shown w h s (drop start file) past floats ints curve e))))
     asks w h start (suc n) e unshown = refl
 
     go : (p : Parsed) →
         let r : Result = byParsed p s file words past floats ints curve in
-        ((clipped : ℕ) → r .outcome ≡ Shown clipped → ⊥) → r ≡ result (r .outcome) s file words past
+        ((clipped samples : ℕ) → r .outcome ≡ Shown clipped samples → ⊥) → r ≡ result (r .outcome) s file words past
     go (Parsed.Refused k) unshown = refl
     go (Parsed.Frame w h start) unshown = asks w h start (stops s w h (h * w) (length past) floats ints curve) refl unshown

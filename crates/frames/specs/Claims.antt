@@ -12,4 +12,4 @@ abbrev pub UnshownKeeps : Type 0
 UnshownKeeps =
     (s : Station) (file words past : List ℕ) (floats ints : ℕ) (curve : List Float) →
     let r : Result = filteredOf s file words past floats ints curve in
-    ((clipped : ℕ) → r .outcome ≡ Shown clipped → ⊥) → r ≡ result (r .outcome) s file words past
+    ((clipped samples : ℕ) → r .outcome ≡ Shown clipped samples → ⊥) → r ≡ result (r .outcome) s file words past

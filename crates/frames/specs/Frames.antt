@@ -18,10 +18,10 @@ use Rattle.frames.specs.declared.Outcome.{Outcome}
 use Rattle.frames.specs.declared.Outcome.the-variants.{Shown, NoFrame, Refused}
 use Rattle.frames.specs.declared.Filtered.{Filtered}
 
--- what a frame's answer is, in the code's words: acceptance reports one number, how many channels were clipped
+-- what a frame's answer is, in the code's words: acceptance reports two numbers, how many channels were clipped and how many samples were taken
 abbrev pub outcomeOf : Report → Outcome
 outcomeOf (refusal k) = Refused k
-outcomeOf (acceptance ns) = Shown (getD ns 0 0)
+outcomeOf (acceptance ns) = Shown (getD ns 0 0) (getD ns 1 0)
 
 -- the number of a refusal, 0 for none
 abbrev pub numberOf : Parsed → ℕ

@@ -20,8 +20,8 @@ use raster::ppm::Parsed;
 
 // What became of a file.
 pub enum Outcome {
-    // It holds the picture, and so many channels were clipped.
-    Shown { clipped: u32 },
+    // It holds the picture; so many channels were clipped, and so many samples taken.
+    Shown { clipped: u32, samples: u32 },
     // It is no frame that can be taken, by the number of raster::ppm.
     NoFrame(u8),
     // The station refused the frame, by the number of the papers' tables.
@@ -37,7 +37,7 @@ fn answered(answer: FrameAnswer) -> Outcome
     ensures { λ r. ⌜ r ≡ outcomeOf (reportedFrame answer) ⌝ }
 {
     match answer {
-        FrameAnswer::Shown { clipped } => Outcome::Shown { clipped },
+        FrameAnswer::Shown { clipped, samples } => Outcome::Shown { clipped, samples },
         FrameAnswer::Refused(k) => Outcome::Refused(k),
     }
 }

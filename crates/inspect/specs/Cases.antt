@@ -7,6 +7,7 @@ use lib.Ieee.{Float, nan, ofBits, toBits, lt, eq, neg}
 use lib.ListN.{replicate}
 use Rattle.num.specs.Cases.{Hold}
 use Rattle.num.specs.Const.{c0·0, c0·5, c1·0}
+use Rattle.num.specs.Refusals.{badSide}
 use Rattle.num.specs.Steps.{clampOf, plusZeroOf, limitOf}
 use Rattle.cards.specs.Step.{refuseIf}
 use Rattle.cards.specs.Bits.{valueAt, fieldAt}
@@ -17,10 +18,13 @@ use Rattle.cards.specs.Card.{stationOf, headerAt, recordsAt, endsAt, endAt, sta
 use Rattle.cards.specs.declared.station.Pass.the-variants.{Bloom, Scanlines}
 use Rattle.cards.specs.declared.station.Record.{Record}
 use Rattle.inspect.specs.Difference.{settingsDifference, recordDifference, chainDifference, differenceOf}
+use Rattle.inspect.specs.Extent.{stepOf, readOf, extentBy, extentOf}
 use Rattle.inspect.specs.Hexadecimal.{digitOf, hexOf, decodeAnswer, decodeInto}
 use Rattle.inspect.specs.Layout.{widthsOf, settingIn, endOf, inRecord, fieldFrom, fieldOf}
 use Rattle.inspect.specs.declared.difference.Difference.{Difference}
 use Rattle.inspect.specs.declared.difference.Difference.the-variants.{Alike, Length, Kind, Switch, Setting}
+use Rattle.inspect.specs.declared.extent.Extent.{Extent}
+use Rattle.inspect.specs.declared.extent.Extent.the-variants.{Sides, NoSize}
 use Rattle.inspect.specs.declared.layout.Field.{Field}
 use Rattle.inspect.specs.declared.layout.Field.the-variants as Field
 use Rattle.inspect.specs.declared.hexadecimal.Decoded.{Decoded}
@@ -126,6 +130,37 @@ texts =
 pub texts-hold : Hold texts
 unfolding decodeAnswer decodeInto hexOf
 texts-hold = refl
+
+-- ## A size in words
+
+-- `640x480`, `0640x00480`, `1x1024`; `1025x1`, `1x1025`, `0x1`, `1x0`, `640x`, `x480`, `640`, nothing, `1x2x3`, `x1x2`, ` 1x2`, `1x2 `, `1X2`, `Ax2`, `+1x2`,
+-- and 2 ^ 64 + 1 for the width
+abbrev pub sizes : List (Extent × Extent)
+sizes =
+    (extentOf (54 ∷ 52 ∷ 48 ∷ 120 ∷ 52 ∷ 56 ∷ 48 ∷ []), Sides 640 480)
+    ∷ (extentOf (48 ∷ 54 ∷ 52 ∷ 48 ∷ 120 ∷ 48 ∷ 48 ∷ 52 ∷ 56 ∷ 48 ∷ []), Sides 640 480)
+    ∷ (extentOf (49 ∷ 120 ∷ 49 ∷ 48 ∷ 50 ∷ 52 ∷ []), Sides 1 1024)
+    ∷ (extentOf (49 ∷ 48 ∷ 50 ∷ 53 ∷ 120 ∷ 49 ∷ []), NoSize)
+    ∷ (extentOf (49 ∷ 120 ∷ 49 ∷ 48 ∷ 50 ∷ 53 ∷ []), NoSize)
+    ∷ (extentOf (48 ∷ 120 ∷ 49 ∷ []), NoSize)
+    ∷ (extentOf (49 ∷ 120 ∷ 48 ∷ []), NoSize)
+    ∷ (extentOf (54 ∷ 52 ∷ 48 ∷ 120 ∷ []), NoSize)
+    ∷ (extentOf (120 ∷ 52 ∷ 56 ∷ 48 ∷ []), NoSize)
+    ∷ (extentOf (54 ∷ 52 ∷ 48 ∷ []), NoSize)
+    ∷ (extentOf [], NoSize)
+    ∷ (extentOf (49 ∷ 120 ∷ 50 ∷ 120 ∷ 51 ∷ []), NoSize)
+    ∷ (extentOf (120 ∷ 49 ∷ 120 ∷ 50 ∷ []), NoSize)
+    ∷ (extentOf (32 ∷ 49 ∷ 120 ∷ 50 ∷ []), NoSize)
+    ∷ (extentOf (49 ∷ 120 ∷ 50 ∷ 32 ∷ []), NoSize)
+    ∷ (extentOf (49 ∷ 88 ∷ 50 ∷ []), NoSize)
+    ∷ (extentOf (65 ∷ 120 ∷ 50 ∷ []), NoSize)
+    ∷ (extentOf (43 ∷ 49 ∷ 120 ∷ 50 ∷ []), NoSize)
+    ∷ (extentOf (49 ∷ 56 ∷ 52 ∷ 52 ∷ 54 ∷ 55 ∷ 52 ∷ 52 ∷ 48 ∷ 55 ∷ 51 ∷ 55 ∷ 48 ∷ 57 ∷ 53 ∷ 53 ∷ 49 ∷ 54 ∷ 49 ∷ 55 ∷ 120 ∷ 49 ∷ []), NoSize)
+    ∷ []
+
+pub sizes-hold : Hold sizes
+unfolding extentOf extentBy readOf stepOf badSide
+sizes-hold = refl
 
 -- ## The field that a bit lies in
 

@@ -28,7 +28,7 @@ enum Counted {
 }
 
 // The value of a digit, 16 for a byte that is none.
-fn digit(c: u8) -> u8
+pub(crate) fn digit(c: u8) -> u8
     ensures { λ r. ⌜ r ≡ digitOf c ⌝ }
 {
     match c {

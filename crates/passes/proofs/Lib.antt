@@ -1,6 +1,7 @@
 -- Laws that the proofs of several functions cite.
 mod RowLoops
 mod Sums
+mod Counted
 mod Offsets
 mod Chroma
 mod Collected

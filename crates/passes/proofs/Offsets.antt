@@ -1,53 +1,32 @@
 -- The blur's offsets: which places take a sample, and the sums one offset further; local lines. Assumes nothing.
-use mathlib.Core.Path.{_≡_, refl, sym, ap, _∙_, subst}
-use mathlib.Core.Logic.{_⊎_, inl, inr, ⊎-elim}
-use mathlib.Core.Bool.{Bool, true, false, _&&_}
+use mathlib.Core.Path.{_≡_, refl, sym, ap, _∙_}
+use mathlib.Core.Bool.{Bool, true, false}
 use mathlib.Core.List.{List, _++_}
-use Prim.Native.Nat.{ℕ, zero, suc, _+_, _-_, _*_, _≤_, _<_, zero-le, suc-le-suc}
+use Prim.Native.Nat.{ℕ, zero, suc, _+_, _-_, _*_, _≤_, _<_}
 use native.Mathlib.Nat.{add-zero, add-suc}
 use native.Mathlib.Numerals.{add-one}
+use native.Mathlib.Decide.{decLt}
 use native.Mathlib.Omega.{arith}
-use lib.Dec.{T, leb, ltb, lit≤}
+use lib.Dec.{leb, ltb, lit≤}
 use lib.ListN.{length, take, drop}
 use lib.Seq.{length-take-le, getD-take, getD-drop}
 use lib.Ieee.{Float, nan}
-use borrow.Author.Tests.{le-leb, lt-leb, lt-ltb, le-ltb, ltb-true}
+use borrow.Author.Tests.{ltb-true}
+use Rattle.num.specs.Laws.Bools.{both}
 use Rattle.num.specs.F32.{_⊕_, _⊗_}
 use Rattle.num.specs.Rewrite.{rewrite, every, fill}
 use Rattle.num.specs.Laws.Rewrite.{Rewritten, length-rewrite, rewrite-ext, rewrite-same, rewrite-stop}
 use Rattle.num.specs.Laws.Rewrite.{getD-rewrite, getD-fill, mid, part}
 use Rattle.passes.specs as Text
+use Rattle.passes.specs.Laws.Samples.{inside-yes, inside-left, inside-right}
 use Rattle.passes.specs.declared.blur.Four.{Four}
 use Rattle.passes.specs.Plain.Blur.{weight, distance, inside, taken, step, total, weightSum, weighted}
 use Rattle.passes.specs.Plain.Blur.{quotient, blurAt}
 use Rattle.passes.specs.Private.{at, cell, blurBy, Begins, fourWeights, onward}
 
-lt-or-le : (a b : ℕ) → (a < b) ⊎ (b ≤ a)
-lt-or-le a zero = inr zero-le
-lt-or-le zero (suc b) = inl (suc-le-suc zero-le)
-lt-or-le (suc a) (suc b) = ⊎-elim (λ p. inl (suc-le-suc p)) (λ q. inr (suc-le-suc q)) (lt-or-le a b)
-
-and-false : (b : Bool) → b && false ≡ false
-and-false true = refl
-and-false false = refl
-
-and-right : (a b : Bool) → a && b ≡ true → b ≡ true
-and-right true b e = e
-and-right false b e = absurd (let z : T false = subst T (sym e) tt in z)
-
-module _ (n radius x k : ℕ) where
-  pub inside-yes : radius ≤ x + k → x + k - radius < n → inside n radius x k ≡ true
-  inside-yes h l = simp (le-leb radius (x + k) h, lt-ltb (x + k - radius) n l)
-
-  pub inside-left : x + k < radius → inside n radius x k ≡ false
-  inside-left h = simp (lt-leb radius (x + k) h)
-
-  pub inside-right : n ≤ x + k - radius → inside n radius x k ≡ false
-  inside-right h = simp (le-ltb (x + k - radius) n h, and-false)
-
-  -- a sample that is taken lies inside
-  inside-below : inside n radius x k ≡ true → x + k - radius < n
-  inside-below e = ltb-true (x + k - radius) n (and-right (leb radius (x + k)) (ltb (x + k - radius) n) e)
+-- a sample that is taken lies inside
+inside-below : (n radius x k : ℕ) → inside n radius x k ≡ true → x + k - radius < n
+inside-below n radius x k e = ltb-true (x + k - radius) n (both (leb radius (x + k)) (ltb (x + k - radius) n) e .1)
 
 taken-same : (b : Bool) {s s′ v v′ : Float} → s ≡ s′ → (b ≡ true → v ≡ v′) → taken b s v ≡ taken b s′ v′
 taken-same true p q = cc (q refl)
@@ -95,12 +74,11 @@ module _ (acc src : List Float) (radius k : ℕ) (e : length acc ≡ length src)
 
   -- outside at every place
   pub offset-none : length src ≤ distance radius k → acc ≡ every along acc
-  offset-none h =
-      sym (rewrite-same (length acc) along acc (λ x v l.
-      ⊎-elim
-      (λ p. simp (inside-left (length src) radius x k p))
-      (λ p. simp (inside-right (length src) radius x k (omega arith)))
-      (lt-or-le (x + k) radius)))
+  offset-none h = sym (rewrite-same (length acc) along acc (λ x v l. outside x v l (decLt (x + k) radius)))
+    where
+      outside : (x : ℕ) (v : Float) → x < length acc → Dec (x + k < radius) → along x v ≡ v
+      outside x v l (yes p) = simp (inside-left (length src) radius x k p)
+      outside x v l (no p) = simp (inside-right (length src) radius x k (omega arith))
 
   -- m places, from `to` on, take the samples from `from` on
   pub offset-some : (new : List Float) (to from m m′ : ℕ) (w : Float)

@@ -18,6 +18,7 @@ use Rattle.passes.specs.Fold.{fold}
 use Rattle.num.specs.Rewrite.{rewrite}
 use Rattle.num.specs.Sums.{sum}
 use Rattle.passes.specs.Painted.{Painted, painted, converted}
+use Rattle.passes.specs.Samples.{samples, ntscSamples, bloomSamples, pairs}
 use Rattle.passes.specs.Flow.{Flow, flow}
 use Rattle.passes.specs.Plain.Scanlines as Scanlines
 use Rattle.passes.specs.Plain.Vignette as Vignette
@@ -219,3 +220,26 @@ unfolding ofBits ofInt add sub mul div neg lt le clampOf cutOf rewrite Text.Pixe
     Text.Pixel.packClamped Text.Pixel.channel Text.Pixel.luma601 Text.Pixel.luma709 Text.Blur.weight Text.Blur.total
     Text.Ntsc.ntsc Text.Ntsc.pixel Text.Ntsc.chroma Text.Bloom.bloom Text.Bloom.bright Text.Bloom.composite converted
 blurs-hold = refl
+
+-- S and what it counts (request P9): the radius below the side, at it and above it; a side of 1; the longest side at the largest radius. Two small
+-- frames of each pass.
+abbrev pub taken : List (ℕ × ℕ)
+taken =
+    (samples 3 1, 7)
+    ∷ (pairs 3 1, 7)
+    ∷ (samples 3 2, 9)
+    ∷ (pairs 3 2, 9)
+    ∷ (samples 3 3, 9)
+    ∷ (pairs 3 3, 9)
+    ∷ (samples 3 4, 9)
+    ∷ (pairs 3 4, 9)
+    ∷ (samples 1 64, 1)
+    ∷ (pairs 1 2, 1)
+    ∷ (samples 1024 64, 127936)
+    ∷ (ntscSamples 3 2 1, 14)
+    ∷ (bloomSamples 3 2 1, 14 + 12)
+    ∷ []
+
+pub taken-hold : Hold taken
+unfolding samples ntscSamples bloomSamples sum
+taken-hold = refl

@@ -16,6 +16,7 @@ use Rattle.num.specs.Ranges.{within, Signed}
 use Rattle.passes.specs.declared.blur.Four.{Four}
 use Rattle.passes.specs.declared.pixel.Rgb.{Rgb}
 use Rattle.passes.specs.Painted.{Painted, painted}
+use Rattle.passes.specs.Samples.{once}
 use Rattle.passes.specs.Plain.Bloom as Bloom
 use Rattle.passes.specs.Plain.AutoGradient.{warm, brightness, shade}
 use Rattle.passes.specs.Plain.Blur.{distance, weight, step, weighted, quotient}
@@ -119,6 +120,10 @@ fourAdded a b c d w i sum = sum ⊕ at a i ⊗ w .a ⊕ at b i ⊗ w .b ⊕ at c
 unfoldable pub onward : (ℕ → Float → Float) → ℕ → ℕ → ℕ → ℕ → ℕ → Float → Float
 onward term n radius x k zero sum = sum
 onward term n radius x k (suc m) sum = step term n radius x (k + m) (onward term n radius x k m sum)
+
+-- how many of them are inside
+abbrev pub insides : (n radius k m x : ℕ) → ℕ
+insides n radius k m x = sum m (λ j. once n radius x (k + j))
 
 -- the samples of a line
 abbrev pub lineOnward : List Float → (radius k m x : ℕ) → Float → Float

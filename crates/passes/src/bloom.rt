@@ -8,8 +8,10 @@ ghost use Rattle.passes.specs.Rows.{Frame, placed, sampled};
 ghost use Rattle.passes.specs.Plain.Blur.{quotient};
 ghost use Rattle.passes.specs.Plain.Bloom as Bloom;
 ghost use Rattle.passes.specs.Painted.{painted};
+ghost use Rattle.passes.specs.Samples.{samples as samplesOf, bloomSamples};
 ghost use Rattle.passes.specs.Private.{at, brightBy, horizontalBy, stored, markClamped, everyClamped};
 use crate::blur;
+use crate::blur::Counts;
 use crate::marks;
 use crate::pixel;
 use crate::pixel::Rgb;
@@ -42,7 +44,7 @@ fn bright_line(out: &mut [f32], row: &[u32], threshold: f32, which: usize)
     }
 }
 
-// One channel of a row's bright part, blurred. `w` gives each column's sum of weights, `line` is room for a row.
+// One channel of a row's bright part, blurred. `w` gives each column's sum of weights, `line` is room for a row. Returns how many samples were taken.
 fn blurred_line(
     out: &mut [f32],
     row: &[u32],
@@ -51,15 +53,17 @@ fn blurred_line(
     threshold: f32,
     which: usize,
     radius: usize,
-)
-    requires { ⌜ (radius ≤ 64) × (length (now out) ≡ length (now row)) × (length (now line) ≡ length (now row)) × (length (now w) ≡ length (now row)) ⌝ }
-    ensures { λ _. ⌜ now (out .exit) ≡ fill (brightBy (at (now (w .entry))) (now (row .entry)) threshold radius which) (now (out .entry)) ⌝ }
+) -> usize
+    requires { ⌜ (radius ≤ 64) × (length (now out) ≡ length (now row)) × (length (now line) ≡ length (now row)) × (length (now w) ≡ length (now row))
+        × (length (now row) ≤ 1024) ⌝ }
+    ensures { λ r. ⌜ (now (out .exit) ≡ fill (brightBy (at (now (w .entry))) (now (row .entry)) threshold radius which) (now (out .entry)))
+        × (r ≡ samplesOf (length (now (row .entry))) radius) ⌝ }
 {
     bright_line(line, row, threshold, which);
-    blur::blur_line(out, line, w, radius);
+    blur::blur_line(out, line, w, radius)
 }
 
-// All three channels of a row, one after the other.
+// All three channels of a row, one after the other. Returns how many samples were taken: each channel takes the same, and they count once.
 fn horizontal_row(
     out: &mut [f32],
     row: &[u32],
@@ -67,22 +71,26 @@ fn horizontal_row(
     w: &[f32],
     threshold: f32,
     radius: usize,
-)
-    requires { ⌜ (radius ≤ 64) × (length (now out) ≡ 3 * length (now row)) × (length (now line) ≡ length (now row)) × (length (now w) ≡ length (now row)) ⌝ }
-    ensures { λ _. ⌜ now (out .exit)
-        ≡ sampled (length (now (row .entry))) (λ x which. brightBy (at (now (w .entry))) (now (row .entry)) threshold radius which x) (now (out .entry)) ⌝ }
+) -> usize
+    requires { ⌜ (radius ≤ 64) × (length (now out) ≡ 3 * length (now row)) × (length (now line) ≡ length (now row)) × (length (now w) ≡ length (now row))
+        × (length (now row) ≤ 1024) ⌝ }
+    ensures { λ r. ⌜ (now (out .exit)
+        ≡ sampled (length (now (row .entry))) (λ x which. brightBy (at (now (w .entry))) (now (row .entry)) threshold radius which x) (now (out .entry)))
+        × (r ≡ samplesOf (length (now (row .entry))) radius) ⌝ }
 {
+    let mut samples = 0usize;
     let mut which = 0usize;
     let mut at = 0;
     while which < 3 {
         let end = at + row.len();
-        blurred_line(&mut out[at..end], row, line, w, threshold, which, radius);
+        samples = blurred_line(&mut out[at..end], row, line, w, threshold, which, radius);
         at = end;
         which += 1;
     }
+    samples
 }
 
-// The bright part of the frame, blurred along rows: each row of `planes` has the three channels of the frame's row.
+// The bright part of the frame, blurred along rows: each row of `planes` has the three channels of the frame's row. Returns how many samples were taken.
 fn horizontal(
     planes: &mut [f32],
     frame: &[u32],
@@ -92,19 +100,21 @@ fn horizontal(
     height: usize,
     threshold: f32,
     radius: usize,
-)
+) -> usize
     requires { ⌜ (radius ≤ 64) × (length (now planes) ≡ height * (3 * width)) × (length (now line) ≡ width) × (length (now w) ≡ width) ⌝
         ∗ ⌜ Frame width height (now frame) ⌝ }
-    ensures { λ _. ⌜ now (planes .exit) ≡ sampled (3 * width)
-        (λ i y. horizontalBy (at (now (w .entry))) width radius threshold (now (frame .entry)) (i / width) (i % width) y) (now (planes .entry)) ⌝ }
+    ensures { λ r. ⌜ (now (planes .exit) ≡ sampled (3 * width)
+        (λ i y. horizontalBy (at (now (w .entry))) width radius threshold (now (frame .entry)) (i / width) (i % width) y) (now (planes .entry)))
+        × (r ≡ height * samplesOf width radius) ⌝ }
 {
+    let mut samples = 0usize;
     let mut y = 0;
     let mut at = 0;
     let mut from = 0;
     while y < height {
         let end = at + 3 * width;
         let to = from + width;
-        horizontal_row(
+        samples += horizontal_row(
             &mut planes[at..end],
             &frame[from..to],
             line,
@@ -116,6 +126,7 @@ fn horizontal(
         from = to;
         y += 1;
     }
+    samples
 }
 
 // A word with its glow.
@@ -150,7 +161,7 @@ fn composite_row(row: &mut [u32], sums: &[f32], w: f32, strength: f32)
     }
 }
 
-// The frame with its glow, row by row. `sums` is room for a row of three channels.
+// The frame with its glow, row by row. `sums` is room for a row of three channels. Returns how many samples were taken: as many of each column.
 fn composite_rows(
     frame: &mut [u32],
     planes: &[f32],
@@ -159,24 +170,27 @@ fn composite_rows(
     height: usize,
     strength: f32,
     radius: usize,
-)
+) -> usize
     requires { ⌜ (radius ≤ 64) × (length (now planes) ≡ height * (3 * width)) × (length (now sums) ≡ 3 * width) ⌝ ∗ ⌜ Frame width height (now frame) ⌝ }
-    ensures { λ _. ⌜ now (frame .exit)
-        ≡ everyClamped (placed width (Bloom.over height strength radius (stored (now (planes .entry)) width))) (now (frame .entry)) ⌝ }
+    ensures { λ r. ⌜ (now (frame .exit)
+        ≡ everyClamped (placed width (Bloom.over height strength radius (stored (now (planes .entry)) width))) (now (frame .entry)))
+        × (r ≡ width * samplesOf height radius) ⌝ }
 {
+    let mut taken = 0usize;
     let mut y = 0;
     let mut at = 0;
     while y < height {
         let end = at + width;
-        blur::accumulate_rows(sums, planes, height, radius, y);
+        taken += blur::accumulate_rows(sums, planes, height, radius, y);
         let w = blur::weight_sum(height, radius, y);
         composite_row(&mut frame[at..end], sums, w, strength);
         at = end;
         y += 1;
     }
+    width * taken
 }
 
-// Returns how many channels were clipped. The scratch past three times the frame's words stays.
+// Returns how many channels were clipped and how many samples were taken. The scratch past three times the frame's words stays.
 pub fn apply(
     frame: &mut [u32],
     scratch: &mut [f32],
@@ -185,16 +199,17 @@ pub fn apply(
     threshold: u8,
     strength: f32,
     radius: usize,
-) -> u32
+) -> Counts
     requires { ⌜ Frame width height (now frame) ⌝ ∗ ⌜ (radius ≤ 64) × (3 * length (now frame) ≤ length (now scratch)) ⌝ }
-    ensures { λ r. ⌜ (painted (now (frame .exit)) r ≡ Bloom.bloom width height threshold strength radius (now (frame .entry)))
+    ensures { λ r. ⌜ (painted (now (frame .exit)) (r .clipped) ≡ Bloom.bloom width height threshold strength radius (now (frame .entry)))
+        × (r .samples ≡ bloomSamples width height radius)
         × (drop (3 * length (now (frame .entry))) (now (scratch .exit)) ≡ drop (3 * length (now (frame .entry))) (now (scratch .entry))) ⌝ }
 {
     let n = 3 * frame.len();
     let w = blur::weight_line(width, radius);
     let mut line = blur::line();
     let mut sums = blur::line3();
-    horizontal(
+    let across = horizontal(
         &mut scratch[..n],
         frame,
         &mut line[..width],
@@ -204,7 +219,7 @@ pub fn apply(
         threshold as f32,
         radius,
     );
-    composite_rows(
+    let down = composite_rows(
         frame,
         &scratch[..n],
         &mut sums[..3 * width],
@@ -213,5 +228,9 @@ pub fn apply(
         strength,
         radius,
     );
-    marks::collect(frame)
+    let clipped = marks::collect(frame);
+    Counts {
+        clipped,
+        samples: (across + down) as u32,
+    }
 }

@@ -1,14 +1,16 @@
 // NTSC: the chroma of each row is blurred along it.
 ghost use mathlib.Core.Path.{_≡_};
-ghost use Prim.Native.Nat.{_≤_, _<_};
+ghost use Prim.Native.Nat.{_*_, _≤_, _<_};
 ghost use lib.ListN.{length, getD};
 ghost use Rattle.passes.specs.Plain.Pixel.{unpack};
 ghost use Rattle.num.specs.Rewrite.{fill};
 ghost use Rattle.passes.specs.Rows.{Frame, placed};
 ghost use Rattle.passes.specs.Plain.Ntsc as Ntsc;
 ghost use Rattle.passes.specs.Painted.{painted};
+ghost use Rattle.passes.specs.Samples.{samples as samplesOf, ntscSamples};
 ghost use Rattle.passes.specs.Private.{at, chromaBy, ntscBy, markClamped, everyClamped};
 use crate::blur;
+use crate::blur::Counts;
 use crate::marks;
 use crate::pixel;
 use crate::pixel::Rgb;
@@ -64,7 +66,8 @@ fn blend_row(row: &mut [u32], u: &[f32], v: &[f32], strength: f32)
     }
 }
 
-// One row. `w` gives each column's sum of weights; the other lines are room for a component, and for both blurred.
+// One row. `w` gives each column's sum of weights; the other lines are room for a component, and for both blurred. Returns how many samples
+// were taken: both components take the same, and they count once.
 fn row(
     row: &mut [u32],
     line: &mut [f32],
@@ -73,20 +76,23 @@ fn row(
     w: &[f32],
     bleed: usize,
     strength: f32,
-)
+) -> usize
     requires { ⌜ (bleed ≤ 64) × (length (now line) ≡ length (now row)) × (length (now u) ≡ length (now row))
-        × (length (now v) ≡ length (now row)) × (length (now w) ≡ length (now row)) ⌝ }
-    ensures { λ _. ⌜ now (row .exit) ≡ everyClamped (λ x. Ntsc.pixel strength
+        × (length (now v) ≡ length (now row)) × (length (now w) ≡ length (now row)) × (length (now row) ≤ 1024) ⌝ }
+    ensures { λ r. ⌜ (now (row .exit) ≡ everyClamped (λ x. Ntsc.pixel strength
         (chromaBy (at (now (w .entry))) 0 (now (row .entry)) bleed x)
-        (chromaBy (at (now (w .entry))) 1 (now (row .entry)) bleed x)) (now (row .entry)) ⌝ }
+        (chromaBy (at (now (w .entry))) 1 (now (row .entry)) bleed x)) (now (row .entry)))
+        × (r ≡ samplesOf (length (now (row .entry))) bleed) ⌝ }
 {
     chroma_line(line, row, 0);
-    blur::blur_line(u, line, w, bleed);
+    let samples = blur::blur_line(u, line, w, bleed);
     chroma_line(line, row, 1);
     blur::blur_line(v, line, w, bleed);
     blend_row(row, u, v, strength);
+    samples
 }
 
+// Returns how many samples were taken.
 fn rows(
     frame: &mut [u32],
     line: &mut [f32],
@@ -97,32 +103,36 @@ fn rows(
     height: usize,
     bleed: usize,
     strength: f32,
-)
+) -> usize
     requires { ⌜ (bleed ≤ 64) × (length (now line) ≡ width) × (length (now u) ≡ width) × (length (now v) ≡ width) × (length (now w) ≡ width) ⌝
         ∗ ⌜ Frame width height (now frame) ⌝ }
-    ensures { λ _. ⌜ now (frame .exit)
-        ≡ everyClamped (placed width (ntscBy (at (now (w .entry))) width strength bleed (now (frame .entry)))) (now (frame .entry)) ⌝ }
+    ensures { λ r. ⌜ (now (frame .exit)
+        ≡ everyClamped (placed width (ntscBy (at (now (w .entry))) width strength bleed (now (frame .entry)))) (now (frame .entry)))
+        × (r ≡ height * samplesOf width bleed) ⌝ }
 {
+    let mut samples = 0usize;
     let mut y = 0;
     let mut at = 0;
     while y < height {
         let end = at + width;
-        row(&mut frame[at..end], line, u, v, w, bleed, strength);
+        samples += row(&mut frame[at..end], line, u, v, w, bleed, strength);
         at = end;
         y += 1;
     }
+    samples
 }
 
-// Returns how many channels were clipped.
-pub fn apply(frame: &mut [u32], width: usize, height: usize, strength: f32, bleed: usize) -> u32
+// Returns how many channels were clipped and how many samples were taken.
+pub fn apply(frame: &mut [u32], width: usize, height: usize, strength: f32, bleed: usize) -> Counts
     requires { ⌜ Frame width height (now frame) ⌝ ∗ ⌜ bleed ≤ 64 ⌝ }
-    ensures { λ r. ⌜ painted (now (frame .exit)) r ≡ Ntsc.ntsc width strength bleed (now (frame .entry)) ⌝ }
+    ensures { λ r. ⌜ (painted (now (frame .exit)) (r .clipped) ≡ Ntsc.ntsc width strength bleed (now (frame .entry)))
+        × (r .samples ≡ ntscSamples width height bleed) ⌝ }
 {
     let mut line = blur::line();
     let mut u = blur::line();
     let mut v = blur::line();
     let w = blur::weight_line(width, bleed);
-    rows(
+    let samples = rows(
         frame,
         &mut line[..width],
         &mut u[..width],
@@ -133,5 +143,9 @@ pub fn apply(frame: &mut [u32], width: usize, height: usize, strength: f32, blee
         bleed,
         strength,
     );
-    marks::collect(frame)
+    let clipped = marks::collect(frame);
+    Counts {
+        clipped,
+        samples: samples as u32,
+    }
 }

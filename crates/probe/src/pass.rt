@@ -1,4 +1,5 @@
-// Exports of the passes, each with the contract of the pass itself. Those that clip channels answer how many.
+// Exports of the passes, each with the contract of the pass itself. Those that clip channels answer how many; those that blur put the number of samples
+// into `samples`.
 ghost use mathlib.Core.Path.{_≡_};
 ghost use Prim.Native.Nat.{_*_, _≤_, _<_};
 ghost use lib.ListN.{length, getD, drop};
@@ -11,6 +12,7 @@ ghost use Rattle.passes.specs.Painted.{painted};
 ghost use Rattle.passes.specs.Plain.Ntsc as Ntsc;
 ghost use Rattle.passes.specs.Plain.Persistence as Persistence;
 ghost use Rattle.passes.specs.Rows.{Frame};
+ghost use Rattle.passes.specs.Samples.{ntscSamples, bloomSamples};
 ghost use Rattle.passes.specs.Plain.AutoGradient as AutoGradient;
 ghost use Rattle.passes.specs.Plain.ColorCorrection as ColorCorrection;
 ghost use Rattle.passes.specs.Plain.Lut as Lut;
@@ -43,12 +45,16 @@ pub extern "C" fn probe_bloom(
     threshold: u8,
     strength: f32,
     radius: usize,
+    samples: &mut [u32; 1],
 ) -> u32
     requires { ⌜ Frame width height (now frame) ⌝ ∗ ⌜ (radius ≤ 64) × (3 * length (now frame) ≤ length (now scratch)) ⌝ }
     ensures { λ r. ⌜ (painted (now (frame .exit)) r ≡ Bloom.bloom width height threshold strength radius (now (frame .entry)))
+        × (getD (now (samples .exit)) 0 0 ≡ bloomSamples width height radius)
         × (drop (3 * length (now (frame .entry))) (now (scratch .exit)) ≡ drop (3 * length (now (frame .entry))) (now (scratch .entry))) ⌝ }
 {
-    passes::bloom::apply(frame, scratch, width, height, threshold, strength, radius)
+    let counts = passes::bloom::apply(frame, scratch, width, height, threshold, strength, radius);
+    *samples = [counts.samples];
+    counts.clipped
 }
 
 #[no_mangle]
@@ -105,11 +111,15 @@ pub extern "C" fn probe_ntsc(
     height: usize,
     strength: f32,
     bleed: usize,
+    samples: &mut [u32; 1],
 ) -> u32
     requires { ⌜ Frame width height (now frame) ⌝ ∗ ⌜ bleed ≤ 64 ⌝ }
-    ensures { λ r. ⌜ painted (now (frame .exit)) r ≡ Ntsc.ntsc width strength bleed (now (frame .entry)) ⌝ }
+    ensures { λ r. ⌜ (painted (now (frame .exit)) r ≡ Ntsc.ntsc width strength bleed (now (frame .entry)))
+        × (getD (now (samples .exit)) 0 0 ≡ ntscSamples width height bleed) ⌝ }
 {
-    passes::ntsc::apply(frame, width, height, strength, bleed)
+    let counts = passes::ntsc::apply(frame, width, height, strength, bleed);
+    *samples = [counts.samples];
+    counts.clipped
 }
 
 fn size_in(sides: &[u16; 2]) -> Size

@@ -1,5 +1,5 @@
 //! Document 01's card, with the order of document 02's P2 and the gamma of its P3, read and written as the papers say it, with
-//! nothing of the library.
+//! nothing of the library; and the samples of its P9.
 
 /// A refusal's number.
 pub type Number = u32;
@@ -197,6 +197,38 @@ pub fn curved(records: &[Record]) -> Option<f32> {
     match colour.settings[3] {
         Value::Float(gamma) if gamma != 1.0 => Some(gamma),
         _ => None,
+    }
+}
+
+/// The samples that a frame of this size takes, by document 02's P9: those of the blurs that are on.
+pub fn samples(records: &[Record], size: Size) -> u32 {
+    let on = records.iter().filter(|record| record.on);
+    on.map(|record| match record.settings[..] {
+        // The radius is the last setting of both.
+        [.., Value::Whole(radius, _)] => blur_samples(record.kind, radius as usize, size),
+        _ => 0,
+    })
+    .sum()
+}
+
+/// Those of one pass, which are none where it is no blur.
+pub fn blur_samples(kind: u32, radius: usize, (width, height): Size) -> u32 {
+    let across = height * line_samples(width, radius);
+    let down = width * line_samples(height, radius);
+    let all = match kind {
+        1 => across,
+        2 => across + down,
+        _ => 0,
+    };
+    all as u32
+}
+
+/// Those of a line of so many places.
+fn line_samples(length: usize, radius: usize) -> usize {
+    if radius < length {
+        length * (2 * radius + 1) - radius * (radius + 1)
+    } else {
+        length * length
     }
 }
 

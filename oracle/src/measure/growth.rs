@@ -21,9 +21,12 @@ const PATIENCE: Patience = Patience {
 pub fn run() {
     println!();
     println!("Growth with the radius, then with the size: nanoseconds per pixel, the median of fewer rounds.");
-    for pass in PASSES.iter().filter(|pass| blurs(pass)) {
+    for pass in PASSES {
+        let Some(place) = pass.radius() else {
+            continue;
+        };
         for radius in RADII {
-            let case = cases::alone(pass, &with_radius(pass, radius));
+            let case = cases::alone(pass, &with_radius(pass, place, radius));
             line(&case, CONSOLE, &format!("radius={radius}"));
         }
     }
@@ -43,14 +46,9 @@ fn line(case: &Case, size: Size, setting: &str) {
     println!("growth pass={pass} size={width}x{height} {setting} {times}");
 }
 
-fn blurs(pass: &Pass) -> bool {
-    matches!(pass.name, "ntsc" | "bloom")
-}
-
-/// The first measured setting with another radius, which is the last field of both.
-fn with_radius(pass: &Pass, radius: f32) -> Vec<f32> {
+/// The first measured setting with another radius in its place.
+fn with_radius(pass: &Pass, place: usize, radius: f32) -> Vec<f32> {
     let mut values = pass.measured[0].to_vec();
-    let last = values.len() - 1;
-    values[last] = radius;
+    values[place] = radius;
     values
 }

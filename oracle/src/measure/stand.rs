@@ -32,6 +32,8 @@ pub struct Stand {
     pub floats: Vec<f32>,
     pub ints: Vec<u32>,
     curve: Vec<f32>,
+    /// The blur samples that our last frame took.
+    pub samples: u32,
 }
 
 /// The card of a case.
@@ -64,6 +66,7 @@ impl Stand {
             floats: vec![0.0; float_room(size.0, size.1)],
             ints: vec![0; count],
             curve: curved(&case.records).map_or(Vec::new(), curves::power),
+            samples: 0,
         }
     }
 
@@ -73,15 +76,18 @@ impl Stand {
         match side {
             Side::Original => self.pipeline.apply(words, width, height),
             Side::Ours => {
+                let mut reports = [0; 2];
                 let lent = Lent {
                     framebuffer: words,
                     history: &mut self.history,
                     floats: &mut self.floats,
                     ints: &mut self.ints,
                     curve: &self.curve,
+                    reports: &mut reports,
                 };
                 let answer = bridge::apply(&mut self.state, width, height, lent);
                 assert!(answer.is_ok(), "the frame was refused: {answer:?}");
+                self.samples = reports[1];
             }
         }
     }

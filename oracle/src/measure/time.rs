@@ -20,6 +20,7 @@ pub struct Patience {
 /// The median times of a frame.
 pub struct Times {
     pixels: usize,
+    samples: u32,
     original: Duration,
     ours: Duration,
 }
@@ -40,7 +41,7 @@ impl Times {
     }
 }
 
-/// In nanoseconds per pixel.
+/// In nanoseconds per pixel; where it blurs, here also per sample, all that the frame takes counted.
 impl fmt::Display for Times {
     fn fmt(&self, f: &mut fmt::Formatter) -> fmt::Result {
         let [original, ours] =
@@ -49,7 +50,12 @@ impl fmt::Display for Times {
         write!(
             f,
             "original_ns={original:.3} ours_ns={ours:.3} ratio={ratio:.2}"
-        )
+        )?;
+        if self.samples == 0 {
+            return Ok(());
+        }
+        let sample = self.ours.as_secs_f64() * 1e9 / f64::from(self.samples);
+        write!(f, " samples={} sample_ns={sample:.3}", self.samples)
     }
 }
 
@@ -80,6 +86,7 @@ pub fn measured(case: &Case, size: Size, patience: Patience) -> Times {
     let [original, ours] = times.map(|times| times[rounds / 2]);
     Times {
         pixels: given.len(),
+        samples: stand.samples,
         original,
         ours,
     }

@@ -1,11 +1,11 @@
-//! The original's pipeline, and beside it the copy that counts: the picture is the original's, the count the copy's, and
+//! The original's pipeline, and beside it the copy that counts: the picture is the original's, the counts the copy's, and
 //! the copy has to paint the same picture.
 
 use super::counted::pipeline::PostProcessPipeline as Counting;
 use super::original::pipeline::PostProcessPipeline;
 use super::{counting, curves, effects};
 use crate::cards::paper::Record;
-use crate::clipped;
+use crate::reports::{self, Reports};
 
 #[derive(Default)]
 pub struct Both {
@@ -25,15 +25,15 @@ impl Both {
         &self.original
     }
 
-    /// Paints the frame with this curve, and gives how many channels were clipped.
-    pub fn apply(&self, words: &mut [u32], width: usize, height: usize, curve: &[f32]) -> u32 {
+    /// Paints the frame with this curve, and gives what the copy counts.
+    pub fn apply(&self, words: &mut [u32], width: usize, height: usize, curve: &[f32]) -> Reports {
         let mut copy = words.to_vec();
-        let clipped = curves::lent(curve, || {
+        let counted = curves::lent(curve, || {
             self.original.apply(words, width, height);
-            clipped::counted(|| self.counting.apply(&mut copy, width, height))
+            reports::counted(|| self.counting.apply(&mut copy, width, height))
         });
         assert!(copy == words, "the copy that counts paints another picture");
-        clipped
+        counted
     }
 
     pub fn set_enabled(&mut self, name: &str, enabled: bool) {

@@ -74,6 +74,7 @@ pub fn of(pass: &Pass, mode: Mode) -> Vec<Case> {
     small_sizes(pass, &effort, random, &mut cases);
     boundary_settings(pass, &effort, random, &mut cases);
     large_sizes(pass, &effort, random, &mut cases);
+    beside_the_radius(pass, random, &mut cases);
     cases
 }
 
@@ -167,6 +168,30 @@ fn large_sizes(pass: &Pass, effort: &Effort, random: &mut Random, cases: &mut Ve
             setting,
             picture: Picture::random(random),
         });
+    }
+}
+
+/// The widest blur of a card.
+const WIDEST: usize = 64;
+
+/// Of a blur, for each radius a side one below it, at it and one above it, as the width and as the height.
+fn beside_the_radius(pass: &Pass, random: &mut Random, cases: &mut Vec<Case>) {
+    let Some(field) = pass.radius() else {
+        return;
+    };
+    for radius in 1..=WIDEST {
+        for side in radius.max(2) - 1..=radius + 1 {
+            let other = random.within(1, SMALL);
+            for (width, height) in [(side, other), (other, side)] {
+                let setting = settings::random(pass.fields, random);
+                cases.push(Case {
+                    width,
+                    height,
+                    setting: setting.with(field, radius as f32),
+                    picture: Picture::random(random),
+                });
+            }
+        }
     }
 }
 

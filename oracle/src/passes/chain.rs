@@ -2,7 +2,9 @@
 
 use super::original::pipeline::PostProcessPipeline;
 
-/// The kinds that calls look for.
+/// The kinds that calls look for, and the two that blur.
+pub const NTSC: u32 = 1;
+pub const BLOOM: u32 = 2;
 pub const PERSISTENCE: u32 = 4;
 pub const LUT: u32 = 5;
 pub const COLOUR: u32 = 7;

@@ -10,8 +10,9 @@ use super::room::{Lent, Room};
 use super::runs;
 use super::settings::{self, Setting};
 use super::table::{of_kind, Frame, Pass, PASSES};
-use crate::clipped;
+use crate::cards::paper;
 use crate::random::Random;
+use crate::reports::{self, Reports};
 use crate::steps::{Mode, THREADS};
 use crate::tally::{FrameTally, Total};
 
@@ -87,8 +88,8 @@ struct Given<'a> {
     curve: Vec<f32>,
 }
 
-/// A picture, and how many channels were clipped.
-type Shown = (Vec<u32>, u32);
+/// A picture, and what is counted on the way to it.
+type Shown = (Vec<u32>, Reports);
 
 /// Compares one frame with the original's.
 fn frame(pass: &Pass, case: &Case, room: &mut Room, tally: &mut FrameTally, at: usize) {
@@ -159,12 +160,12 @@ fn original(pass: &Pass, given: &Given) -> Shown {
     let mut original = given.words.clone();
     pass.original(setting).apply(&mut original, width, height);
     let mut copy = given.words.clone();
-    let clipped = clipped::counted(|| pass.counting(setting).apply(&mut copy, width, height));
+    let counted = reports::counted(|| pass.counting(setting).apply(&mut copy, width, height));
     assert!(
         copy == original,
         "the copy that counts paints another picture"
     );
-    (original, clipped)
+    (original, counted)
 }
 
 /// What the second writing of colour makes of it.
@@ -172,15 +173,22 @@ fn second(pass: &Pass, given: &Given) -> Shown {
     let limited = settings::limited(pass.fields, &given.case.setting);
     let settings = [0, 1, 2].map(|field| limited.float(field));
     let mut words = given.words.clone();
-    let clipped = clipped::counted(|| curves::paint(&mut words, &given.curve, settings));
-    (words, clipped)
+    let counted = reports::counted(|| curves::paint(&mut words, &given.curve, settings));
+    (words, counted)
+}
+
+/// The samples that document 02's P9 gives a frame.
+fn by_the_paper(pass: &Pass, case: &Case) -> u32 {
+    let limited = settings::limited(pass.fields, &case.setting);
+    let radius = pass.radius().map_or(0, |field| limited.whole(field));
+    paper::blur_samples(pass.kind, radius, (case.width, case.height))
 }
 
 /// Compares what the pass here shows with what is asked of it.
 fn compare_shown(
     pass: &Pass,
     given: &Given,
-    (picture, clipped): Shown,
+    (picture, counted): Shown,
     room: &mut Room,
     tally: &mut FrameTally,
     at: usize,
@@ -208,7 +216,8 @@ fn compare_shown(
         format!("{width}x{height}, {setting}{curve}, frame {}", case.picture)
     };
     tally.check(at, words, &ours, &picture, what);
-    tally.check_clipped(at, here, clipped, what);
+    tally.check_reports(at, here, counted, what);
+    tally.check_paper(at, counted.samples, by_the_paper(pass, case), what);
     if let Some(place) = room.written_past(words.len()) {
         tally.differ(at, || format!("{}: {place} of the scratch written", what()));
     }

@@ -4,8 +4,8 @@
 
 use std::cell::RefCell;
 
-use crate::clipped::clamp;
 use crate::random::Random;
+use crate::reports::clamp;
 
 /// How many words of a curve are read.
 pub const READ: usize = 256;

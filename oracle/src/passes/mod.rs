@@ -4,7 +4,7 @@ pub mod both;
 mod cases;
 pub mod chain;
 pub mod compare;
-// Written by oracle/build.sh: a module for each file of the copy, whose final clamps count.
+// Written by oracle/build.sh: a module for each file of the copy, whose final clamps and samples count.
 #[allow(dead_code)]
 #[path = "../../../target/oracle/counted.rs"]
 #[rustfmt::skip]

@@ -13,8 +13,8 @@ use super::room::{Lent, Room};
 use super::settings::{self, Setting};
 use super::table::{Frame, Pass};
 use crate::cards::paper::{Size, NOTHING};
-use crate::clipped;
 use crate::random::Random;
+use crate::reports::{self, Reports};
 use crate::steps::Mode;
 use crate::tally::FrameTally;
 
@@ -109,17 +109,17 @@ impl Memory {
         self.counting.set_enabled(on);
     }
 
-    /// The original's picture of a frame, and how many channels were clipped.
-    fn shown(&self, given: &[u32], width: usize, height: usize) -> (Vec<u32>, u32) {
+    /// The original's picture of a frame, and what is counted on the way to it.
+    fn shown(&self, given: &[u32], width: usize, height: usize) -> (Vec<u32>, Reports) {
         let mut original = given.to_vec();
         self.original.apply(&mut original, width, height);
         let mut copy = given.to_vec();
-        let clipped = clipped::counted(|| self.counting.apply(&mut copy, width, height));
+        let counted = reports::counted(|| self.counting.apply(&mut copy, width, height));
         assert!(
             copy == original,
             "the copy that counts paints another picture"
         );
-        (original, clipped)
+        (original, counted)
     }
 
     /// Adds the history to what is lent: by turns as many words as are needed, some more, and all there are.
@@ -208,10 +208,10 @@ pub fn compare(pass: &Pass, run: &Run, room: &mut Room, tally: &mut FrameTally, 
         if on && memory.turns((width, height)) {
             tally.turn();
         }
-        let (original, clipped) = memory.shown(&given, width, height);
+        let (original, counted) = memory.shown(&given, width, height);
 
         let mut ours = given.clone();
-        let mut here = 0;
+        let mut here = Reports::default();
         if on {
             memory.model.take(&given, (width, height), depth);
             let frame = Frame {
@@ -231,7 +231,7 @@ pub fn compare(pass: &Pass, run: &Run, room: &mut Room, tally: &mut FrameTally, 
             )
         };
         tally.check(at, &given, &ours, &original, what);
-        tally.check_clipped(at, here, clipped, what);
+        tally.check_reports(at, here, counted, what);
         if let Some(place) = room.written_past(count).filter(|_| on) {
             tally.differ(at, || format!("{}: {place} of the scratch written", what()));
         }

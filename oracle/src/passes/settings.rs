@@ -28,6 +28,12 @@ impl Setting {
     pub fn values(&self) -> &[f32] {
         &self.values
     }
+
+    /// The same with another value in one field.
+    pub fn with(mut self, field: usize, value: f32) -> Self {
+        self.values[field] = value;
+        self
+    }
 }
 
 /// One setting of a pass.
@@ -168,13 +174,9 @@ pub fn boundaries(fields: &[Field]) -> Vec<Setting> {
     let mut all = vec![given(&[])];
     for (place, field) in fields.iter().enumerate() {
         let values = field.boundaries();
-        let longer = all.iter().flat_map(|setting| {
-            values.iter().map(move |&value| {
-                let mut setting = *setting;
-                setting.values[place] = value;
-                setting
-            })
-        });
+        let longer = all
+            .iter()
+            .flat_map(|setting| values.iter().map(move |&value| setting.with(place, value)));
         all = longer.collect();
     }
     all

@@ -1,11 +1,13 @@
 //! The passes under comparison, a row for each: its settings, and how the pass here is called with them.
 
+use super::chain::{BLOOM, NTSC};
 use super::counted::effect::PostProcessEffect as Counting;
 use super::original::effect::PostProcessEffect;
 use super::room::{Lent, Needs, FRAME_ONLY};
 use super::settings::{clamped, radius, Field, Setting};
 use super::{counting, effects};
 use crate::probe;
+use crate::reports::Reports;
 
 pub struct Pass {
     /// That of the original's file.
@@ -14,8 +16,8 @@ pub struct Pass {
     pub needs: Needs,
     /// Document 01's number.
     pub kind: u32,
-    /// A call of the pass here, with the setting as it is once limited. Gives how many channels were clipped.
-    pub ours: fn(&Setting, Frame, Lent) -> u32,
+    /// A call of the pass here, with the setting as it is once limited. Gives what it reports.
+    pub ours: fn(&Setting, Frame, Lent) -> Reports,
     /// Nanoseconds that both sides together take for a word, very roughly: how many frames a budget
     /// of time allows.
     pub cost: fn(&Setting) -> usize,
@@ -42,10 +44,23 @@ impl Pass {
     pub fn counting(&self, setting: &Setting) -> Box<dyn Counting> {
         counting::effects::effect(self.kind, setting.values())
     }
+
+    /// Which field is the radius, of a pass that blurs: the last one of both.
+    pub fn radius(&self) -> Option<usize> {
+        matches!(self.kind, NTSC | BLOOM).then_some(self.fields.len() - 1)
+    }
 }
 
-/// What a pass without a final clamp clips.
-const UNCLIPPED: u32 = 0;
+/// What a pass reports that has neither a final clamp nor a blur.
+const NOTHING: Reports = Reports {
+    clipped: 0,
+    samples: 0,
+};
+
+/// What a pass reports that has no blur.
+fn clipped(clipped: u32) -> Reports {
+    Reports { clipped, ..NOTHING }
+}
 
 pub static PASSES: &[Pass] = &[
     Pass {
@@ -58,14 +73,14 @@ pub static PASSES: &[Pass] = &[
         needs: FRAME_ONLY,
         kind: 3,
         ours: |s, f, _| {
-            probe::auto_gradient(
+            clipped(probe::auto_gradient(
                 f.words,
                 f.width,
                 f.height,
                 s.float(0),
                 s.float(1),
                 s.float(2),
-            )
+            ))
         },
         cost: |_| 20,
         measured: &[&[0.8, 0.6, 0.35]],
@@ -127,14 +142,14 @@ pub static PASSES: &[Pass] = &[
         needs: FRAME_ONLY,
         kind: 7,
         ours: |s, f, lent| {
-            probe::color_correction(
+            clipped(probe::color_correction(
                 f.words,
                 lent.curve,
                 s.float(0),
                 s.float(1),
                 s.float(2),
                 s.float(3),
-            )
+            ))
         },
         cost: |_| 45,
         measured: &[&[0.05, 1.1, 1.2, 1.0], &[0.05, 1.1, 1.2, 2.2]],
@@ -147,7 +162,7 @@ pub static PASSES: &[Pass] = &[
         kind: 8,
         ours: |s, f, _| {
             probe::crt(f.words, f.width, f.height, s.float(0));
-            UNCLIPPED
+            NOTHING
         },
         cost: |_| 30,
         measured: &[&[0.75]],
@@ -163,7 +178,7 @@ pub static PASSES: &[Pass] = &[
         kind: 6,
         ours: |s, f, lent| {
             probe::curvature(f.words, lent.words, f.width, f.height, s.float(0));
-            UNCLIPPED
+            NOTHING
         },
         cost: |_| 30,
         measured: &[&[0.1]],
@@ -182,7 +197,7 @@ pub static PASSES: &[Pass] = &[
         ],
         needs: FRAME_ONLY,
         kind: 5,
-        ours: |s, f, _| probe::lut(f.words, s.byte(0), s.float(1)),
+        ours: |s, f, _| clipped(probe::lut(f.words, s.byte(0), s.float(1))),
         cost: |_| 20,
         measured: &[
             &[0.0, 0.75],
@@ -226,7 +241,7 @@ pub static PASSES: &[Pass] = &[
             let (amount, depth) = (s.float(0), s.byte(1));
             let (held, size) = (lent.held, (f.width, f.height));
             let before = std::mem::replace(held, size);
-            probe::persistence(
+            clipped(probe::persistence(
                 f.words,
                 lent.history,
                 lent.words,
@@ -234,7 +249,7 @@ pub static PASSES: &[Pass] = &[
                 depth,
                 before,
                 size,
-            )
+            ))
         },
         cost: |s| 10 + 4 * s.whole(1),
         measured: &[&[0.35, 3.0], &[0.35, 8.0]],
@@ -247,7 +262,7 @@ pub static PASSES: &[Pass] = &[
         kind: 10,
         ours: |s, f, _| {
             probe::scanlines(f.words, f.width, f.height, s.float(0));
-            UNCLIPPED
+            NOTHING
         },
         cost: |_| 10,
         measured: &[&[0.35]],
@@ -263,7 +278,7 @@ pub static PASSES: &[Pass] = &[
         kind: 9,
         ours: |s, f, lent| {
             probe::vignette(f.words, lent.floats, f.width, f.height, s.float(0));
-            UNCLIPPED
+            NOTHING
         },
         cost: |_| 30,
         measured: &[&[0.35]],

@@ -1,35 +1,67 @@
-//! What program `card` prints: made from the reading of documents 01 and 02 in cards/paper.rs alone.
+//! What program `card` prints: made from the reading of documents 01 and 02 in cards/paper.rs, and of a size in size.rs.
 
-use super::cards::Given;
+use super::cards::{Given, LONGEST};
 use super::cases::{OfCard, OfPair};
 use super::process::Said;
-use crate::cards::paper::{self, Opened, Place, Record, Refusal, Value};
+use super::size;
+use crate::cards::paper::{self, Opened, Place, Record, Refusal, Size, Value};
 use crate::met::Met;
 
-pub const USAGE: &str =
-    "usage: card CARD [CARD]   (a card is a file, or its bytes in hexadecimal, as \"11 A9 FC 00 00 00\")";
+pub const USAGE: &str = "usage: card [--size WIDTHxHEIGHT] CARD [CARD]   \
+    (a card is a file, or its bytes in hexadecimal, as \"11 A9 FC 00 00 00\")";
 
-/// For one card.
-pub fn one(given: &Given, met: &mut Met<OfCard>) -> Said {
+/// For one card, behind the words of a size if there are any.
+pub fn one(words: Option<&str>, given: &Given, met: &mut Met<OfCard>) -> Said {
     met.note(OfCard::Given(given.way));
     if given.is_option() {
+        if words.is_some() {
+            met.note(OfCard::SizeHelp);
+        }
         return Said::error(USAGE);
     }
+    note_size(words, met);
+    let size = match asked(words) {
+        Ok(size) => size,
+        Err(refusal) => return refusal,
+    };
     match &given.card {
         Err(why) => Said::refusal(&given.argument, why),
         Ok(card) => {
-            note(card, met);
-            Said::output(titled(&given.argument, card))
+            note(card, size, met);
+            Said::output(titled(&given.argument, card, size))
         }
     }
 }
 
+/// The size that is asked for, if one is; or why it is none.
+fn asked(words: Option<&str>) -> Result<Option<Size>, Said> {
+    let Some(words) = words else {
+        return Ok(None);
+    };
+    if words.len() > LONGEST {
+        // Not even the words can be told.
+        return Err(Said::error("argument: File name too long"));
+    }
+    let size = size::read(words).map_err(|_| Said::refusal(words, size::NONE))?;
+    Ok(Some(size))
+}
+
 /// For two.
-pub fn two(given: &[Given; 2], met: &mut Met<OfPair>) -> Said {
+pub fn two(words: Option<&str>, given: &[Given; 2], met: &mut Met<OfPair>) -> Said {
     let [first, second] = given;
     if first.is_option() {
         met.note(OfPair::Help);
         return Said::error(USAGE);
+    }
+    let size = match asked(words) {
+        Ok(size) => size,
+        Err(refusal) => {
+            met.note(OfPair::NoSize);
+            return refusal;
+        }
+    };
+    if size.is_some() {
+        met.note(OfPair::Sized);
     }
     let (one, other) = match (&first.card, &second.card) {
         (Err(why), _) => {
@@ -42,7 +74,7 @@ pub fn two(given: &[Given; 2], met: &mut Met<OfPair>) -> Said {
         }
         (Ok(one), Ok(other)) => (one, other),
     };
-    let titles = titled(&first.argument, one) + &titled(&second.argument, other);
+    let titles = titled(&first.argument, one, size) + &titled(&second.argument, other, size);
     let last = match (paper::open(one), paper::open(other)) {
         (Err(_), second) => {
             met.note(match second {
@@ -92,9 +124,9 @@ fn alike(records: &[Record]) -> String {
 }
 
 /// The argument, and the card in words below it.
-fn titled(argument: &str, card: &[u8]) -> String {
+fn titled(argument: &str, card: &[u8], size: Option<Size>) -> String {
     let words = match paper::read(card) {
-        Ok(opened) => described(&opened),
+        Ok(opened) => described(&opened, size),
         Err(refusal) => format!("  {}\n", refused(refusal)),
     };
     format!("{argument}\n{words}")
@@ -127,7 +159,7 @@ pub fn refused(Refusal { number, at, place }: Refusal) -> String {
     format!("refused: {number}, {word}; reading stopped at bit {at}: {place}")
 }
 
-fn described(opened: &Opened) -> String {
+fn described(opened: &Opened, size: Option<Size>) -> String {
     let mut text = String::new();
     if opened.records.is_empty() {
         text.push_str("  no pass: the picture is the frame\n");
@@ -143,6 +175,11 @@ fn described(opened: &Opened) -> String {
             "  {number}  {name}, {on}: {}\n",
             settings.join(", ")
         ));
+    }
+    for size in [size::ALWAYS].into_iter().chain(size) {
+        let samples = size::samples(&opened.records, size);
+        let (width, height) = size;
+        text.push_str(&format!("  samples: {samples} at {width} by {height}\n"));
     }
     let bytes = opened.written();
     let bytes: Vec<String> = bytes.iter().map(|byte| format!("{byte:02X}")).collect();
@@ -242,8 +279,28 @@ fn difference(a: &[Record], b: &[Record], met: &mut Met<OfPair>) -> Option<Strin
     None
 }
 
+/// What the words of a size are.
+fn note_size(words: Option<&str>, met: &mut Met<OfCard>) {
+    let Some(words) = words else {
+        return;
+    };
+    let (width, height) = match size::read(words) {
+        Ok(size) => size,
+        Err(fault) => return met.note(OfCard::NoSize(fault)),
+    };
+    let either = |side| width == side || height == side;
+    let cases = [
+        (either(1), OfCard::SideOne),
+        (either(1024), OfCard::SideLargest),
+        (words != format!("{width}x{height}"), OfCard::SideZero),
+    ];
+    for (_, case) in cases.iter().filter(|(is, _)| *is) {
+        met.note(*case);
+    }
+}
+
 /// What happens at a card.
-fn note(card: &[u8], met: &mut Met<OfCard>) {
+fn note(card: &[u8], size: Option<Size>, met: &mut Met<OfCard>) {
     let opened = match paper::read(card) {
         Ok(opened) => opened,
         Err(refusal) => {
@@ -264,6 +321,12 @@ fn note(card: &[u8], met: &mut Met<OfCard>) {
     });
     if opened.records.is_empty() {
         met.note(OfCard::NoPass);
+    }
+    let samples = size::samples(&opened.records, size::ALWAYS);
+    met.note(OfCard::Samples(samples > 0));
+    let lines = size.map(|size| size::lines(&opened.records, size));
+    for (_, length, radius) in lines.into_iter().flatten() {
+        met.note(OfCard::Radius(radius.cmp(&length)));
     }
     for record in &opened.records {
         met.note(OfCard::Pass(record.kind, record.on));

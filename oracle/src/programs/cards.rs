@@ -228,7 +228,7 @@ pub(super) const LONGEST: usize = 4096;
 const NAMES: [&str; 8] = [
     "a.card", "the card", "card", "x", "./-", "..card", "~", "0x11",
 ];
-const OPTIONS: [&str; 4] = ["-", "-h", "--help", "-11"];
+const OPTIONS: [&str; 5] = ["-", "-h", "--help", "-11", "--size"];
 
 pub fn given(card: &[u8], random: &mut Random) -> Given {
     let way = match random.below(64) {

@@ -1,7 +1,10 @@
 //! What may happen at a card, at a pair of cards or at a run of files. A comparison that does not meet all of it has
 //! failed.
 
+use std::cmp::Ordering;
+
 use super::cards::Way;
+use super::size::Fault as NoSize;
 use crate::met::Listed;
 
 /// At a card.
@@ -32,6 +35,17 @@ pub enum OfCard {
     /// Too long: a padding bit is set, or a byte is left over.
     Padding,
     LeftOver,
+    /// The samples at 256 by 240: none, or some.
+    Samples(bool),
+    /// A size is asked for: with a side of 1, one of 1024, a zero before a side; and a blur that is on, whose radius is less than the
+    /// length of a line, equal to it, or greater.
+    SideOne,
+    SideLargest,
+    SideZero,
+    Radius(Ordering),
+    /// Words that are no size; and behind a size an option.
+    NoSize(NoSize),
+    SizeHelp,
 }
 
 impl Listed for OfCard {
@@ -96,6 +110,22 @@ impl Listed for OfCard {
         OfCard::Refused(15),
         OfCard::Padding,
         OfCard::LeftOver,
+        OfCard::Samples(false),
+        OfCard::Samples(true),
+        OfCard::SideOne,
+        OfCard::SideLargest,
+        OfCard::SideZero,
+        OfCard::Radius(Ordering::Less),
+        OfCard::Radius(Ordering::Equal),
+        OfCard::Radius(Ordering::Greater),
+        OfCard::NoSize(NoSize::Byte),
+        OfCard::NoSize(NoSize::NoCross),
+        OfCard::NoSize(NoSize::Crosses),
+        OfCard::NoSize(NoSize::NoDigit),
+        OfCard::NoSize(NoSize::Zero),
+        OfCard::NoSize(NoSize::Above),
+        OfCard::NoSize(NoSize::Huge),
+        OfCard::SizeHelp,
     ];
 }
 
@@ -119,6 +149,9 @@ pub enum OfPair {
     FirstMissing,
     SecondMissing,
     Help,
+    /// With a size, and with words that are none.
+    Sized,
+    NoSize,
 }
 
 impl Listed for OfPair {
@@ -140,6 +173,8 @@ impl Listed for OfPair {
         OfPair::FirstMissing,
         OfPair::SecondMissing,
         OfPair::Help,
+        OfPair::Sized,
+        OfPair::NoSize,
     ];
 }
 
@@ -172,8 +207,9 @@ mod of_run {
         Full,
         /// A frame that came through a pipe.
         Piped,
-        /// The clipped channels of a picture were told: none, and some.
+        /// The clipped channels of a picture were told, and its samples: none, and some.
         Clipped(bool),
+        Sampled(bool),
         Help,
         /// An option stands there twice.
         Twice,
@@ -221,6 +257,8 @@ mod of_run {
             OfRun::Piped,
             OfRun::Clipped(false),
             OfRun::Clipped(true),
+            OfRun::Sampled(false),
+            OfRun::Sampled(true),
             OfRun::Help,
             OfRun::Twice,
             OfRun::CardMissing,

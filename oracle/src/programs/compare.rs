@@ -8,6 +8,8 @@ use super::card;
 use super::cards::{self, Given};
 use super::cases::{OfCard, OfPair};
 use super::process::{Folder, Said};
+use super::size;
+use crate::cards::paper;
 use crate::met::{Listed, Met};
 use crate::random::Random;
 use crate::steps::{Mode, THREADS};
@@ -30,10 +32,12 @@ fn each_card(mode: Mode, total: &mut Total) -> Result<(), String> {
     let compare = |seed, at, folder: &Folder, tally: &mut ProgramTally, met: &mut Met<OfCard>| {
         let random = &mut Random::new(seed);
         let given = cards::given(&cards::card(random), random);
-        let asked = card::one(&given, met);
+        let words = words(bytes(&given), random);
+        let words = words.as_deref();
+        let asked = card::one(words, &given, met);
         let files: Vec<_> = given.files().into_iter().collect();
-        let here = folder.run("card", &[&given.argument], &files)?;
-        let what = || format!("seed {seed:#018x}, {}", given.shown());
+        let here = folder.run("card", &arguments(words, &[&given.argument]), &files)?;
+        let what = || format!("seed {seed:#018x}, size {words:?}, {}", given.shown());
         tally.check(at, bytes(&given), &text(&here), &text(&asked), what);
         Ok(())
     };
@@ -54,13 +58,15 @@ fn each_pair(mode: Mode, total: &mut Total) -> Result<(), String> {
                 break given;
             }
         };
-        let asked = card::two(&given, met);
-        let arguments = given.each_ref().map(|given| given.argument.as_str());
+        let words = words(&one, random);
+        let words = words.as_deref();
+        let asked = card::two(words, &given, met);
+        let cards = given.each_ref().map(|given| given.argument.as_str());
         let files: Vec<_> = given.iter().filter_map(Given::files).collect();
-        let here = folder.run("card", &arguments, &files)?;
+        let here = folder.run("card", &arguments(words, &cards), &files)?;
         let what = || {
             let [first, second] = given.each_ref().map(Given::shown);
-            format!("seed {seed:#018x}, {first} and {second}")
+            format!("seed {seed:#018x}, size {words:?}, {first} and {second}")
         };
         let bytes = given.each_ref().map(bytes).concat();
         tally.check(at, &bytes, &text(&here), &text(&asked), what);
@@ -101,6 +107,19 @@ fn each_total(mode: Mode, total: &mut Total) -> Result<(), String> {
     total.add_programs(&tally);
     total.unmet += met.report();
     Ok(())
+}
+
+/// The words of a size for this card, if one is asked for.
+fn words(card: &[u8], random: &mut Random) -> Option<String> {
+    let opened = paper::open(card).map(|opened| opened.records);
+    size::words(&opened.unwrap_or_default(), random)
+}
+
+/// The option with its words, and the cards.
+fn arguments<'a>(words: Option<&'a str>, cards: &[&'a str]) -> Vec<&'a str> {
+    let option = words.map(|words| [size::OPTION, words]);
+    let option = option.into_iter().flatten();
+    option.chain(cards.iter().copied()).collect()
 }
 
 /// The card's, if it has any.

@@ -22,8 +22,8 @@ pub struct Run {
 /// An option of the program.
 #[derive(Clone, Copy, PartialEq, Debug)]
 pub enum Flag {
-    /// The clipped channels of each picture are told.
-    Clipped,
+    /// What each frame reports is told: its clipped channels and its samples.
+    Counts,
     Curve,
 }
 
@@ -37,7 +37,7 @@ impl Run {
         let mut arguments = Vec::new();
         for option in &self.options {
             match option {
-                Flag::Clipped => arguments.push("--clipped"),
+                Flag::Counts => arguments.push("--counts"),
                 Flag::Curve => arguments.extend(["--curve", &self.curve.name]),
             }
         }
@@ -108,7 +108,7 @@ pub fn run(seed: u64) -> Run {
 fn options(read: bool, random: &mut Random) -> Vec<Flag> {
     let mut options = Vec::new();
     if random.one_in(2) {
-        options.push(Flag::Clipped);
+        options.push(Flag::Counts);
     }
     if random.one_in(8) != read {
         options.push(Flag::Curve);

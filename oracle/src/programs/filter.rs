@@ -12,8 +12,9 @@ use crate::met::Met;
 use crate::passes::both::Both;
 use crate::passes::chain::{COLOUR, PERSISTENCE};
 use crate::passes::curves;
+use crate::reports::Reports;
 
-const USAGE: &str = "usage: filter [--clipped] [--curve FILE] CARD FRAME..   \
+const USAGE: &str = "usage: filter [--counts] [--curve FILE] CARD FRAME..   \
     (a card as a file or in hexadecimal; frames as binary PPM, up to 61440 pixels, no side above 1024; a curve as 256 binary32)";
 
 /// Why a file holds no curve.
@@ -98,11 +99,10 @@ fn played(run: &Run, met: &mut Met<OfRun>) -> Result<(Said, Vec<usize>), Said> {
         let (header, pixels) = bytes.split_at(frame.start);
         let word = |rgb: &[u8]| u32::from_be_bytes([0, rgb[0], rgb[1], rgb[2]]);
         let mut words: Vec<u32> = pixels.chunks(3).map(word).collect();
-        let clipped = pipeline.apply(&mut words, frame.width, frame.height, &curve);
+        let reports = pipeline.apply(&mut words, frame.width, frame.height, &curve);
         note_curve(run, &opened, met);
-        if run.has(Flag::Clipped) {
-            told.push_str(&format!("{}: {clipped} clipped channels\n", file.name));
-            met.note(OfRun::Clipped(clipped > 0));
+        if run.has(Flag::Counts) {
+            told.push_str(&counted(&file.name, reports, met));
         }
         written.extend_from_slice(header);
         for word in &words {
@@ -124,7 +124,15 @@ fn played(run: &Run, met: &mut Met<OfRun>) -> Result<(Said, Vec<usize>), Said> {
 /// Whether an option stands there twice.
 fn twice(options: &[Flag]) -> bool {
     let times = |flag| options.iter().filter(|&&other| other == flag).count();
-    times(Flag::Clipped) > 1 || times(Flag::Curve) > 1
+    times(Flag::Counts) > 1 || times(Flag::Curve) > 1
+}
+
+/// The line of a picture with what its frame reported.
+fn counted(name: &str, reports: Reports, met: &mut Met<OfRun>) -> String {
+    let Reports { clipped, samples } = reports;
+    met.note(OfRun::Clipped(clipped > 0));
+    met.note(OfRun::Sampled(samples > 0));
+    format!("{name}: {clipped} clipped channels, {samples} blur samples\n")
 }
 
 /// The curve that is named, which is looked at also where it is not read; else none.

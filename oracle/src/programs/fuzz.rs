@@ -8,7 +8,8 @@ use super::files::{File, Flag, Run};
 use super::filter;
 use super::ppm;
 use super::process::{Bytes, Said, FOLDER, MISSING, PIPE};
-use super::seeds::{FILE, TEXT};
+use super::seeds::{FILE, ONE, SIZED_ONE, SIZED_TWO, TEXT, TWO};
+use super::size;
 use crate::fuzz::{self, Tape};
 use crate::inside::{self, World};
 use crate::met::{Listed, Met};
@@ -29,13 +30,13 @@ const TOO_LONG: Bytes = Err("File name too long");
 /// The options that stand before the card; the first five are those that the program takes.
 const OPTIONS: [&[Flag]; 8] = [
     &[],
-    &[Flag::Clipped],
+    &[Flag::Counts],
     &[Flag::Curve],
-    &[Flag::Clipped, Flag::Curve],
-    &[Flag::Curve, Flag::Clipped],
-    &[Flag::Clipped, Flag::Clipped],
+    &[Flag::Counts, Flag::Curve],
+    &[Flag::Curve, Flag::Counts],
+    &[Flag::Counts, Flag::Counts],
     &[Flag::Curve, Flag::Curve],
-    &[Flag::Clipped, Flag::Curve, Flag::Clipped],
+    &[Flag::Counts, Flag::Curve, Flag::Counts],
 ];
 
 type Files = Vec<(String, Bytes)>;
@@ -47,27 +48,39 @@ extern "C" fn fuzz_card(data: *const u8, len: usize) -> i32 {
         rest: unsafe { fuzz::input(data, len) },
     };
     let mut world = World::default();
-    let count = match tape.byte() {
-        0..120 => 1,
-        120..240 => 2,
-        240..248 => 0,
-        _ => 3,
+    let (sized, count) = match tape.byte() {
+        ONE..SIZED_ONE => (false, 1),
+        SIZED_ONE..TWO => (true, 1),
+        TWO..SIZED_TWO => (false, 2),
+        SIZED_TWO..240 => (true, 2),
+        240..248 => (false, 0),
+        _ => (false, 3),
     };
+    if sized {
+        let words = text(tape.string());
+        world.arguments.extend([size::OPTION.to_string(), words]);
+    }
     for place in 0..count {
         let (argument, file) = argument(tape, &format!("{place}.card"));
         world.arguments.push(argument);
         world.files.extend(file);
     }
-    let given: Vec<Given> = world
-        .arguments
+    // Three arguments of its own making may be a size and a card, too.
+    let (words, cards) = match &world.arguments[..] {
+        [option, words, cards @ ..] if option == size::OPTION && matches!(cards.len(), 1 | 2) => {
+            (Some(words.as_str()), cards)
+        }
+        all => (None, all),
+    };
+    let given: Vec<Given> = cards
         .iter()
         .map(|argument| given(argument, &world.files))
         .collect();
     let (met, of_pair) = (&mut Met::new(), &mut Met::new());
     let asked = match <[Given; 2]>::try_from(given) {
-        Ok(two) => card::two(&two, of_pair),
+        Ok(two) => card::two(words, &two, of_pair),
         Err(given) => match &given[..] {
-            [one] => card::one(one, met),
+            [one] => card::one(words, one, met),
             _ => Said::error(card::USAGE),
         },
     };

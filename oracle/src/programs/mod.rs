@@ -16,5 +16,6 @@ mod ppm;
 pub mod process;
 #[cfg(with_original)]
 pub mod seeds;
+mod size;
 #[cfg(with_original)]
 mod totals;

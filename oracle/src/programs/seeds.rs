@@ -2,22 +2,37 @@
 
 use super::cards;
 use super::files;
+use super::size;
+use crate::cards::paper;
 use crate::random::Random;
 
 /// The first byte that stands before a text as an argument, and before what the file holds that an argument names.
 pub const TEXT: u8 = 0;
 pub const FILE: u8 = 128;
 
-/// One card or two, good ones and damaged ones, as a text or as a file.
+/// The first byte where one card is given, one behind the words of a size, two, and two behind such words.
+pub const ONE: u8 = 0;
+pub const SIZED_ONE: u8 = 80;
+pub const TWO: u8 = 120;
+pub const SIZED_TWO: u8 = 200;
+
+/// One card or two, good ones and damaged ones, as a text or as a file, and at times a size before them.
 pub fn card(random: &mut Random) -> Vec<u8> {
-    if random.one_in(2) {
-        let mut seed = vec![0];
-        let card = cards::card(random);
-        argument(&card, &mut seed, random);
-        return seed;
-    }
-    let mut seed = vec![120];
-    for card in cards::pair(random) {
+    let (cards, plain, sized) = if random.one_in(2) {
+        (vec![cards::card(random)], ONE, SIZED_ONE)
+    } else {
+        (cards::pair(random).to_vec(), TWO, SIZED_TWO)
+    };
+    let opened = paper::open(&cards[0]).map(|opened| opened.records);
+    let mut seed = match size::words(&opened.unwrap_or_default(), random) {
+        None => vec![plain],
+        Some(words) => {
+            let mut seed = vec![sized];
+            string(words.as_bytes(), &mut seed);
+            seed
+        }
+    };
+    for card in cards {
         argument(&card, &mut seed, random);
     }
     seed

@@ -1,6 +1,7 @@
 //! Agreement by trial: two stations from cards that normalise alike, each with its own past and its own
-//! buffers, then one shared list of calls. From the point that document 01 gives, answers, states and pictures
-//! have to be equal; before it they are looked at, since a trial in which nothing can differ shows nothing.
+//! buffers, then one shared list of calls. From the point that document 01 gives, answers, reports, states and pictures
+//! have to be equal; before it they are looked at, since a trial in which nothing can differ shows nothing. The samples
+//! that a frame reports have to be equal from the first call on.
 
 use super::calls::{self, Call, Frame, Sizes};
 use super::cards;
@@ -8,7 +9,8 @@ use super::cases::Point;
 use super::noise::Noise;
 use super::sides::Checked;
 use super::station::{Pending, Station};
-use crate::bridge::{self, Answer, Lent, State};
+use crate::bridge::{self, Answer, Lent, State, UNTOLD};
+use crate::cards::paper::Size;
 use crate::cards::spelling;
 use crate::met::Met;
 use crate::passes::chain::{COLOUR, PERSISTENCE};
@@ -27,12 +29,21 @@ struct Own {
     curve: Vec<f32>,
 }
 
-/// What a call gave. The picture is empty where there is none.
+/// What a call gave. The picture is empty where there is none, and the places of a report as they were.
 #[derive(PartialEq, Debug)]
 struct Seen {
     answer: Answer,
     state: State,
     picture: Vec<u32>,
+    reports: [u32; 2],
+}
+
+impl Seen {
+    /// Those of a frame that was accepted.
+    fn samples(&self) -> Option<u32> {
+        let [_, samples] = self.reports;
+        (self.reports != UNTOLD).then_some(samples)
+    }
 }
 
 /// Whether some picture before the point differed.
@@ -270,15 +281,17 @@ fn shared_list(
         let beside = b.station.clone();
         let here = a.call(&call, random, tally)?;
         let there = b.call(&call, random, tally)?;
-        if course.agreed && here != there {
+        // What a blur takes is a matter of the card and of the size: it waits for no point.
+        if course.agreed && here != there || here.samples() != there.samples() {
             return Err(format!(
                 "call {number} of the shared list, {call}: {here:08x?} and {there:08x?}"
             ));
         }
         differed |= here.picture != there.picture;
-        if here.answer != there.answer {
+        if here.reports != there.reports {
             met.note(Point::ClippedDiffers);
         }
+        note_samples(&here, course.agreed, met);
         if let Call::Frame(frame) = &call {
             let turned = [(&before, &here), (&beside, &there)]
                 .map(|(station, seen)| turns(station, &call, seen.answer));
@@ -293,6 +306,15 @@ fn shared_list(
         met.note(Point::Never);
     }
     Ok(differed)
+}
+
+/// Notes whether samples were taken for a shared frame.
+fn note_samples(seen: &Seen, agreed: bool, met: &mut Met<Point>) {
+    match seen.samples() {
+        None | Some(0) => {}
+        Some(_) if agreed => met.note(Point::Sampled),
+        Some(_) => met.note(Point::SampledBefore),
+    }
 }
 
 /// Notes what the curves of a shared frame were, which both took or refused.
@@ -330,18 +352,18 @@ impl Own {
     /// in the scratch, past the picture and past what is read of the curve, is another each time.
     fn call(&mut self, call: &Call, random: &mut Random, tally: &mut RunTally) -> Checked<Seen> {
         let mut picture = Vec::new();
+        let mut reports = UNTOLD;
         let (here, asked) = match call {
             Call::Frame(frame) => {
                 self.curve = self.curve_of(frame, random);
                 let (width, height) = frame.size;
                 let asked = self.station.frame(width, height, &frame.lent, &self.curve);
-                let here = self.frame(frame, random, &mut picture);
+                let here = self.frame(frame, random, &mut picture, &mut reports);
                 if asked.is_ok() {
                     self.station.take(frame.size);
                     tally.frame(picture.len());
                 }
-                // The clipped channels depend on the history: the runs hold them to the original's.
-                (here, asked.map(|()| here.unwrap_or_default()))
+                (here, asked.map(|()| 0))
             }
             Call::Reset => (bridge::reset(&mut self.state), self.station.reset()),
             Call::Switch(kind, on) => {
@@ -367,11 +389,31 @@ impl Own {
                 station.state()
             ));
         }
+        if let Call::Frame(frame) = call {
+            self.reported(frame.size, here.is_ok(), reports)
+                .map_err(|text| format!("{call}: {text}"))?;
+        }
         Ok(Seen {
             answer: here,
             state: self.state,
             picture,
+            reports,
         })
+    }
+
+    /// That an accepted frame reports the samples of the paper's station, and a refused one nothing. The clipped channels depend on the
+    /// history: the runs hold them to the original's.
+    fn reported(&self, size: Size, accepted: bool, reports: [u32; 2]) -> Checked {
+        let [clipped, _] = reports;
+        let asked = if accepted {
+            [clipped, self.station.samples(size)]
+        } else {
+            UNTOLD
+        };
+        if reports == asked {
+            return Ok(());
+        }
+        Err(format!("reports: here {reports:?}, by the model {asked:?}"))
     }
 
     /// That of the call, where the chain reads it; else any.
@@ -383,7 +425,13 @@ impl Own {
         curve.words(random.next())
     }
 
-    fn frame(&mut self, frame: &Frame, random: &mut Random, picture: &mut Vec<u32>) -> Answer {
+    fn frame(
+        &mut self,
+        frame: &Frame,
+        random: &mut Random,
+        picture: &mut Vec<u32>,
+        reports: &mut [u32; 2],
+    ) -> Answer {
         let Frame { size, lent, .. } = frame;
         let mut words = frame.words(random.next());
         let buffers = Lent {
@@ -392,6 +440,7 @@ impl Own {
             floats: &mut Noise::of(random.next()).floats(lent.floats),
             ints: &mut Noise::of(random.next()).words(lent.ints),
             curve: &self.curve,
+            reports,
         };
         let answer = bridge::apply(&mut self.state, size.0, size.1, buffers);
         if answer.is_ok() {

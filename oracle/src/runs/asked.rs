@@ -5,7 +5,7 @@ use super::cards;
 use super::sides::Checked;
 use super::station::HEIGHT_END;
 use super::still;
-use crate::bridge::{self, Answer, Lent, State};
+use crate::bridge::{self, Answer, Lent, State, UNTOLD};
 use crate::cards::paper::{self, Size};
 use crate::met::{Listed, Met};
 use crate::passes::chain::PERSISTENCE;
@@ -150,7 +150,7 @@ fn kept(station: &mut Tested) -> Checked {
                 station.call(what, asked, call)?;
                 station.stands(&with_pending(&state, pending))?;
                 if station.lent != lent {
-                    return Err(format!("{what}: another picture, history or card"));
+                    return Err(format!("{what}: another picture, history, card or report"));
                 }
             }
             station.commit()?;
@@ -238,6 +238,7 @@ struct Buffers {
     framebuffer: [u32; COUNT],
     history: [u32; ENOUGH],
     card: [u8; 72],
+    reports: [u32; 2],
 }
 
 impl Buffers {
@@ -246,6 +247,7 @@ impl Buffers {
             framebuffer: [0x12_3456, 0xff_ffff, 0, 0x80_4020, 0xff_00ff, 0x01_0203],
             history: [0x55_aa33; ENOUGH],
             card: [0xa5; 72],
+            reports: UNTOLD,
         }
     }
 
@@ -263,6 +265,7 @@ impl Buffers {
             floats: &mut vec![f32::NAN; scratch],
             ints: &mut vec![u32::MAX; scratch],
             curve: &curve,
+            reports: &mut self.reports,
         };
         bridge::apply(state, size.0, size.1, lent)
     }

@@ -1,5 +1,7 @@
 //! What may happen in a run or in a trial.
 
+use std::cmp::Ordering;
+
 use crate::met::Listed;
 use crate::passes::curves::Odd;
 
@@ -46,6 +48,14 @@ pub enum Bad {
     Word,
 }
 
+/// A line along which a blur goes: a row under NTSC, and a row and a column under bloom.
+#[derive(Clone, Copy, PartialEq, Debug)]
+pub enum Line {
+    NtscRow,
+    BloomRow,
+    BloomColumn,
+}
+
 #[derive(Clone, Copy, PartialEq, Debug)]
 pub enum Case {
     /// A frame through a chain without persistence, with persistence off, one that fills the history, one that
@@ -57,6 +67,14 @@ pub enum Case {
     Turned,
     /// An accepted frame of which no channel was clipped, and one of which some were.
     Clipped(bool),
+    /// One for which no sample was taken, one for which some were, and one for which as many were as for any frame.
+    Sampled(bool),
+    MostSampled,
+    /// A blur whose radius is less than, equal to or greater than the length of its lines; one whose lines have one place; and both
+    /// blurs on.
+    Radius(Line, Ordering),
+    OnePlace(Line),
+    BothBlurs,
     /// A frame that is lent not a word more than it needs.
     Exact,
     /// An accepted frame of this width and height.
@@ -158,6 +176,22 @@ impl Listed for Case {
         Case::Turned,
         Case::Clipped(false),
         Case::Clipped(true),
+        Case::Sampled(false),
+        Case::Sampled(true),
+        Case::MostSampled,
+        Case::Radius(Line::NtscRow, Ordering::Less),
+        Case::Radius(Line::NtscRow, Ordering::Equal),
+        Case::Radius(Line::NtscRow, Ordering::Greater),
+        Case::Radius(Line::BloomRow, Ordering::Less),
+        Case::Radius(Line::BloomRow, Ordering::Equal),
+        Case::Radius(Line::BloomRow, Ordering::Greater),
+        Case::Radius(Line::BloomColumn, Ordering::Less),
+        Case::Radius(Line::BloomColumn, Ordering::Equal),
+        Case::Radius(Line::BloomColumn, Ordering::Greater),
+        Case::OnePlace(Line::NtscRow),
+        Case::OnePlace(Line::BloomRow),
+        Case::OnePlace(Line::BloomColumn),
+        Case::BothBlurs,
         Case::Exact,
         Case::Size(1, 1),
         Case::Size(1024, 1),
@@ -344,6 +378,9 @@ pub enum Point {
     OneTurned,
     /// Another number of clipped channels before the point.
     ClippedDiffers,
+    /// A shared frame for which samples were taken: before the point, and from it on.
+    SampledBefore,
+    Sampled,
     /// From the point on, a shared frame whose channels start from curves that are equal, and from such as differ past the words that are
     /// read.
     Curved,
@@ -379,6 +416,8 @@ impl Listed for Point {
         Point::TurnedBefore,
         Point::OneTurned,
         Point::ClippedDiffers,
+        Point::SampledBefore,
+        Point::Sampled,
         Point::Curved,
         Point::CurvesPast,
         Point::CurvesUnread,

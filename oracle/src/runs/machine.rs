@@ -11,6 +11,7 @@ use crate::cards::paper::Size;
 use crate::passes::both::Both;
 use crate::passes::chain::{name, preset, LUT, PERSISTENCE};
 use crate::passes::effects::{built, effect};
+use crate::reports::Reports;
 
 pub struct Machine {
     /// None where the bytes are no good station's.
@@ -42,14 +43,14 @@ impl Machine {
         self.station.as_ref().map_or(self.given, Station::state)
     }
 
-    /// A frame: the picture takes the place of the first words. The answer is how many channels were clipped.
+    /// A frame: the picture takes the place of the first words. Gives what it reports, or why it is refused.
     pub fn frame(
         &mut self,
         words: &mut [u32],
         size: Size,
         lent: &Lengths,
         curve: &[f32],
-    ) -> Answer {
+    ) -> Result<Reports, u32> {
         let (width, height) = size;
         let station = self.station.as_mut().ok_or(13u32)?;
         station.frame(width, height, lent, curve)?;

@@ -8,7 +8,9 @@ use super::sides::{Checked, Sides};
 use super::station::{Station, HEIGHT_END};
 use crate::bridge::{self, State};
 use crate::cards::damage;
+use crate::cards::paper::{Opened, Record, Value};
 use crate::met::Met;
+use crate::passes::chain::{BLOOM, NTSC};
 use crate::random::Random;
 use crate::steps::Mode;
 use crate::tally::RunTally;
@@ -34,6 +36,9 @@ const LARGE: [(usize, usize); 5] = [
     (1023, 1024),
     (1024, 768),
 ];
+
+/// The largest of them.
+const LARGEST: [(usize, usize); 1] = [(1024, 1024)];
 
 /// A row and a column.
 const THIN: [(usize, usize); 4] = [(1024, 1), (1, 1024), (512, 2), (1, 1)];
@@ -68,7 +73,7 @@ impl Effort {
 pub fn all(mode: Mode) -> Vec<Run> {
     let random = &mut Random::named("runs");
     let effort = Effort::of(mode);
-    let mut runs = Vec::new();
+    let mut runs = vec![dearest()];
     let mut spent = 0;
     while spent < effort.all_large {
         spent += large(&effort, random, &mut runs);
@@ -78,6 +83,27 @@ pub fn all(mode: Mode) -> Vec<Run> {
         spent += other(random, &mut runs);
     }
     runs
+}
+
+/// Both blurs at their widest on the largest frames: no frame takes more samples.
+fn dearest() -> Run {
+    let [strength, radius] = [Value::Float(0.5), Value::Whole(64, 8)];
+    let record = |kind: u32, settings: &[Value]| Record {
+        kind,
+        on: true,
+        settings: settings.to_vec(),
+    };
+    let records = vec![
+        record(NTSC, &[strength, radius]),
+        record(BLOOM, &[Value::Whole(100, 8), strength, radius]),
+    ];
+    Run {
+        card: Opened { records }.written(),
+        seed: Random::named("dearest").next(),
+        calls: 3,
+        longest: 1024,
+        sizes: &LARGEST,
+    }
 }
 
 /// As many frames as a run's part of the time allows, and at least a few. Gives the time.

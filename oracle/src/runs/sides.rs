@@ -1,16 +1,17 @@
 //! One station on both sides, from call to call: the library's 80 bytes and lent buffers, and the machine.
 
 use super::calls::{Call, Frame};
-use super::cases::{Bad, Case, Short};
+use super::cases::{Bad, Case, Line, Short};
 use super::machine::Machine;
 use super::noise::Noise;
 use super::station::{float_room, Lengths, Pending, Station};
-use crate::bridge::{self, Answer, Lent, State};
+use crate::bridge::{self, Answer, Lent, State, UNTOLD};
 use crate::cards::paper::Size;
 use crate::met::Met;
-use crate::passes::chain::{COLOUR, LUT, PERSISTENCE};
+use crate::passes::chain::{BLOOM, COLOUR, LUT, NTSC, PERSISTENCE};
 use crate::passes::curves::{self, Odd, ODD};
 use crate::random::Random;
+use crate::reports::Reports;
 use crate::tally::RunTally;
 
 pub struct Sides {
@@ -142,9 +143,11 @@ impl Sides {
         let mut here = frame.words(random.next());
         let mut asked = here.clone();
         let curve = frame.curve.words(random.next());
-        let answer = self.machine.frame(&mut asked, *size, lent, &curve);
+        let counted = self.machine.frame(&mut asked, *size, lent, &curve);
+        let answer = counted.map(|_| 0);
         note_curve(&curve, self.machine.station(), answer, met);
 
+        let mut reports = UNTOLD;
         let mut scratch = Scratch::new(lent, random);
         let buffers = Lent {
             framebuffer: &mut here,
@@ -152,16 +155,32 @@ impl Sides {
             floats: &mut scratch.floats,
             ints: &mut scratch.ints,
             curve: &curve,
+            reports: &mut reports,
         };
         let given = bridge::apply(&mut self.state, size.0, size.1, buffers);
         let answer = answered(given, answer)?;
+        same("reports", reports, counted.map_or(UNTOLD, Reports::places))?;
         same_words("framebuffer", &here, &asked)?;
         // Only the first words of the scratch are free, and only after an accepted frame.
         scratch.unchanged_past(answer.map_or((0, 0), |_| *size))?;
-        if answer.is_ok() {
+        if let Ok(counted) = counted {
             tally.frame(size.0 * size.1);
+            self.by_the_paper(counted, *size)?;
+            note_reports(counted, met);
         }
         Ok(answer)
+    }
+
+    /// That the original takes the samples of document 02's P9 for a frame of this size. A frame changes no setting and no switch, so the
+    /// station may be that of after it.
+    fn by_the_paper(&self, counted: Reports, size: Size) -> Checked {
+        let paper = self.machine.station().map(|station| station.samples(size));
+        if paper == Some(counted.samples) {
+            return Ok(());
+        }
+        Err(format!(
+            "{counted:?} of the original, by the paper {paper:?} samples"
+        ))
     }
 }
 
@@ -171,10 +190,7 @@ fn note(call: &Call, before: Option<&Station>, asked: Answer, met: &mut Met<Case
         note_pending(call, before, asked, met);
     }
     match (call, asked, before) {
-        (Call::Frame(frame), Ok(clipped), Some(before)) => {
-            met.note(Case::Clipped(clipped > 0));
-            note_taken(frame, before, met);
-        }
+        (Call::Frame(frame), Ok(_), Some(before)) => note_taken(frame, before, met),
         (Call::Frame(frame), Err(number), _) => {
             met.note(Case::Frame(number));
             if let Some(fault) = before.and_then(|before| fault(before, frame)) {
@@ -220,8 +236,42 @@ fn note(call: &Call, before: Option<&Station>, asked: Answer, met: &mut Met<Case
     }
 }
 
+/// The most samples of any frame, by document 02's P9: at 1024 by 1024 with both blurs on, at 64.
+const MOST: u32 = 393_019_392;
+
+fn note_reports(counted: Reports, met: &mut Met<Case>) {
+    met.note(Case::Clipped(counted.clipped > 0));
+    met.note(Case::Sampled(counted.samples > 0));
+    if counted.samples == MOST {
+        met.note(Case::MostSampled);
+    }
+}
+
+/// Tells the list of cases how the blurs of an accepted frame go along its sides.
+fn note_blurs((width, height): Size, station: &Station, met: &mut Met<Case>) {
+    let [bleed, radius] = [NTSC, BLOOM].map(|kind| station.radius(kind));
+    let lines = [
+        (Line::NtscRow, bleed, width),
+        (Line::BloomRow, radius, width),
+        (Line::BloomColumn, radius, height),
+    ];
+    for (line, radius, places) in lines {
+        let Some(radius) = radius else {
+            continue;
+        };
+        met.note(Case::Radius(line, radius.cmp(&places)));
+        if places == 1 {
+            met.note(Case::OnePlace(line));
+        }
+    }
+    if bleed.is_some() && radius.is_some() {
+        met.note(Case::BothBlurs);
+    }
+}
+
 fn note_taken(frame: &Frame, before: &Station, met: &mut Met<Case>) {
     met.note(taken(frame.size, before));
+    note_blurs(frame.size, before, met);
     let curve = before.curved().map_or(0, |_| curves::READ);
     if (frame.lent, frame.curve.len) == (needed(before, frame.size), curve) {
         met.note(Case::Exact);

@@ -138,7 +138,21 @@ impl Station {
         paper::curved(self.records())
     }
 
-    /// Why a frame is refused, by the papers' table. What an accepted one reports is no station's to say.
+    /// The radius of a blur, where it is on.
+    pub fn radius(&self, kind: u32) -> Option<usize> {
+        let record = self.records().iter().find(|r| r.kind == kind && r.on)?;
+        match record.settings.last()? {
+            Value::Whole(radius, _) => Some(*radius as usize),
+            Value::Float(_) => panic!("a radius is no float"),
+        }
+    }
+
+    /// The samples that an accepted frame of this size reports. The clipped channels are no station's to say.
+    pub fn samples(&self, size: Size) -> u32 {
+        paper::samples(self.records(), size)
+    }
+
+    /// Why a frame is refused, by the papers' table.
     pub fn frame(
         &self,
         width: usize,

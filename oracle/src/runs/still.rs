@@ -75,6 +75,7 @@ impl Stand {
             floats: &mut self.floats,
             ints: &mut self.ints,
             curve: &[],
+            reports: &mut [0; 2],
         };
         accepted(bridge::apply(&mut self.state, SIDE, SIDE, lent), tally)?;
         tally.frame(COUNT);

@@ -9,5 +9,5 @@ use Rattle.chain.specs.Answers.{free}
 
 -- whatever the answer, the words past k stay
 pub stay : {A : Type 0} (a : FrameAnswer) (k : ℕ) (xs xs′ : List A) → drop (free a k) xs′ ≡ drop (free a k) xs → drop k xs′ ≡ drop k xs
-stay (Frame.Shown clipped) k xs xs′ e = e
+stay (Frame.Shown clipped samples) k xs xs′ e = e
 stay (Frame.Refused n) k xs xs′ e = ap (drop k) e

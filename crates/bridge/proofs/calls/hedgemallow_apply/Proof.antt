@@ -15,7 +15,7 @@ returns-2 c =
     let r = m .before .before .before .before .before .before .before .before .before .before .before in
     let t = r .before .before .before .before .before in
     frame-some _ _ _ _ _ _ _ _ _ _ (r .apply .result) _ _ _ _ _ _ _ (read _ _ (t .before .before .before .decode .ensures) (t .enum-told .given .1)) (r .apply .ensures)
-    (shows _ _ _ _ (r .apply .result) _ _ (m .told .given .1) (c .before .encode .ensures))
+    (shows _ _ _ _ (r .apply .result) _ _ _ (m .told .given .1) (c .before .encode .ensures))
 
 returns-3 : tie.Need-returns-3
 returns-3 c =

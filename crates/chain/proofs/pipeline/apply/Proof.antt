@@ -58,7 +58,7 @@ returns-2 c =
     let kept = run .run-chain .kept in
     record {
       replies = shown-frame _ (a .width) (a .height) (a .station) (a .framebuffer .now) (a .history .now) _ _ (a .curve .now)
-          (else .before .stops .ensures) (else .if1 .left) (run .run-chain .ensures);
+          (else .before .stops .ensures) (else .if1 .left) (run .run-chain .ensures .0) (run .run-chain .ensures .1);
       floats-stay = stays _ (left .1 .1 .1 .1 .0) (a .floats .now) (none else .floats-room) (kept .1 .1 .1 .1 .0);
       ints-stay = stays _ (left .1 .1 .1 .1 .1 .0) (a .ints .now) (none else .ints-room) (kept .1 .1 .1 .1 .1 .0);
     }

@@ -5,12 +5,12 @@ use mathlib.Core.Path.{refl}
 use borrow.Author.Needs.{needs}
 use Rattle.passes.specs.Laws.Rows.{frame-small}
 use Rattle.chain.specs.Chain.{paint}
-use Rattle.chain.proofs.Lending.{bleed-fine, radius-fine, curve-fine, painted-by, none-clipped}
+use Rattle.chain.proofs.Lending.{bleed-fine, radius-fine, curve-fine, painted-by, none-clipped, samples-by}
 use Rattle.chain.proofs.run.paint.Statement.{statement}
 use Rattle.chain.proofs.run.paint.Tie as tie
 
 -- what closes an arm's return
-ruleset arms = (painted-by, none-clipped, refl)
+ruleset arms = (painted-by, none-clipped, samples-by, refl)
 
 -- the two sides; then for each arm in order what its function asks; then for each arm its return
 pub paint-spec : {M : Type 1} → statement M

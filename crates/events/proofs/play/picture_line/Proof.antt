@@ -8,7 +8,7 @@ use Rattle.events.proofs.play.picture_line.Tie as tie
 returns : tie.Need-returns
 returns c =
     let p = c .before .before in
-    printed-as (picture _ _ _ (p .before .before .enum-told .given .1)) (p .frame-line .ensures)
+    printed-as (picture _ _ _ _ (p .before .before .enum-told .given .1)) (p .frame-line .ensures)
 
 returns-2 : tie.Need-returns-2
 returns-2 c =

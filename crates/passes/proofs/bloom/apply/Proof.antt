@@ -1,6 +1,6 @@
 -- `passes::bloom::apply` meets its contract: the planes at the start of the scratch, then the frame. Assumes nothing.
-use Prim.Native.Nat.{ℕ, _*_, _<_}
-use mathlib.Core.Path.{_≡_, sym, ap, _∙_}
+use Prim.Native.Nat.{ℕ, _+_, _*_, _≤_, _<_}
+use mathlib.Core.Path.{_≡_, sym, ap, ap₂, _∙_}
 use mathlib.Core.List.{List, _++_}
 use native.Mathlib.Omega.{arith}
 use native.Mathlib.Nat.{mul-assoc, mul-comm}
@@ -19,6 +19,7 @@ use Rattle.passes.specs.Private.{at, stored, horizontalBy, markClamped}
 use Rattle.passes.specs.declared.pixel.Rgb.{Rgb}
 use Rattle.passes.proofs.Planes.{same-composite, down-is}
 use Rattle.passes.proofs.Collected.{collected-clamped}
+use Rattle.passes.proofs.Counted.{rows-few}
 use Rattle.passes.proofs.bloom.apply.Statement.{statement}
 use Rattle.passes.proofs.bloom.apply.Tie as tie
 
@@ -71,7 +72,7 @@ module _ (c : tie.After-horizontal) where
       let t : Float = whole (a .threshold) in
       ap (λ (z : List Float). down (a .height) (a .radius) (stored z (a .width) which) x y) shared
       ∙ down-is (a .width) (a .height) (a .radius) (horizontalBy sums (a .width) (a .radius) t (a .frame .now)) (take (words lines) (a .scratch .now)) (c .horizontal .last .0)
-      (planes-long lines ∙ planes-sized lines) (c .horizontal .ensures) which x y i l
+      (planes-long lines ∙ planes-sized lines) (c .horizontal .ensures .0) which x y i l
       ∙ blur-same (weightSum (a .height) (a .radius)) (λ n. horizontalBy sums (a .width) (a .radius) t (a .frame .now) which x n)
       (λ n. horizontal (a .width) (a .radius) t (a .frame .now) which x n) (a .height) (a .radius) y
       (λ n m. blur-by sums (λ k. sample t (a .frame .now) (a .width) which k n) (a .width) (a .radius) x (weight-at (line .result) (a .width) (a .radius) x (line .ensures) l))
@@ -94,8 +95,25 @@ collect-requires c κs =
     let h = r .before .before .before .before .before .before .before in
     omega (arith, r .composite-rows .kept .0, frame-small (start (lines h) .pre .0))
 
+-- what both directions take
+module _ (c : tie.After-slice-known5) where
+  abbrev downed : tie.After-composite-rows
+  downed = c .before .before .before .before .before .before .before
+
+  abbrev crossed : tie.After-horizontal
+  crossed = downed .before .before .before .before .before .before .before
+
+  few : crossed .horizontal .result + downed .composite-rows .result ≤ 270532608
+  few =
+      let s = start (lines crossed) in
+      omega (
+        arith,
+        rows-few (s .args .height) (s .args .width) (s .args .radius) (s .pre .0 .high) (s .pre .0 .wide) (s .pre .1 .0) (crossed .horizontal .ensures .1),
+        rows-few (s .args .width) (s .args .height) (s .args .radius) (s .pre .0 .wide) (s .pre .0 .high) (s .pre .1 .0) (downed .composite-rows .ensures .1),
+      )
+
 returns : tie.Need-returns
-unfolding Text.Bloom.bloom
+unfolding Text.Bloom.bloom Text.Samples.bloomSamples
 returns c =
     let g = c .before .before in
     let r = g .before .before .before .before .before in
@@ -104,11 +122,12 @@ returns c =
     let a = s .args in
     let glowing : ℕ → ℕ → ℕ → Rgb = λ x y. composite (a .strength) (vertical (a .height) (a .radius) (horizontal (a .width) (a .radius) (whole (a .threshold)) (a .frame .now)) x y) in (
       collected-clamped (placed (a .width) glowing) _ _
-          (r .composite-rows .ensures
+          (r .composite-rows .ensures .0
           ∙ placed-ext (a .width) (a .height) (a .frame .now) (λ x y p. markClamped (composite (a .strength) (vertical (a .height) (a .radius) (stored (lent h) (a .width)) x y) p))
           (λ x y p. markClamped (glowing x y p)) (s .pre .0 .area)
           (λ x y p l m. ap markClamped (same-composite (a .strength) p (glows h 0 x y (omega arith) l) (glows h 1 x y (omega arith) l) (glows h 2 x y (omega arith) l))))
           (g .collect .ensures),
+      ap₂ (λ (across down : ℕ). across + down) (h .horizontal .ensures .1) (r .composite-rows .ensures .1),
       drop-at (h .horizontal .last .0) (drop (words (lines h)) (a .scratch .now)) (words (lines h)) (written h),
     )
 
@@ -120,4 +139,4 @@ apply-spec =
     (λ c. let k = c .before .before .before .before in sym (row-long k _ (k .before .before .weight-line .ensures .long))) (λ c. search needs)
     horizontal-requires (λ c. search needs) (λ c. let h = c .before .before .before .before .before in sym (ap length (shared h) ∙ written h))
     (λ c. search needs) (λ c. search needs) (λ c. sym (sums-long (lines (c .before .before .before .before .before .before)))) composite-rows-requires
-    collect-requires (λ c. search needs) (λ c. search needs) returns)
+    collect-requires (λ c. omega (arith, few c)) (λ c. omega (arith, few c)) (λ c. search needs) (λ c. search needs) returns)

@@ -27,4 +27,4 @@ add-four-spec =
     tie.close
     (tie.spec Inv-loop μ-loop (λ c. none _ _) (λ c. omega arith) (λ c. omega arith) (λ c. omega arith) (λ c. omega arith) (λ c. omega arith) (λ c. omega arith)
     (λ c. omega arith) (λ c. omega arith) (λ c. omega arith) (λ c. omega arith) (λ c. omega arith) (λ c. omega arith) (λ c. omega arith) (λ c. omega arith)
-    loop-again (λ c. c .before .loop .inv .kept) (λ c. all (c .before .loop .inv) (omega arith)))
+    loop-again (λ c. omega arith) (λ c. c .before .loop .inv .kept) (λ c. (all (c .before .loop .inv) (omega arith), omega arith)))

@@ -42,7 +42,7 @@ returns c =
     let r1 = r2 .before in
     let s = r1 .before .before .before .before in
     let a = s .args in
-    c .before .before .add-four .ensures
+    c .before .before .add-four .ensures .0
     ∙ four-added (a .acc .now) (a .plane .now) (a .height) (a .radius) (a .y) (a .k) (a .y + a .k - a .radius) _ _ _ _ _ (s .pre .2) (s .pre .3) refl
     (r1 .row-of .ensures) (r2 .row-of2 .ensures) (r3 .row-of3 .ensures) (r4 .row-of4 .ensures) (w .four-weights .ensures)
 

@@ -25,4 +25,4 @@ pub add-scaled-spec : {M : Type 1} → statement M
 add-scaled-spec =
     tie.close
     (tie.spec Inv-loop μ-loop (λ c. none _ _) (λ c. omega arith) (λ c. omega arith) (λ c. omega arith) (λ c. omega arith) (λ c. omega arith) (λ c. omega arith)
-    (λ c. omega arith) (λ c. omega arith) loop-again (λ c. c .before .loop .inv .kept) (λ c. all (c .before .loop .inv) (omega arith)))
+    (λ c. omega arith) (λ c. omega arith) loop-again (λ c. c .before .loop .inv .kept) (λ c. (all (c .before .loop .inv) (omega arith), omega arith)))

@@ -12,9 +12,11 @@ returns : tie.Need-returns
 returns c =
     let a = c .before .before .before .before .before .before in
     let s = a .before .before .before .before .before .args in
-    let src = s .src .now in
-    c .before .before .divide .ensures
-    ∙ every-twice (λ i v. weighted (at src) (length src) (s .radius) i) (λ i v. quotient v (at (s .w .now) i)) (s .out .now) (a .accumulate .last .0) (a .accumulate .ensures)
+    let src = s .src .now in (
+      c .before .before .divide .ensures
+          ∙ every-twice (λ i v. weighted (at src) (length src) (s .radius) i) (λ i v. quotient v (at (s .w .now) i)) (s .out .now) (a .accumulate .last .0) (a .accumulate .ensures .0),
+      a .accumulate .ensures .1,
+    )
 
 pub blur-line-spec : {M : Type 1} → statement M
 blur-line-spec = tie.close (tie.spec (λ c κs. search needs) (λ c κs. search needs) (λ c. search needs) returns)
