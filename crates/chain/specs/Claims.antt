@@ -9,7 +9,7 @@ use Rattle.cards.specs.Alike.{chainOf}
 use Rattle.cards.specs.Answers.{refusal}
 use Rattle.chain.specs.Calls.{pend, Framed, framed, frameReply}
 use Rattle.chain.specs.Chain.{depth}
-use Rattle.chain.specs.Machine.{Call, frame, reset, switch, ask, commit, step, State, call, after}
+use Rattle.chain.specs.Machine.{Call, frame, reset, switch, ask, commit, step, newDepth, State, call, after}
 use Rattle.cards.specs.Normal.{goodStation}
 use Rattle.cards.specs.declared.station.Pending.{Pending}
 use Rattle.cards.specs.declared.station.Pending.the-variants.{Nothing, Switch}
@@ -47,6 +47,7 @@ isAsking (switch kind on) = false
 isAsking (ask kind on) = true
 isAsking commit = true
 isAsking step = false
+isAsking (newDepth d history) = false
 
 -- every other call leaves what is asked for; asking changes nothing else; and a good station commits a switch as it makes one at once, with the
 -- same answer, and has nothing asked of it then
