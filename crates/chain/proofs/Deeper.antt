@@ -2,7 +2,7 @@
 use Prim.Native.Nat.{ℕ, zero, suc, _+_, _*_, _≤_}
 use native.Mathlib.Nat.{zero-add}
 use native.Mathlib.Omega.{arith}
-use mathlib.Core.Path.{_≡_, refl, ap, _∙_}
+use mathlib.Core.Path.{_≡_, refl, ap}
 use mathlib.Core.Bool.{Bool, true, false, _||_, cond}
 use mathlib.Core.List.{List, [], _∷_, _++_}
 use borrow.Author.Tests.{leb-true, le-leb, ltb-false, eqb-false}
@@ -14,6 +14,7 @@ use Rattle.num.specs.Laws.Bools.{both, false-true}
 use Rattle.num.specs.Laws.Refusals.{by}
 use Rattle.chain.specs.Calls.{lacks, onFirst, depthStops, withDepth, redepth}
 use Rattle.chain.specs.Chain.{depthOf, depth}
+use Rattle.cards.specs.Alike.{chainOf}
 use Rattle.cards.specs.Normal.{settled, counted, normalPass, normalChain}
 use Rattle.cards.specs.Passes.{kindOf}
 use Rattle.cards.specs.Records.{kinds, among}
@@ -24,6 +25,7 @@ use Rattle.cards.specs.declared.station.Station.{Station}
 use Rattle.cards.specs.Laws.Good.{Headed, headed, no-second}
 use Rattle.chain.proofs.Apart.{absent}
 use Rattle.chain.proofs.PassCases.{by-memory}
+use Rattle.chain.proofs.Replies.{present}
 
 -- ## The depth of a chain that is changed
 
@@ -56,6 +58,10 @@ redepth-depth d seen (r ∷ rs) n e =
     (omega arith, omega arith))
     (λ p m q z. let rest = ih (rw (m .kind) at z) in rw (m .kind, m .no-depth, zero-add (depth rs)) (rest .0, rw (zero-add (depth (redepth d rs))) (rest .1)))
     (r .pass) q e
+
+-- a station that a reset would be accepted of
+pub deep-enough : (s : Station) → lacks s 4 ≡ 0 → 1 ≤ depth (chainOf s)
+deep-enough s none = let p = present s 4 none in redepth-depth 0 [] (chainOf s) (p .0 .normal) (p .1) .0
 
 -- ## What no refusal of a new depth tells
 

@@ -36,7 +36,7 @@ use Rattle.cards.specs.declared.station.Station.{Station}
 use Rattle.chain.proofs.Apart.{Apart, quiet, keeping, depth-among, frame-length, past-length, chain-held, chain-near, chain-picture}
 use Rattle.num.specs.Laws.Bools.{both, false-true}
 use Rattle.chain.proofs.Curves.{reply-curve}
-use Rattle.chain.proofs.Deeper.{Deepens, deepens}
+use Rattle.chain.proofs.Deeper.{deepens}
 use Rattle.chain.proofs.Goes.{goes}
 use Rattle.chain.proofs.Kept.{Near, near-less, near-zero, near-nothing, near-resized, Fits}
 use Rattle.chain.proofs.Fit.{Fit, idle-held}
@@ -356,24 +356,24 @@ module _ (s : Station) (b : Held) (H G : List ℕ) (fit-s : Fit s) (fit-t : Fit 
   module _
       {c d : Call} (same : SameCall c d) (lH : lent c ≤ length H) (lG : lent c ≤ length G) (kept : changes this c ≡ false) (kept′ : changes that d ≡ false)
     where
-    first-step : Step (Whole c) 0 (call c this) (call d that)
-    first-step = call-step same lH lG kept kept′ 0 zero-le zero-le
+      first-step : Step (Whole c) 0 (call c this) (call d that)
+      first-step = call-step same lH lG kept kept′ 0 zero-le zero-le
 
-    -- persistence after it
-    persists-same : persists (chainOf (call c this .gives .station)) ≡ persists (chainOf (call d that .gives .station))
-    persists-same = ap (λ (u : Station). persists (chainOf u)) (first-step .alike)
+      -- persistence after it
+      persists-same : persists (chainOf (call c this .gives .station)) ≡ persists (chainOf (call d that .gives .station))
+      persists-same = ap (λ (u : Station). persists (chainOf u)) (first-step .alike)
 
-    -- both switch persistence off, or none
-    off-same : switchesOff this c ≡ switchesOff that d
-    unfolding after
-    off-same = ap₂ (λ (a o : Bool). a && (persists (chainOf s) && not o)) (first-step .accepted) persists-same
+      -- both switch persistence off, or none
+      off-same : switchesOff this c ≡ switchesOff that d
+      unfolding after
+      off-same = ap₂ (λ (a o : Bool). a && (persists (chainOf s) && not o)) (first-step .accepted) persists-same
 
-    -- and then nothing is held
-    off-held : switchesOff this c ≡ true → (call c this .gives .station .held ≡ nothing) × (call d that .gives .station .held ≡ nothing)
-    unfolding after
-    off-held z =
-        let off = not-true _ (both (persists (chainOf s)) _ (both (ok (call c this .gives .answer)) _ z .1) .1) in
-        (idle-held _ (call-fit c this fit-s) off, idle-held _ (call-fit d that fit-t) (sym persists-same ∙ off))
+      -- and then nothing is held
+      off-held : switchesOff this c ≡ true → (call c this .gives .station .held ≡ nothing) × (call d that .gives .station .held ≡ nothing)
+      unfolding after
+      off-held z =
+          let off = not-true _ (both (persists (chainOf s)) _ (both (ok (call c this .gives .answer)) _ z .1) .1) in
+          (idle-held _ (call-fit c this fit-s) off, idle-held _ (call-fit d that fit-t) (sym persists-same ∙ off))
 
   ends-same : {c d : Call} → SameCall c d → lent c ≤ length H → lent c ≤ length G → ends this c ≡ ends that d
   ends-same (frames e f) lH lG = refl

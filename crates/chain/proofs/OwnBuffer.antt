@@ -12,9 +12,8 @@ use Rattle.cards.specs.Settings.{oneAtLeast}
 use Rattle.cards.specs.declared.station.Station.{Station}
 use Rattle.passes.specs.Laws.Persistence.{resized-length}
 use Rattle.chain.proofs.Apart.{past-length}
-use Rattle.chain.proofs.Deeper.{redepth-depth, deepens}
+use Rattle.chain.proofs.Deeper.{deep-enough, deepens}
 use Rattle.chain.proofs.Goes.{goes}
-use Rattle.chain.proofs.Replies.{present}
 use Rattle.chain.proofs.Fit.{Fit}
 use Rattle.chain.proofs.Sound.{good-apart, enough, by-stop, call-fit}
 
@@ -33,8 +32,7 @@ depth-past d s past =
     by-stop (λ r. length (r .past) ≡ length past) _ s [] past _ refl
     (λ z.
     let g = deepens s d (length past) z in
-    let p = present s 4 (g .there) in
-    resized-length _ (oneAtLeast d) _ past (redepth-depth (oneAtLeast d) [] (chainOf s) (p .0 .normal) (p .1) .0) (g .room))
+    resized-length _ (oneAtLeast d) _ past (deep-enough s (g .there)) (g .room))
 
 pub call-length : (c : Call) (s : State) → Fit (s .station) → length (after c s .history) ≡ length (s .history)
 unfolding call after

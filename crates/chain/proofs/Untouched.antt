@@ -1,4 +1,4 @@
--- What a refusal keeps, and what no frame touches. Assumes nothing.
+-- What a refusal keeps, and what no frame and no new depth touches. Assumes nothing.
 use Prim.Native.Nat.{ℕ, zero, suc, _*_, _≤_}
 use mathlib.Core.Path.{_≡_, refl, ap, subst, _∙_}
 use mathlib.Core.Bool.{Bool, true, false, cond}
@@ -6,26 +6,29 @@ use mathlib.Core.List.{List, [], _++_}
 use lib.Ieee.{Float}
 use lib.ListN.{length, take, drop, take-append-drop}
 use lib.Seq.{length-take-le, drop-at}
-use Rattle.num.specs.Held.{Held, sized, sameHeld}
+use Rattle.num.specs.Held.{Held, sized, area, sameHeld}
 use Rattle.num.specs.Refusals.{unless}
 use Rattle.passes.specs as Text
 use Rattle.passes.specs.Flow.{Flow, flow}
 use Rattle.passes.specs.Painted.{onto}
 use Rattle.passes.specs.Plain.Persistence.{persistence, blend, refilled, shifted}
-use Rattle.passes.specs.Laws.Persistence.{refilled-rest, shifted-rest}
+use Rattle.passes.specs.Laws.Persistence.{refilled-rest, shifted-rest, resized-front, resized-rest}
 use Rattle.cards.specs.Alike.{chainOf}
 use Rattle.cards.specs.Answers.{Report, refusal, acceptance, reply, refusing}
 use Rattle.cards.specs.Laws.Answers.{accepted-not}
 use Rattle.chain.specs.Calls.{stops, lacks, askStops, commitStops, depthStops, Framed, framed}
 use Rattle.chain.specs.Calls.{refusingFrame, incoming, shown, shownBy, frameReplyBy, depthReply}
 use Rattle.chain.specs.Chain.{chain, depth}
-use Rattle.chain.specs.Claims.{Refused-keeps, Untouched}
+use Rattle.chain.specs.Claims.{Refused-keeps, Untouched, Depth-leaves}
 use Rattle.chain.specs.Machine.{Call, frame, reset, switch, ask, commit, step, newDepth, State, call, after}
+use Rattle.cards.specs.Settings.{oneAtLeast}
 use Rattle.cards.specs.declared.station.Record.{Record}
 use Rattle.cards.specs.declared.station.Station.{Station}
 use Rattle.chain.proofs.Apart.{repaint, Apart, quiet, keeping, apart, frame-length}
 use Rattle.cards.specs.Laws.Good.{good}
+use Rattle.chain.proofs.Deeper.{deep-enough, deepens}
 use Rattle.chain.proofs.Goes.{goes}
+use Rattle.chain.proofs.Sound.{by-stop}
 
 -- ## A refusal
 
@@ -120,3 +123,18 @@ stays w h s words past floats ints curve (suc n) e = (refl, refl, refl)
 pub untouched : Untouched
 unfolding frameReplyBy
 untouched w h s words past floats ints curve = stays w h s words past floats ints curve (stops s w h (length words) (length past) floats ints curve) refl
+
+-- ## What no new depth touches
+
+pub depth-leaves : Depth-leaves
+unfolding depthReply
+depth-leaves d s past =
+    let count = area (s .held) in
+    by-stop
+    (λ r. (take (depth (chainOf s) * count) (r .past) ≡ take (depth (chainOf s) * count) past)
+    × (drop (oneAtLeast d * count) (r .past) ≡ drop (oneAtLeast d * count) past) × (r .station .held ≡ s .held))
+    _ s [] past _ (refl, refl, refl)
+    (λ z.
+    let g = deepens s d (length past) z in
+    let some = deep-enough s (g .there) in
+    (resized-front _ (oneAtLeast d) count past some (g .room), resized-rest _ (oneAtLeast d) count past some (g .room), refl))

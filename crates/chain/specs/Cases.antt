@@ -354,7 +354,8 @@ renewedPictures-hold = refl
 abbrev pub deeper : List (List Report × List Report)
 deeper =
     (answers threeFrames (newDepth 9 0 ∷ newDepth 255 5 ∷ newDepth 8 0 ∷ []), refusal 6 ∷ refusal 6 ∷ refusal 10 ∷ [])
-    ∷ (answers threeFrames (newDepth 4 3 ∷ newDepth 4 4 ∷ newDepth 4 3 ∷ newDepth 0 0 ∷ newDepth 0 1 ∷ []), refusal 10 ∷ done ∷ refusal 10 ∷ refusal 10 ∷ done ∷ [])
+    ∷ (answers threeFrames (newDepth 4 3 ∷ newDepth 4 4 ∷ newDepth 4 3 ∷ []), refusal 10 ∷ done ∷ refusal 10 ∷ [])
+    ∷ (answers threeFrames (newDepth 0 0 ∷ newDepth 0 1 ∷ []), refusal 10 ∷ done ∷ [])
     ∷ (answers three (newDepth 8 0 ∷ newDepth 9 0 ∷ newDepth 3 0 ∷ []), done ∷ refusal 6 ∷ done ∷ [])
     ∷ (answers threeFrames (switch 4 false ∷ newDepth 8 0 ∷ switch 4 true ∷ newDepth 1 0 ∷ []), done ∷ done ∷ done ∷ done ∷ [])
     ∷ (answers (opened (stationOf []) []) (newDepth 9 0 ∷ newDepth 1 0 ∷ []), refusal 12 ∷ refusal 12 ∷ [])

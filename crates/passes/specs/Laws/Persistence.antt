@@ -8,7 +8,7 @@ use mathlib.Core.List.{List, _++_, append-assoc}
 use borrow.Author.Tests.{leb-true, leb-false}
 use lib.Dec.{leb}
 use lib.ListN.{length, getD, take, drop, length-append, length-drop}
-use lib.Seq.{take-append-add, take-add, take-at, take-take, getD-take, length-take-le, drop-at}
+use lib.Seq.{take-append-add, take-append-le, take-add, take-at, take-take, getD-take, length-take-le, drop-at}
 use lib.Ieee.{Float}
 use Rattle.num.specs.Const.{c1·0, c255·0}
 use Rattle.num.specs.F32.{_⊘_}
@@ -131,7 +131,7 @@ module _ (k d n : ℕ) (past : List ℕ) (some : 1 ≤ k) (room : d * n ≤ leng
       go true e = f
       go false e = let less : k < d = leb-false d k e in g (omega arith)
 
-  -- the history keeps its length, and the words past d places
+  -- the history keeps its length, the words of the k places, and those past d
   pub resized-length : length (resized k d n past) ≡ length past
   resized-length =
       by-depth (λ l. length l ≡ length past) refl
@@ -139,6 +139,14 @@ module _ (k d n : ℕ) (past : List ℕ) (some : 1 ≤ k) (room : d * n ≤ leng
 
   pub resized-rest : drop (d * n) (resized k d n past) ≡ drop (d * n) past
   resized-rest = by-depth (λ l. drop (d * n) l ≡ drop (d * n) past) refl (λ g. drop-at (grown k d n past) (drop (d * n) past) (d * n) (grown-long g))
+
+  pub resized-front : take (k * n) (resized k d n past) ≡ take (k * n) past
+  resized-front =
+      by-depth (λ l. take (k * n) l ≡ take (k * n) past) refl
+      (λ g.
+      let long : length (take (k * n) past) ≡ k * n = length-take-le (k * n) past (k-room g) in
+      take-append-le (k * n) (grown k d n past) (drop (d * n) past) (omega (arith, grown-long g, mul-le-mul-right n g))
+      ∙ take-at (take (k * n) past) (copies (d - k) (oldest k n past)) (k * n) long)
 
 -- of two histories whose k places agree, the d places do
 pub resized-same : (k d n : ℕ) (past was : List ℕ) → 1 ≤ k → d * n ≤ length past → d * n ≤ length was → take (k * n) past ≡ take (k * n) was

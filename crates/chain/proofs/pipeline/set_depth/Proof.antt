@@ -2,7 +2,6 @@
 use Prim.Native.Nat.{ℕ, _*_, _≤_, _<_}
 use native.Mathlib.Omega.{arith}
 use mathlib.Core.Bool.{true}
-use mathlib.Core.List.{[]}
 use mathlib.Core.Path.{_≡_, sym, subst₂, _∙_}
 use borrow.Author.Needs.{needs}
 use lib.ListN.{length}
@@ -12,7 +11,7 @@ use Rattle.cards.specs.Alike.{chainOf}
 use Rattle.cards.specs.Records.{kinds, among}
 use Rattle.cards.specs.Laws.Good.{Good}
 use Rattle.cards.specs.Laws.Ten.{unmapped}
-use Rattle.chain.proofs.Deeper.{Deepens, deepens, redepth-depth}
+use Rattle.chain.proofs.Deeper.{deep-enough, Deepens, deepens}
 use Rattle.chain.proofs.Replies.{present, redepths}
 use Rattle.chain.proofs.pipeline.set_depth.Statement.{statement}
 use Rattle.chain.proofs.pipeline.set_depth.Tie as tie
@@ -57,9 +56,8 @@ enough {room = room} e f = subst₂ (λ (i j : ℕ). i * j ≤ room) (sym e) (sy
 resize-requires : tie.Need-resize-requires
 resize-requires c κs =
     let o = one c in
-    let e = else o in
-    let p = there e in (
-      omega (arith, c .before .before .depth .ensures .0, redepth-depth 0 [] _ (p .0 .normal) (p .1) .0),
+    let e = else o in (
+      omega (arith, c .before .before .depth .ensures .0, deep-enough _ (goes e .there)),
       enough (o .one-at-least .ensures) (c .area .ensures .0) (goes e .room),
     )
 

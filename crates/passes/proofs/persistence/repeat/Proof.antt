@@ -1,10 +1,10 @@
 -- `passes::persistence::repeat` meets its contract: the words before are read where they still stand. Assumes nothing.
-use Prim.Native.Nat.{ℕ, suc, _+_, _-_, _≤_, _<_, zero-le}
+use Prim.Native.Nat.{ℕ, _+_, _-_, _≤_, _<_, zero-le}
 use native.Mathlib.Numerals.{add-one}
 use native.Mathlib.Omega.{arith}
 use mathlib.Core.Path.{_≡_, refl, sym, ap, _∙_}
 use mathlib.Core.List.{List, _++_}
-use lib.ListN.{length, getD, set, take, drop, length-append, length-drop, length-set, List·getD-append}
+use lib.ListN.{length, getD, set, take, drop, length-drop, length-set, List·getD-append}
 use lib.Seq.{getD-drop, getD-take, length-take-le, length-paste-head, paste, paste-zero, paste-suc}
 use Rattle.passes.proofs.persistence.repeat.Statement.{statement}
 use Rattle.passes.proofs.persistence.repeat.Tie as tie

@@ -2,9 +2,7 @@
 use Prim.Native.Nat.{_*_, _-_, _≤_}
 use native.Mathlib.Nat.{mul-le-mul-right}
 use native.Mathlib.Omega.{arith}
-use mathlib.Core.Path.{_≡_, sym, _∙_}
 use borrow.Author.Tests.{le-leb, lt-leb}
-use lib.ListN.{length}
 use Rattle.passes.specs.Plain.Persistence.{resized}
 use Rattle.passes.proofs.Places.{Growing, place-in, growing, before-in, growing-more, grown-all}
 use Rattle.passes.proofs.persistence.resize.Statement.{statement}
