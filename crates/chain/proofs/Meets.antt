@@ -229,12 +229,11 @@ module _ (s : Station) (b : Held) (H G : List ℕ) (fit-s : Fit s) (fit-t : Fit 
           pictures = λ z. refl;
         })
 
-    -- both accept it
-    renewed : (some : 1 ≤ depth (chainOf s)) → (c : Held) → Near j (s .held) c H G → D * area (s .held) ≤ l → s .held ≡ c → depth (chainOf s) ≤ j
-        → (n : ℕ) → n ≤ D
+    -- both accept it, and all places agree: so do those that there are then
+    renewed : 1 ≤ depth (chainOf s) → D * area (s .held) ≤ l → depth (chainOf s) ≤ j → (n : ℕ) → n ≤ D
         → take (n * area (s .held)) (resized (depth (chainOf s)) D (area (s .held)) (take l H) ++ drop l H)
-        ≡ take (n * area (s .held)) (resized (depth (chainOf s)) D (area c) (take l G) ++ drop l G)
-    renewed some c near room held all n le =
+        ≡ take (n * area (s .held)) (resized (depth (chainOf s)) D (area b) (take l G) ++ drop l G)
+    renewed some room all n le =
         let a = area (s .held) in
         let k = depth (chainOf s) in
         let X = resized k D a (take l H) in
@@ -244,11 +243,11 @@ module _ (s : Station) (b : Held) (H G : List ℕ) (fit-s : Fit s) (fit-t : Fit 
         let roomy : D * a ≤ length (take l H) = omega arith in
         let roomy′ : D * a ≤ length (take l G) = omega arith in
         let less : n * a ≤ D * a = mul-le-mul-right a le in
-        let whole = near-less (s .held) c (take l H) (take l G) k j all (near-lent j l (s .held) c H G near) .places in
+        let whole = near-less (s .held) b (take l H) (take l G) k j all (near-lent j l (s .held) b H G near) .places in
         take-append-le (n * a) X (drop l H) (omega (arith, resized-length k D a (take l H) some roomy))
         ∙ near-resized k D (s .held) (take l H) (take l G) some roomy roomy′ whole n le
         ∙ sym (take-append-le (n * a) Y (drop l G) (omega (arith, resized-length k D a (take l G) some roomy′)))
-        ∙ ap (λ (h : Held). take (n * a) (resized k D (area h) (take l G) ++ drop l G)) held
+        ∙ ap (λ (h : Held). take (n * a) (resized k D (area h) (take l G) ++ drop l G)) (held-same all)
 
     accepted-step : (A : Type 0) (n : ℕ) → (1 ≤ n → (depth (chainOf s) ≤ j) × (n ≤ D)) → 1 ≤ depth (chainOf s)
         → (k k′ : ℕ) → depthStops s d (length (take l H)) ≡ k → ok (this-depth k .answer) ≡ true → ok (that-depth k′ .answer) ≡ true
@@ -267,7 +266,7 @@ module _ (s : Station) (b : Held) (H G : List ℕ) (fit-s : Fit s) (fit-t : Fit 
         places zero all = near-zero (s .held) b _ _
         places (suc n) all =
             let p = all (omega arith) in
-            record { same-held = λ z. held-same (p .0); places = renewed some b near room (held-same (p .0)) (p .0) (suc n) (p .1) }
+            record { same-held = λ z. held-same (p .0); places = renewed some room (p .0) (suc n) (p .1) }
 
   -- a call that touches no word: where c holds it forgets what is held, else it keeps it
   reply-step : (A : Type 0) (n : ℕ) → n ≤ j → (k : ℕ) (reports : List ℕ) (c : Bool) (u : Station)
