@@ -28,8 +28,8 @@
  *                  Curvature takes it along with the pixel that it reads, every other pass clears it
  *                  in the pixels that it works out, and what no pass works out keeps it: the even rows
  *                  under scanlines, a frame with which persistence begins its history
- *     history      hedgemallow_depth(state) * count words: the same ones at each frame, at first with
- *                  anything in them
+ *     history      hedgemallow_depth(state) * count words: the same ones at each frame and at each
+ *                  new depth, at first with anything in them
  *     floats       3 * count + 3 * width words of scratch, whatever they hold (HEDGEMALLOW_FLOATS)
  *     ints         count words of scratch, whatever they hold
  *     curve        HEDGEMALLOW_CURVE words, each in 0..1, where the card has colour with a gamma other
@@ -85,7 +85,7 @@ extern "C" {
 #define HEDGEMALLOW_CARD 72
 
 /* The longest side of a frame, and the most frames that a history has room for. So the words of a history that serves every card are
-   HEDGEMALLOW_DEPTH * width * height. */
+   HEDGEMALLOW_DEPTH * width * height; they serve every new depth too. */
 #define HEDGEMALLOW_SIDE 1024
 #define HEDGEMALLOW_DEPTH 8
 
@@ -108,11 +108,12 @@ enum hedgemallow_refusal {
     HEDGEMALLOW_OVERFULL_CARD = 259,     /* 3, overfull card: more than 10 passes */
     HEDGEMALLOW_UNKNOWN_PASS = 260,      /* 4, unknown pass: kind 0 or 11 to 15 */
     HEDGEMALLOW_DOUBLED_PASS = 261,      /* 5, doubled pass: kind already read */
-    HEDGEMALLOW_BAD_SETTING = 262,       /* 6, bad setting: a setting out of range */
+    HEDGEMALLOW_BAD_SETTING = 262,       /* 6, bad setting: a setting out of range, a new depth above 8 too */
     HEDGEMALLOW_LONG_CARD = 263,         /* 7, long card: a padding bit set, or a byte left over */
     HEDGEMALLOW_BAD_SIZE = 264,          /* 8, bad size: width or height 0 or above 1024 */
     HEDGEMALLOW_SHORT_FRAME = 265,       /* 9, short frame: framebuffer below count */
-    HEDGEMALLOW_SHORT_HISTORY = 266,     /* 10, short history: history below depth * count, persistence on or off */
+    HEDGEMALLOW_SHORT_HISTORY = 266,     /* 10, short history: history below depth * count, persistence on or off;
+                                            for a new depth, below it * the count of the frames that are held */
     HEDGEMALLOW_SHORT_SCRATCH = 267,     /* 11, short scratch: floats below 3 * count + 3 * width, or ints below count */
     HEDGEMALLOW_NOT_IN_CHAIN = 268,      /* 12, not in chain: the pass of the call is not in the chain */
     HEDGEMALLOW_BAD_STATION = 269,       /* 13, bad station: the bytes are no state */
@@ -199,8 +200,19 @@ uint32_t hedgemallow_commit(uint8_t state[HEDGEMALLOW_STATE]);
 /* Steps the LUT to its next preset, and reports it, 0 to 6. Refusals 13, 12. */
 uint32_t hedgemallow_cycle_lut(uint8_t state[HEDGEMALLOW_STATE]);
 
-/* Reports how many frames of count words the history must have room for, 0 to 8. Refusal 13: look at the answer
-   before it is multiplied. */
+/* Takes a new depth for persistence, on or off, between two frames, and lets what the history holds go
+   on: there is no refill. Depth 0 is taken as 1, as on a card; the present depth may be named too. The
+   history is lent as to a frame. Let count be that of the frames that it holds, newest first. A smaller
+   depth keeps the newest of them, and no word changes. A larger one repeats the oldest behind it until
+   depth * count words are full, and the words past them stay. Where nothing is held, as after a reset
+   and while persistence is off, no word changes and none is asked for. The switch, the amount, the size
+   that is held and the pending switch stay. Afterwards hedgemallow_depth reports the new depth,
+   hedgemallow_write writes it, and a frame takes the new depth * its own count words of history.
+   Refusals 13, 12, 6, 10, in that order. */
+uint32_t hedgemallow_set_depth(uint8_t state[HEDGEMALLOW_STATE], uint32_t *history, size_t history_len, uint8_t depth);
+
+/* Reports how many frames of count words the history must have room for, 0 to 8: as the card says, or the last
+   hedgemallow_set_depth. Refusal 13: look at the answer before it is multiplied. */
 uint32_t hedgemallow_depth(const uint8_t state[HEDGEMALLOW_STATE]);
 
 /* Reports whether the pass of that kind, 1 to 10, is on: 1, or 0 where it is off. Nothing is switched.

@@ -92,6 +92,26 @@ static void tell(const struct frame *f) {
     free(curve);
 }
 
+/* A new depth on a copy of the state, one above the present one, or 1 for 8: in a block of as many words as it asks for, of which nobody
+   wrote those that are to repeat the oldest frame; and in one of a word less, which is refused. Without persistence no depth is taken. */
+static void deepen(void) {
+    size_t depth = hedgemallow_depth(state), other = depth % HEDGEMALLOW_DEPTH + 1;
+    size_t held = (size_t)(state[73] << 8 | state[74]) * (size_t)(state[75] << 8 | state[76]), words = other * held;
+    uint8_t *copy = memcpy(room(HEDGEMALLOW_STATE), state, HEDGEMALLOW_STATE);
+    if (words) {
+        uint32_t *short_block = room((words - 1) * 4);
+        if (hedgemallow_set_depth(copy, short_block, words - 1, (uint8_t)other) != HEDGEMALLOW_SHORT_HISTORY) printf("no refusal 10\n");
+        free(short_block);
+    }
+    uint32_t *block = room(words * 4);
+    memcpy(block, history, (other < depth ? other : depth) * held * 4);
+    if (hedgemallow_set_depth(copy, block, words, (uint8_t)other) != (depth ? 0 : HEDGEMALLOW_NOT_IN_CHAIN)) printf("another answer to a new depth\n");
+    if (hedgemallow_depth(copy) != (depth ? other : 0)) printf("another depth\n");
+    for (size_t i = 0; i < words; i++) fprintf(nowhere, "%u\n", (unsigned)block[i]);
+    free(block);
+    free(copy);
+}
+
 static int frame(void) {
     const uint8_t *size = take(2), *pixels;
     if (!size) return refused(1);
@@ -109,6 +129,7 @@ static int frame(void) {
     for (size_t i = 0; i < words; i++)
         f.picture[i] = (uint32_t)pixels[3 * i] << 16 | (uint32_t)pixels[3 * i + 1] << 8 | pixels[3 * i + 2];
     tell(&f);
+    deepen();
     free(f.picture);
     free(f.ints);
     free(f.reports);

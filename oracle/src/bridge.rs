@@ -99,6 +99,12 @@ pub fn cycle_lut(state: &mut State) -> Answer {
     answer(unsafe { exports::hedgemallow_cycle_lut(state.as_mut_ptr()) })
 }
 
+pub fn set_depth(state: &mut State, history: &mut [u32], depth: u8) -> Answer {
+    let (words, len) = (history.as_mut_ptr(), history.len());
+    // SAFETY: as above.
+    answer(unsafe { exports::hedgemallow_set_depth(state.as_mut_ptr(), words, len, depth) })
+}
+
 pub fn depth(state: &State) -> Answer {
     // SAFETY: as above.
     answer(unsafe { exports::hedgemallow_depth(state.as_ptr()) })

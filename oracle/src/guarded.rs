@@ -187,6 +187,18 @@ pub fn cycle_lut(state: &mut State) -> Answer {
     on_state(state, plain::cycle_lut)
 }
 
+pub fn set_depth(state: &mut State, history: &mut [u32], depth: u8) -> Answer {
+    let (answer, after, words) = twice(|rooms, guard| {
+        let copy = array(rooms.state.lay(&*state, guard));
+        let laid = rooms.history.lay(history, guard);
+        let answer = plain::set_depth(copy, laid, depth);
+        (answer, *copy, laid.to_vec())
+    });
+    *state = after;
+    history.copy_from_slice(&words);
+    answer
+}
+
 /// A question, which leaves the state.
 fn of_state(state: &State, question: impl Fn(&State) -> Answer) -> Answer {
     let mut copy = *state;

@@ -775,14 +775,15 @@ pub struct Total {
     inputs: u64,
     calls: u64,
     turned: u64,
+    resized: u64,
     curved: u64,
     pub different: u64,
     /// What a comparison was to meet and did not.
     pub unmet: u64,
 }
 
-/// In a list of the comparison at least so many frames have to be turned, and so many have to have a curve: else it shows little of
-/// them.
+/// In a list of the comparison at least so many frames have to be turned, so many have to come after a new depth, and so many have to
+/// have a curve: else it shows little of them.
 const LEAST: u64 = 150;
 
 impl Total {
@@ -850,18 +851,25 @@ impl Total {
     /// original would mix such a frame with those: there it was made to begin anew.
     pub fn add_turned(&mut self, turned: u64) {
         self.turned += turned;
-        self.ask_for("turned", turned);
+        self.ask_for("turned frames", turned);
+    }
+
+    /// Prints how many frames of a list came after a new depth, and adds them. The original cannot change its depth: there it was one
+    /// that was built with the new depth and shown what was held.
+    pub fn add_resized(&mut self, resized: u64) {
+        self.resized += resized;
+        self.ask_for("frames after a new depth", resized);
     }
 
     /// Prints how many frames of a list started their channels from a curve, and adds them.
     pub fn add_curved(&mut self, curved: u64) {
         self.curved += curved;
-        self.ask_for("curved", curved);
+        self.ask_for("curved frames", curved);
     }
 
     /// Prints how many of a list's frames are such.
     fn ask_for(&mut self, such: &str, frames: u64) {
-        println!("    {such} frames: {frames}");
+        println!("    {such}: {frames}");
         if frames < LEAST {
             println!("    too few: less than {LEAST}");
             self.unmet += 1;
@@ -880,6 +888,7 @@ impl fmt::Display for Total {
             inputs,
             calls,
             turned,
+            resized,
             curved,
             different,
             unmet,
@@ -893,6 +902,9 @@ impl fmt::Display for Total {
         }
         if *turned > 0 {
             write!(f, ", {turned} turned frames")?;
+        }
+        if *resized > 0 {
+            write!(f, ", {resized} frames after a new depth")?;
         }
         if *curved > 0 {
             write!(f, ", {curved} curved frames")?;

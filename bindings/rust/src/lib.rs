@@ -56,6 +56,7 @@ pub(crate) mod exports {
         pub fn hedgemallow_ask(state: *mut u8, kind: u8, on: u8) -> u32;
         pub fn hedgemallow_commit(state: *mut u8) -> u32;
         pub fn hedgemallow_cycle_lut(state: *mut u8) -> u32;
+        pub fn hedgemallow_set_depth(state: *mut u8, history: *mut u32, history_len: usize, depth: u8) -> u32;
         pub fn hedgemallow_depth(state: *const u8) -> u32;
         pub fn hedgemallow_enabled(state: *const u8, kind: u8) -> u32;
         pub fn hedgemallow_preset(state: *const u8) -> u32;
@@ -483,6 +484,35 @@ impl Station {
         report(unsafe { exports::hedgemallow_preset(self.state.as_ptr()) }).map(preset)
     }
 
+    /// Takes a new depth for persistence, on or off, between two frames, and lets what the history holds go on: there is no refill. A
+    /// depth of 0 is taken as 1, as a card has it; the present depth may be named too. A smaller depth keeps the newest frames, and no
+    /// word changes. A larger one repeats the oldest behind it, up to the new depth times the words of a frame that is held, and the
+    /// words past them stay.
+    ///
+    /// The history is lent as to a frame. `ShortHistory` tells that it has fewer words than that; where nothing is held none is asked
+    /// for, and `&mut []` will do. `BadSetting` tells that the depth is above [`DEPTH`]. Afterwards a frame takes as many words of
+    /// history as [`Station::history_words`] then says, and [`Station::write`] writes the new depth.
+    ///
+    /// ```
+    /// # use hedgemallow::{Refusal, Station};
+    /// // Persistence 0.5 with depth 1, on.
+    /// let mut station = Station::open(&[0x11, 0x49, 0xF8, 0, 0, 0, 0x08])?;
+    /// let (mut history, mut floats, mut ints) = ([0; 2], [0.0; 6], [0]);
+    /// station.apply(&mut [0xFFFFFF], 1, 1, &mut history, &mut floats, &mut ints, &[])?;
+    ///
+    /// // Between heats.
+    /// assert_eq!(station.set_depth(&mut history, 3), Err(Refusal::ShortHistory));
+    /// station.set_depth(&mut history, 2)?;
+    /// assert_eq!((station.depth(), history), (Ok(2), [0xFFFFFF; 2]));
+    /// # Ok::<(), Refusal>(())
+    /// ```
+    pub fn set_depth(&mut self, history: &mut [u32], depth: usize) -> Result<(), Refusal> {
+        // What no byte holds is above the limit, as 255 is.
+        let depth = u8::try_from(depth).unwrap_or(u8::MAX);
+        let (words, len) = (history.as_mut_ptr(), history.len());
+        report(unsafe { exports::hedgemallow_set_depth(self.state.as_mut_ptr(), words, len, depth) }).map(|_| ())
+    }
+
     /// How many older frames the history has room for.
     pub fn depth(&self) -> Result<usize, Refusal> {
         report(unsafe { exports::hedgemallow_depth(self.state.as_ptr()) }).map(|k| k as usize)
@@ -852,7 +882,7 @@ mod tests {
         assert_eq!(station, asked);
     }
 
-    /// Frames, resets, switches of that pass too, preset steps, writing and refused calls.
+    /// Frames, resets, switches of that pass too, preset steps, new depths, writing and refused calls.
     #[test]
     fn nothing_but_a_commit_clears_what_is_pending() {
         let (mut station, mut other) = (opened(), opened());
@@ -872,6 +902,8 @@ mod tests {
         both(&|station| station.set_enabled(Kind::Lut, true).map(|_| 0));
         both(&|station| station.set_enabled(Kind::Bloom, true).map(|_| 0));
         both(&|station| station.cycle_lut().map(|preset| preset as u32));
+        both(&|station| station.set_depth(&mut [0; 6], 2).map(|_| 0));
+        both(&|station| station.set_depth(&mut [], 3).map(|_| 0));
         both(&|station| station.write(&mut [0; 72]).map(|length| length as u32));
         both(&|station| station.write(&mut []).map(|length| length as u32));
         both(&|station| station.enabled(Kind::Lut).map(u32::from));
@@ -895,6 +927,90 @@ mod tests {
                 assert_eq!(told, if good { Ok(pending) } else { Err(BadStation) }, "{kind} {on}");
             }
         }
+    }
+
+    /// A station of the card that was shown 1, 2 and 3 in this order, frames of two words, and its history.
+    fn remembering() -> (Station, [u32; 20]) {
+        let (mut station, mut history) = (opened(), [9; 20]);
+        for word in 1..=3 {
+            station.apply(&mut [word; 2], 2, 1, &mut history, &mut [0.0; 12], &mut [0; 2], &[]).unwrap();
+        }
+        assert_eq!(history[..7], [3, 3, 2, 2, 1, 1, 9]);
+        (station, history)
+    }
+
+    /// The state is another in the card's depth alone: 3 bits of byte 6 and 5 of byte 7.
+    #[test]
+    fn a_new_depth_keeps_what_is_held() {
+        let (before, words) = remembering();
+        for depth in 0..=8 {
+            let (mut station, mut history) = (before.clone(), words);
+            station.ask(Kind::Lut, false).unwrap();
+            let mut bytes = *station.as_bytes();
+            assert_eq!(station.set_depth(&mut history, depth), Ok(()));
+            let new = depth.max(1);
+            bytes[7] = 0x02 | (new as u8) << 3;
+            assert_eq!((station.depth(), station.as_bytes()), (Ok(new), &bytes));
+            let mut expected = words;
+            expected[6..2 * new.max(3)].fill(1);
+            assert_eq!(history, expected);
+            assert_eq!(station.history_words(2, 1), Ok(2 * new));
+        }
+    }
+
+    /// Persistence 0.5 with depth 1, a white frame and then black ones: what was white is shown once, twice as the oldest, and no more as
+    /// soon as the depth leaves it behind.
+    #[test]
+    fn a_frame_shows_the_new_depth() {
+        let mut before = Station::open(&[0x11, 0x49, 0xF8, 0, 0, 0, 0x08]).unwrap();
+        let shows = |station: &mut Station, word: u32, history: &mut [u32]| {
+            let mut frame = [word];
+            station.apply(&mut frame, 1, 1, history, &mut [0.0; 6], &mut [0], &[]).unwrap();
+            frame[0]
+        };
+        let mut words = [7; 2];
+        assert_eq!(shows(&mut before, 0xFFFFFF, &mut words), 0xFFFFFF);
+        let (mut station, mut history) = (before.clone(), words);
+        assert_eq!(shows(&mut station, 0, &mut history), 0x555555);
+        let (mut station, mut history) = (before, words);
+        station.set_depth(&mut history, 2).unwrap();
+        assert_eq!(shows(&mut station, 0, &mut history), 0x6F6F6F);
+        let (mut kept, mut longer) = (station.clone(), history);
+        assert_eq!(shows(&mut kept, 0, &mut longer), 0x272727);
+        station.set_depth(&mut history, 1).unwrap();
+        assert_eq!(shows(&mut station, 0, &mut history), 0);
+    }
+
+    /// Of the words that are lent none is asked for where nothing is held: after opening, after a reset, while persistence is off.
+    #[test]
+    fn a_new_depth_asks_for_the_words_of_what_is_held() {
+        let (before, words) = remembering();
+        for depth in 1..=8 {
+            let (mut station, mut history) = (before.clone(), words);
+            assert_eq!(station.set_depth(&mut history[..2 * depth - 1], depth), Err(ShortHistory));
+            assert_eq!((&station, history), (&before, words));
+            assert_eq!(station.set_depth(&mut history[..2 * depth], depth), Ok(()));
+            let (mut reset, mut off) = (before.clone(), before.clone());
+            reset.reset().unwrap();
+            off.set_enabled(Kind::Persistence, false).unwrap();
+            for mut station in [opened(), reset, off] {
+                assert_eq!(station.set_depth(&mut [], depth), Ok(()));
+                assert_eq!(station.depth(), Ok(depth));
+            }
+        }
+    }
+
+    /// 12 comes before 6, and 6 before 10; no refusal changes the station.
+    #[test]
+    fn no_depth_is_above_the_limit() {
+        let (mut station, mut history) = remembering();
+        let before = (station.clone(), history);
+        for depth in [9, 10, 255, 256, 257, 264, usize::MAX] {
+            assert_eq!(station.set_depth(&mut history, depth), Err(BadSetting));
+            assert_eq!(station.set_depth(&mut [], depth), Err(BadSetting));
+            assert_eq!(Station::open(&[0x10]).unwrap().set_depth(&mut [], depth), Err(NotInChain));
+        }
+        assert_eq!((station, history), before);
     }
 
     #[test]
@@ -937,6 +1053,7 @@ mod tests {
                         assert_eq!(station.preset(), Err(BadStation));
                         let (mut frame, mut history) = ([7], [7; 3]);
                         assert_eq!(station.apply(&mut frame, 1, 1, &mut history, &mut [0.0; 6], &mut [0], &[]), Err(BadStation));
+                        assert_eq!(station.set_depth(&mut history, 3), Err(BadStation));
                         assert_eq!((station.state, frame, history), (bytes, [7], [7; 3]));
                         refused += 1;
                     }

@@ -8,15 +8,15 @@ use lib.ListN.{length, replicate}
 use lib.Seq.{take-length}
 use Rattle.cards.specs.Bits.{valueAt, fieldAt}
 use Rattle.cards.specs.Answers.{Report, refusal, acceptance, ok, Reply, left}
-use Rattle.chain.specs.Calls.{resetReply, switchReply, askReply, commitReply, stepReply, Framed, frameReply}
+use Rattle.chain.specs.Calls.{resetReply, switchReply, askReply, commitReply, stepReply, Framed, frameReply, depthReply}
 use Rattle.cards.specs.Card.{headerAt, stationAt, accepted, openedOf, openOf}
-use Rattle.chain.specs.Machine.{frame, reset, switch, ask, commit, step, State, call, after}
+use Rattle.chain.specs.Machine.{frame, reset, switch, ask, commit, step, newDepth, State, call, after}
 use Rattle.cards.specs.Normal.{goodStation}
 use Rattle.cards.specs.Step.{Step, took, refused, refuseIf}
 use Rattle.cards.specs.declared.station.Station.{Station}
 use Rattle.num.specs.Laws.Bools.{both, false-true}
 use Rattle.bridge.specs.Claims.{Whole, Closed}
-use Rattle.bridge.specs.Outcomes.{opening, onState, frameShown}
+use Rattle.bridge.specs.Outcomes.{opening, onState, depthSet, frameShown}
 use Rattle.bridge.specs.State.{cardIn, stationIn, encoded, sameBytes, isState}
 use Rattle.bridge.proofs.Bytes.{same-equal}
 use Rattle.bridge.proofs.Lasting.{opened-whole, call-whole}
@@ -119,6 +119,17 @@ frame-state w h b words past floats ints curve old e =
     let r : Framed = frameReply w h (stationIn b) words past floats ints curve in
     rw e (left-state (r .answer) b (encoded (r .station)) e (encoded-state (r .station) (frame-whole w h words past floats ints curve (stationIn b) (state-whole b e))))
 
+depth-whole : (d : ℕ) (past : List ℕ) (s : Station) → Whole s → Whole (depthReply d s past .station)
+unfolding after call
+depth-whole d past s t =
+    subst (λ (l : List ℕ). Whole (depthReply d s l .station)) (take-length past) (call-whole (newDepth d (length past)) (with-past s past) t)
+
+depth-state : (d : ℕ) (b past : List ℕ) → isState b ≡ true → isState (depthSet d b past .0 .state) ≡ true
+unfolding depthSet
+depth-state d b past e =
+    let r : Framed = depthReply d (stationIn b) past in
+    rw e (left-state (r .answer) b (encoded (r .station)) e (encoded-state (r .station) (depth-whole d past (stationIn b) (state-whole b e))))
+
 pub closed : Closed
 closed =
     record {
@@ -130,4 +141,5 @@ closed =
       by-ask = λ kind on. on-state (askReply kind on) (ask-whole kind on);
       by-commit = on-state commitReply commit-whole;
       by-step = on-state stepReply step-whole;
+      by-depth = depth-state;
     }

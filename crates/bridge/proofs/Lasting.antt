@@ -16,7 +16,7 @@ use Rattle.cards.specs.declared.station.Station.{Station}
 use Rattle.cards.proofs.Chain.{NormalPass, NormalChain}
 use Rattle.chain.proofs.Changed.{shapes}
 use Rattle.cards.specs.Laws.Good.{good}
-use Rattle.chain.proofs.PassCases.{blank, by-preset}
+use Rattle.chain.proofs.PassCases.{blank, by-setting}
 use Rattle.chain.proofs.Fit.{Fixed, Fit, After, opened-fit}
 use Rattle.chain.proofs.Sound.{call-after, call-fit}
 use Rattle.cards.proofs.Theorems.{accepted-opens}
@@ -58,12 +58,12 @@ opened-whole card s e =
 
 -- ## Each call
 
--- a pass but for its preset is typed where the pass is
+-- a pass but for its preset and its depth is typed where the pass is
 typed-blank : (p : Pass) → Typed p → Typed (blank p)
-typed-blank = by-preset (λ p. Typed p → Typed (blank p)) (λ preset strength t. t) (λ p o t. subst Typed (sym (o .whole)) t)
+typed-blank = by-setting (λ p. Typed p → Typed (blank p)) (λ preset strength t. t) (λ amount k t. t) (λ p o t. subst Typed (sym (o .whole)) t)
 
 blank-typed : (p : Pass) → Typed (blank p) → Typed p
-blank-typed = by-preset (λ p. Typed (blank p) → Typed p) (λ preset strength t. t) (λ p o t. subst Typed (o .whole) t)
+blank-typed = by-setting (λ p. Typed (blank p) → Typed p) (λ preset strength t. t) (λ amount k t. t) (λ p o t. subst Typed (o .whole) t)
 
 abbrev TypedShapes : List Pass → Type 0
 TypedShapes [] = Unit {0}
@@ -80,7 +80,7 @@ shapes-typed (r ∷ rs) t = (blank-typed (r .pass) (t .0), shapes-typed rs (t .1
 whole-fit : (s : Station) → Whole s → Fit s
 whole-fit s w = record { sound = w .good; room = length-take-le (s .n) (s .records) (omega (arith, w .ten, good s (w .good) .few)) }
 
--- what a call leaves: switches and preset apart, the station that it got
+-- what a call leaves: switches, preset and depth apart, the station that it got
 after-whole : (s t : Station) → Whole s → After s t → Fit t → Whole t
 after-whole s t w a f =
     let same-n : t .n ≡ s .n = ap (λ (x : Fixed). x .1) (a .same) in

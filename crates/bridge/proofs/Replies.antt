@@ -9,11 +9,12 @@ use lib.Ieee.{Float}
 use lib.ListN.{length, drop}
 use Rattle.cards.specs.Answers.{reported, Reply, reply, refusal, reportedWriting, opened, written, told}
 use Rattle.cards.specs.Laws.Answers.{accepted-not}
-use Rattle.chain.specs.Answers.{reportedFrame, reportedStep, cycled, free, Applies}
-use Rattle.chain.specs.Calls.{floatRoom, framed, frameReply}
+use Rattle.chain.specs.Answers.{reportedFrame, reportedStep, called, calledWith, cycled, free, Applies}
+use Rattle.chain.specs.Calls.{floatRoom, framed, frameReply, depthReply}
 use Rattle.cards.specs.Card.{accepted, openOf}
 use Rattle.cards.specs.Write.{writeReply, writeInto}
 use Rattle.chain.specs.declared.pipeline.Applied.{Applied}
+use Rattle.chain.specs.declared.pipeline.Called.{Called}
 use Rattle.chain.specs.declared.pipeline.Cycle.{Cycle}
 use Rattle.chain.specs.declared.pipeline.Cycle.the-variants as Cycle
 use Rattle.chain.specs.declared.pipeline.Cycled.{Cycled}
@@ -24,7 +25,7 @@ use Rattle.cards.specs.declared.station.Answer.{Answer}
 use Rattle.cards.specs.declared.station.Answer.the-variants.{Accepted, Refused}
 use Rattle.cards.specs.declared.station.Station.{Station}
 use Rattle.cards.specs.declared.writer.Written.{Written}
-use Rattle.bridge.specs.Outcomes.{Outcome, outcome, answered, damaged, opening, onState, questionOf, writeTold, writeLeft, Shown, shown, framedNumber}
+use Rattle.bridge.specs.Outcomes.{Outcome, outcome, answered, damaged, opening, onState, answeredWith, depthSet, questionOf, writeTold, writeLeft, Shown, shown, framedNumber}
 use Rattle.bridge.specs.Outcomes.{framedShown, frameShown, freed, Frames}
 use Rattle.bridge.specs.State.{encoded, stationIn, isState, decoded}
 
@@ -96,6 +97,20 @@ module _ (f : Station → Reply) (b : List ℕ) where
   pub on-station : (s : Station) (a : Reply) (x : Outcome) → Read b s → a ≡ f s → x ≡ answered b a → x ≡ onState f b
   unfolding onState
   on-station s a x t e h = rw (t .sound) (h ∙ ap (answered b) (e ∙ ap f (t .station)))
+
+-- ## A new depth
+
+module _ (d : ℕ) (b past : List ℕ) where
+  pub depth-none : (k n : ℕ) → Unread b k → n ≡ 256 + k → (outcome n b, past) ≡ depthSet d b past
+  unfolding depthSet
+  depth-none k n u e = rw (u .broken) (ap (λ (m : ℕ). (outcome m b, past)) (e ∙ u .by-13))
+
+  pub depth-some : (s : Station) (r : Called) (x : Outcome) (past′ : List ℕ) → Read b s → calledWith r past′ ≡ depthReply d s past → x ≡ answered b (called r)
+      → (x, past′) ≡ depthSet d b past
+  unfolding depthSet
+  depth-some s r x past′ t e h =
+      rw (t .sound)
+      (ap (λ (y : Outcome). (y, past′)) h ∙ ap (answeredWith b) (e ∙ ap (λ (u : Station). depthReply d u past) (t .station)))
 
 -- ## Questions
 

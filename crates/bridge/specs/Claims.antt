@@ -14,7 +14,7 @@ use Rattle.chain.specs.Machine.{Call, State, after}
 use Rattle.cards.specs.Normal.{goodStation}
 use Rattle.cards.specs.Typed.{TypedChain}
 use Rattle.cards.specs.declared.station.Station.{Station}
-use Rattle.bridge.specs.Outcomes.{opening, onState, frameShown}
+use Rattle.bridge.specs.Outcomes.{opening, onState, depthSet, frameShown}
 use Rattle.bridge.specs.State.{encoded, stationIn, isState}
 
 -- a good station of ten typed records, whose places past n are filled as at every opening
@@ -45,3 +45,4 @@ pub record Closed : Type 0 where
   pub by-ask : (kind : ℕ) (on : Bool) (b : List ℕ) → isState b ≡ true → isState (onState (askReply kind on) b .state) ≡ true
   pub by-commit : (b : List ℕ) → isState b ≡ true → isState (onState commitReply b .state) ≡ true
   pub by-step : (b : List ℕ) → isState b ≡ true → isState (onState stepReply b .state) ≡ true
+  pub by-depth : (d : ℕ) (b past : List ℕ) → isState b ≡ true → isState (depthSet d b past .0 .state) ≡ true

@@ -9,8 +9,8 @@ use lib.Dec.{eqb}
 use lib.Ieee.{Float}
 use lib.ListN.{length, drop}
 use Rattle.cards.specs.Alike.{chainOf}
-use Rattle.cards.specs.Answers.{Report, refusal, acceptance, Reply, told, left}
-use Rattle.chain.specs.Calls.{floatRoom, Framed, frameReply, enabledReport, presetReport}
+use Rattle.cards.specs.Answers.{Report, refusal, acceptance, Reply, reply, told, left}
+use Rattle.chain.specs.Calls.{floatRoom, Framed, frameReply, depthReply, enabledReport, presetReport}
 use Rattle.cards.specs.Card.{openOf}
 use Rattle.chain.specs.Chain.{depth}
 use Rattle.cards.specs.Write.{writeReply, writeInto}
@@ -52,6 +52,15 @@ enabledTold kind = questionOf (λ s. told (enabledReport kind s))
 
 abbrev pub presetTold : List ℕ → ℕ
 presetTold = questionOf (λ s. told (presetReport s))
+
+-- ## A new depth
+
+-- what a call leaves that is lent the history alone
+abbrev pub answeredWith : List ℕ → Framed → Outcome × List ℕ
+answeredWith b r = (answered b (reply (r .answer) (r .station)), r .past)
+
+unfoldable pub depthSet : (d : ℕ) → (b past : List ℕ) → Outcome × List ℕ
+depthSet d b past = cond (isState b) (answeredWith b (depthReply d (stationIn b) past)) (outcome damaged b, past)
 
 -- ## Writing
 

@@ -9,7 +9,7 @@ ghost use Rattle.cards.specs.Answers.{reply, reported, told as toldBy};
 ghost use Rattle.chain.specs.Answers.{reportedQuestion};
 ghost use Rattle.chain.specs.Calls.{resetReply, switchReply, askReply, commitReply, stepReply};
 ghost use Rattle.bridge.specs.Judged.{judgedTold};
-ghost use Rattle.bridge.specs.Outcomes.{outcome, answered, opening, onState, depthTold, enabledTold, presetTold, writeTold, writeLeft, Frames};
+ghost use Rattle.bridge.specs.Outcomes.{outcome, answered, opening, onState, depthSet, depthTold, enabledTold, presetTold, writeTold, writeLeft, Frames};
 use super::state::decode;
 use super::state::encode;
 use cards::reader;
@@ -215,6 +215,23 @@ pub extern "C" fn hedgemallow_cycle_lut(state: &mut [u8; 80]) -> u32
         }
         Cycle::Refused(k) => refusal(k),
     }
+}
+
+// Gives persistence a new depth, and its history with it.
+#[no_mangle]
+pub extern "C" fn hedgemallow_set_depth(state: &mut [u8; 80], history: &mut [u32], depth: u8) -> u32
+    ensures { λ r. ⌜ (outcome r (now (state .exit)), now (history .exit)) ≡ depthSet depth (now (state .entry)) (now (history .entry)) ⌝ }
+{
+    let opened = decode(*state);
+    let answer = opened.answer;
+    let station = opened.station;
+    if let Answer::Refused(k) = answer {
+        return refusal(k);
+    }
+    let called = pipeline::set_depth(station, history, depth);
+    let told = called.answer;
+    let after = called.station;
+    keep(told, after, state)
 }
 
 // Document 01's K, for sizing the history.

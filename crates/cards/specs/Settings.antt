@@ -39,13 +39,17 @@ raisedAt low = do
   refuseIf 6 p (lt c4·0 x)
   ret (limitOf x low c4·0)
 
+-- 0 becomes 1
+abbrev pub oneAtLeast : ℕ → ℕ
+oneAtLeast v = cond (eqb v 0) 1 v
+
 -- bleed, radius, depth: refused above `most`; 0 becomes 1
 unfoldable pub countAt : ℕ → Reader ℕ
 countAt most = do
   p ← here
   v ← fieldAt 8
   refuseIf 6 p (ltb most v)
-  ret (cond (eqb v 0) 1 v)
+  ret (oneAtLeast v)
 
 unfoldable pub presetAt : Reader ℕ
 presetAt = do

@@ -3,7 +3,7 @@ ghost use mathlib.Core.Path.{_≡_};
 ghost use Prim.Native.Nat.{_+_, _*_, _^_, _<_, _≤_};
 ghost use Rattle.cards.specs.Step.{fieldStep, byteStep, realStep, refusalOf};
 ghost use Rattle.cards.specs.Bits.{bitAt, fieldAt};
-ghost use Rattle.cards.specs.Settings.{finiteAt, limitedAt, withinAt, raisedAt, countAt, presetAt};
+ghost use Rattle.cards.specs.Settings.{finiteAt, limitedAt, withinAt, raisedAt, oneAtLeast, countAt, presetAt};
 
 // Why a card is refused, by the number of the papers, and where: `at` is the first bit of the field that is refused, and for 7 the
 // bit after the last field.
@@ -122,6 +122,13 @@ pub(crate) fn raised(card: &[u8], at: usize, low: f32) -> RealRead
     RealRead::Value(num::steps::limit(x, low, 4.0), next)
 }
 
+// 0 becomes 1.
+pub fn one_at_least(v: u8) -> u8
+    ensures { λ r. ⌜ r ≡ oneAtLeast v ⌝ }
+{
+    if v == 0 { 1 } else { v }
+}
+
 // A bleed, a radius or a depth: refused above `most`, and 0 becomes 1.
 pub(crate) fn count(card: &[u8], at: usize, most: u8) -> ByteRead
     requires { ⌜ at < 2 ^ 32 ⌝ }
@@ -134,10 +141,7 @@ pub(crate) fn count(card: &[u8], at: usize, most: u8) -> ByteRead
     if most < v {
         return ByteRead::Refused(Refusal { number: 6, at });
     }
-    if v == 0 {
-        return ByteRead::Value(1, next);
-    }
-    r
+    ByteRead::Value(one_at_least(v), next)
 }
 
 // A preset: seven of them, 0 to 6.

@@ -31,7 +31,7 @@ use Rattle.chain.proofs.PassCases.{Plain, by-memory}
 -- ## Without persistence
 
 -- it is not on, and there are no places
-absent : (rs : List Record) → among 4 (kinds rs) ≡ false → (persists rs ≡ false) × (depth rs ≡ 0)
+pub absent : (rs : List Record) → among 4 (kinds rs) ≡ false → (persists rs ≡ false) × (depth rs ≡ 0)
 unfolding persists depth
 absent [] e = (refl, refl)
 absent (r ∷ rs) e =

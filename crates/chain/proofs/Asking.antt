@@ -2,12 +2,13 @@
 use Prim.Native.Nat.{ℕ}
 use mathlib.Core.Path.{_≡_, refl, ap, sym}
 use mathlib.Core.Bool.{Bool, true, false}
+use mathlib.Core.List.{[]}
 use lib.ListN.{take}
 use Rattle.num.specs.Laws.Bools.{false-true}
 use Rattle.cards.specs.Answers.{Reply, reply}
-use Rattle.chain.specs.Calls.{pend, switchReply, commitReply, shownBy, frameReplyBy}
+use Rattle.chain.specs.Calls.{pend, switchReply, commitReply, shownBy, frameReplyBy, depthReply}
 use Rattle.chain.specs.Claims.{asked, isAsking, Asking}
-use Rattle.chain.specs.Machine.{Call, frame, reset, switch, ask, commit, step, State, call, after}
+use Rattle.chain.specs.Machine.{Call, frame, reset, switch, ask, commit, step, newDepth, State, call, after}
 use Rattle.cards.specs.Normal.{goodStation}
 use Rattle.cards.specs.declared.station.Pending.the-variants.{Nothing, Switch}
 use Rattle.chain.proofs.Replies.{commits}
@@ -16,13 +17,14 @@ use Rattle.chain.proofs.Sound.{by-lack, by-stop}
 -- ## Every other call
 
 stays : (c : Call) (s : State) → isAsking c ≡ false → after c s .station .pending ≡ s .station .pending
-unfolding after call frameReplyBy shownBy
+unfolding after call frameReplyBy shownBy depthReply
 stays (frame w h words l m i curve) s e = by-stop (λ r. r .station .pending ≡ s .station .pending) _ (s .station) words (take l (s .history)) _ refl (λ z. refl)
 stays reset s e = by-lack (λ r. r .station .pending ≡ s .station .pending) _ (s .station) _ refl (λ z. refl)
 stays (switch kind on) s e = by-lack (λ r. r .station .pending ≡ s .station .pending) _ (s .station) _ refl (λ z. refl)
 stays (ask kind on) s e = false-true (sym e)
 stays commit s e = false-true (sym e)
 stays step s e = by-lack (λ r. r .station .pending ≡ s .station .pending) _ (s .station) _ refl (λ z. refl)
+stays (newDepth d l) s e = by-stop (λ r. r .station .pending ≡ s .station .pending) _ (s .station) [] (take l (s .history)) _ refl (λ z. refl)
 
 -- ## Asking
 

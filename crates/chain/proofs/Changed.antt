@@ -1,4 +1,4 @@
--- Records that are changed in switch or preset: what of a pass stays, and the laws of the first record of a kind changed. Assumes nothing.
+-- Records that are changed in switch, preset or depth: what of a pass stays, and the laws of the first record of a kind changed. Assumes nothing.
 use Prim.Native.Nat.{ℕ, _+_}
 use native.Mathlib.Omega.{arith}
 use mathlib.Core.Path.{_≡_, refl, ap, ap₂, sym, _∙_}
@@ -6,25 +6,21 @@ use mathlib.Core.Bool.{Bool, true, false, _&&_, _||_, cond}
 use mathlib.Core.List.{List, [], _∷_, _++_, map}
 use borrow.Author.Tests.{eqb-true, ltb-true, lt-ltb}
 use lib.Dec.{ltb, eqb}
-use Rattle.num.specs.Const.{c0·0, c1·0}
-use Rattle.chain.specs.Calls.{onFirst, withSwitch, next, steppedPass, stepped}
-use Rattle.chain.specs.Chain.{depthOf, depth}
-use Rattle.cards.specs.Normal.{settled, normalPass, normalChain, persists}
+use Rattle.num.specs.Const.{c0·0, c0·95, c1·0}
+use Rattle.chain.specs.Calls.{onFirst, withSwitch, next, steppedPass, stepped, deepPass, withDepth}
+use Rattle.cards.specs.Normal.{settled, counted, normalPass, normalChain, persists}
 use Rattle.cards.specs.Passes.{kindOf}
 use Rattle.cards.specs.Records.{kinds, among, lastOf}
 use Rattle.cards.specs.declared.station.Pass.{Pass}
 use Rattle.cards.specs.declared.station.Record.{Record}
 use Rattle.num.specs.Laws.Bools.{both, or-second, or-map}
 use Rattle.cards.specs.Laws.Good.{Headed, headed, is-headed}
-use Rattle.chain.proofs.PassCases.{blank, by-preset}
+use Rattle.chain.proofs.PassCases.{blank, by-setting}
 
--- ## A chain but for switches and preset
+-- ## A chain but for switches, preset and depth
 
 blank-kind : (p : Pass) → kindOf (blank p) ≡ kindOf p
-blank-kind = by-preset (λ p. kindOf (blank p) ≡ kindOf p) (λ preset strength. refl) (λ p o. ap kindOf (o .whole))
-
-blank-depth : (p : Pass) → depthOf (blank p) ≡ depthOf p
-blank-depth = by-preset (λ p. depthOf (blank p) ≡ depthOf p) (λ preset strength. refl) (λ p o. ap depthOf (o .whole))
+blank-kind = by-setting (λ p. kindOf (blank p) ≡ kindOf p) (λ preset strength. refl) (λ amount k. refl) (λ p o. ap kindOf (o .whole))
 
 abbrev pub shapes : List Record → List Pass
 shapes = map (λ r. blank (r .pass))
@@ -33,18 +29,9 @@ pub kinds-are : (rs : List Record) → map kindOf (shapes rs) ≡ kinds rs
 kinds-are [] = refl
 kinds-are (r ∷ rs) = ap₂ (λ (k : ℕ) (ks : List ℕ). k ∷ ks) (blank-kind (r .pass)) (kinds-are rs)
 
-abbrev pub depths : List Pass → ℕ
-depths [] = 0
-depths (p ∷ ps) = depthOf p + depths ps
-
-pub depth-is : (rs : List Record) → depths (shapes rs) ≡ depth rs
-unfolding depth
-depth-is [] = refl
-depth-is (r ∷ rs) = ap₂ (λ (i j : ℕ). i + j) (blank-depth (r .pass)) (depth-is rs)
-
 -- ## A record that is changed
 
--- in its switch and preset alone
+-- in its switch, preset and depth alone
 pub record Gentle (f : Record → Record) : Type 0 where
   pub shape : (r : Record) → blank (f r .pass) ≡ blank (r .pass)
   pub normal : (r : Record) → normalPass (r .pass) ≡ true → normalPass (f r .pass) ≡ true
@@ -63,10 +50,19 @@ pub stepped-gentle : Gentle stepped
 unfolding normalPass
 stepped-gentle =
     record {
-      shape = λ r. by-preset (λ p. blank (steppedPass p) ≡ blank p) (λ preset strength. refl) (λ p o. ap blank (o .unstepped)) (r .pass);
-      normal = λ r. by-preset (λ p. normalPass p ≡ true → normalPass (steppedPass p) ≡ true)
+      shape = λ r. by-setting (λ p. blank (steppedPass p) ≡ blank p) (λ preset strength. refl) (λ amount k. refl) (λ p o. ap blank (o .unstepped)) (r .pass);
+      normal = λ r. by-setting (λ p. normalPass p ≡ true → normalPass (steppedPass p) ≡ true)
           (λ preset strength e. let d = both (ltb preset 7) (settled c0·0 c1·0 strength) e in rw (next-small preset (d .0), d .1))
-          (λ p o e. ap normalPass (o .unstepped) ∙ e) (r .pass);
+          (λ amount k e. e) (λ p o e. ap normalPass (o .unstepped) ∙ e) (r .pass);
+    }
+
+pub deep-gentle : (d : ℕ) → counted 8 d ≡ true → Gentle (withDepth d)
+unfolding normalPass
+deep-gentle d few =
+    record {
+      shape = λ r. by-setting (λ p. blank (deepPass d p) ≡ blank p) (λ preset strength. refl) (λ amount k. refl) (λ p o. ap blank (o .undeepened d)) (r .pass);
+      normal = λ r. by-setting (λ p. normalPass p ≡ true → normalPass (deepPass d p) ≡ true) (λ preset strength e. e)
+          (λ amount k e. rw (both (settled c0·0 c0·95 amount) (counted 8 k) e .0, few)) (λ p o e. ap normalPass (o .undeepened d) ∙ e) (r .pass);
     }
 
 or-swap : (a b c : Bool) → (a ≡ true → c ≡ true) → a || b ≡ true → c || b ≡ true

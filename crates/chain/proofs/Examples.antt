@@ -22,10 +22,10 @@ use Rattle.chain.specs.Agree.{opened, SameCall, frames, none, more, befo
 use Rattle.cards.specs.Bits.{valueAt, fieldAt}
 use Rattle.cards.specs.Answers.{Report, refusal, acceptance}
 use Rattle.chain.specs.Calls.{stops, lacks, askStops, commitStops, onFirst, presets, shownBy}
-use Rattle.chain.specs.Calls.{frameReplyBy}
+use Rattle.chain.specs.Calls.{frameReplyBy, depthStops, depthReply}
 use Rattle.cards.specs.Card.{stationOf, headerAt, recordsAt, endsAt, endAt, stationAt, accepted, openOf}
 use Rattle.chain.specs.Chain.{wash, overBy, turnBy, depth, readsCurve, recordSamples}
-use Rattle.chain.specs.Machine.{Call, frame, reset, switch, ask, commit, step, State, Seen, call, after, run, saw}
+use Rattle.chain.specs.Machine.{Call, frame, reset, switch, ask, commit, step, newDepth, State, Seen, call, after, run, saw}
 use Rattle.cards.specs.Normal.{settled, normalPass, normalChain, persists, goodStation}
 use Rattle.cards.specs.Passes.{passAt, persistenceAt, lutAt}
 use Rattle.cards.specs.Records.{recordAt}
@@ -81,6 +81,19 @@ old = run (opened station (90 ∷ 91 ∷ 92 ∷ [])) own
 abbrev new : State
 new = opened station (5 ∷ 6 ∷ [])
 
+-- the same two with own buffers of four words, and frames that lend all of them: a shared frame, depth 4, and frames after it
+abbrev wide : ℕ → Call
+wide p = frame 1 1 (p ∷ 0 ∷ []) 4 6 1 []
+
+abbrev deepened : List Call
+deepened = wide 0 ∷ newDepth 4 4 ∷ wide 0x404040 ∷ wide 0x808080 ∷ wide 0xffffff ∷ wide 0 ∷ []
+
+abbrev old-wide : State
+old-wide = run (opened station (90 ∷ 91 ∷ 92 ∷ 93 ∷ [])) own
+
+abbrev new-wide : State
+new-wide = opened station (5 ∷ 6 ∷ 7 ∷ 8 ∷ [])
+
 abbrev pictures : List Seen → List (List ℕ)
 pictures = map (λ s. s .picture)
 
@@ -88,7 +101,8 @@ abbrev answers : List Seen → List Report
 answers = map (λ s. s .answer)
 
 -- Before the point the pictures differ, from it on they agree: it can come no sooner. After a reset, and after persistence was switched off, at once or asked
--- for and committed, and on, the old station shows what the new one does.
+-- for and committed, and on, the old station shows what the new one does. After a change of depth they differ in a third frame, though the depth was two when
+-- the list began.
 abbrev shows : List (List (List ℕ) × List (List ℕ))
 shows =
     (pictures (saw old (shared 7)), (0x6f6f6f ∷ []) ∷ (0x4b4b4b ∷ []) ∷ (0x5a5a5a ∷ []) ∷ (0xbdbdbd ∷ []) ∷ [])
@@ -96,6 +110,11 @@ shows =
     ∷ (pictures (saw old (reset ∷ shared 7)), [] ∷ (0 ∷ []) ∷ (0x242424 ∷ []) ∷ (0x5a5a5a ∷ []) ∷ (0xbdbdbd ∷ []) ∷ [])
     ∷ (pictures (saw old (switch 4 false ∷ switch 4 true ∷ shared 7)), [] ∷ [] ∷ (0 ∷ []) ∷ (0x242424 ∷ []) ∷ (0x5a5a5a ∷ []) ∷ (0xbdbdbd ∷ []) ∷ [])
     ∷ (pictures (saw (run old (ask 4 false ∷ commit ∷ switch 4 true ∷ [])) (shared 7)), (0 ∷ []) ∷ (0x242424 ∷ []) ∷ (0x5a5a5a ∷ []) ∷ (0xbdbdbd ∷ []) ∷ [])
+    ∷ (
+      pictures (saw old-wide deepened),
+      (0x6f6f6f ∷ []) ∷ [] ∷ (0x606060 ∷ []) ∷ (0x6d6d6d ∷ []) ∷ (0xb2b2b2 ∷ []) ∷ (0x555555 ∷ []) ∷ [],
+    )
+    ∷ (pictures (saw new-wide deepened), (0 ∷ []) ∷ [] ∷ (0x1f1f1f ∷ []) ∷ (0x4f4f4f ∷ []) ∷ (0xa7a7a7 ∷ []) ∷ (0x555555 ∷ []) ∷ [])
     ∷ []
 
 -- persistence 0.3 of depth 1, which clips a white frame over a white one, since its weights add up to more than 1
@@ -116,28 +135,38 @@ reports =
 
 -- Of the shared list the point is the call after the second frame. A reset and a switching-off agree themselves, a committed one too; asking for it, a
 -- switch to the present position, a switch of another pass and a refused frame do not count; a list may end before its point; once persistence is off, the
--- first call agrees.
+-- first call agrees. A change of depth that both accept starts the count anew, to the present depth too; one that both refuse does not; where the old
+-- station refuses one, since it holds a frame, and the new one accepts it, no call agrees.
+-- where the two agree on a list that is the same for both
+abbrev begins : List Call → ℕ
+begins cs = point old new cs cs
+
 abbrev points : List (ℕ × ℕ)
 points =
-    (point old (shared 7), 2)
-    ∷ (point new (shared 8), 2)
-    ∷ (point old (one 0 1 ∷ reset ∷ one 0 2 ∷ []), 1)
-    ∷ (point old (one 0 1 ∷ switch 4 false ∷ one 0 2 ∷ []), 1)
-    ∷ (point old (one 0 1 ∷ ask 4 false ∷ commit ∷ one 0 2 ∷ []), 2)
-    ∷ (point old (ask 4 false ∷ one 0 1 ∷ one 0 2 ∷ commit ∷ []), 3)
-    ∷ (point old (ask 4 true ∷ commit ∷ one 0 1 ∷ one 0 2 ∷ one 0 3 ∷ []), 4)
-    ∷ (point old (one 0 1 ∷ switch 4 true ∷ switch 5 true ∷ one 0 2 ∷ one 0 3 ∷ []), 4)
-    ∷ (point old (one 0 1 ∷ short ∷ one 0 2 ∷ one 0 3 ∷ []), 3)
-    ∷ (point old (one 0 1 ∷ short ∷ []), 2)
-    ∷ (point (run old (switch 4 false ∷ [])) (one 0 1 ∷ one 0 2 ∷ []), 0)
+    (point old new (shared 7) (shared 8), 2)
+    ∷ (point new old (shared 8) (shared 7), 2)
+    ∷ (begins (one 0 1 ∷ reset ∷ one 0 2 ∷ []), 1)
+    ∷ (begins (one 0 1 ∷ switch 4 false ∷ one 0 2 ∷ []), 1)
+    ∷ (begins (one 0 1 ∷ ask 4 false ∷ commit ∷ one 0 2 ∷ []), 2)
+    ∷ (begins (ask 4 false ∷ one 0 1 ∷ one 0 2 ∷ commit ∷ []), 3)
+    ∷ (begins (ask 4 true ∷ commit ∷ one 0 1 ∷ one 0 2 ∷ one 0 3 ∷ []), 4)
+    ∷ (begins (one 0 1 ∷ switch 4 true ∷ switch 5 true ∷ one 0 2 ∷ one 0 3 ∷ []), 4)
+    ∷ (begins (one 0 1 ∷ short ∷ one 0 2 ∷ one 0 3 ∷ []), 3)
+    ∷ (begins (one 0 1 ∷ short ∷ []), 2)
+    ∷ (point (run old (switch 4 false ∷ [])) (run new (switch 4 false ∷ [])) (one 0 1 ∷ one 0 2 ∷ []) (one 0 1 ∷ one 0 2 ∷ []), 0)
+    ∷ (begins (one 0 1 ∷ newDepth 2 2 ∷ one 0 2 ∷ one 0 3 ∷ one 0 4 ∷ []), 4)
+    ∷ (begins (newDepth 1 1 ∷ one 0 1 ∷ one 0 2 ∷ []), 2)
+    ∷ (begins (one 0 1 ∷ newDepth 9 2 ∷ newDepth 4 2 ∷ one 0 2 ∷ one 0 3 ∷ []), 4)
+    ∷ (begins (newDepth 3 2 ∷ one 0 1 ∷ one 0 2 ∷ one 0 3 ∷ []), 4)
+    ∷ (point old-wide new-wide deepened deepened, 6)
     ∷ []
 
 pub runs-hold : Hold shows × Hold reports × Hold points
-unfolding point before saw run after call frameReplyBy unless shownBy stops lacks askStops commitStops goodStation fineHeld sameHeld
+unfolding point before saw run after call frameReplyBy depthReply depthStops unless shownBy stops lacks askStops commitStops goodStation fineHeld sameHeld
     badSide settled normalPass normalChain persists depth readsCurve recordSamples fold turnBy overBy wash onFirst presets ofBits ofInt add mul div
     lt clampOf cutOf rewrite Text.Pixel.unpack Text.Pixel.pack Text.Pixel.packClamped Text.Persistence.persistence
     Text.Persistence.decay Text.Persistence.total Text.Persistence.add Text.Persistence.mix converted sum
-    Text.Pixel.clip Text.Pixel.clips Text.Persistence.blend Persistence.copies Persistence.refilled Persistence.shifted
+    Text.Pixel.clip Text.Pixel.clips Text.Persistence.blend Persistence.copies Persistence.refilled Persistence.shifted Persistence.resized
 runs-hold = (refl, refl, refl)
 
 -- ## The theorem at these stations
@@ -152,7 +181,7 @@ unfolding point before saw run after call frameReplyBy unless shownBy stops lack
     Text.Persistence.decay Text.Persistence.total Text.Persistence.add Text.Persistence.mix converted sum
     Text.Pixel.clip Text.Pixel.clips Text.Persistence.blend Persistence.copies Persistence.refilled Persistence.shifted
 agree =
-    machines-agree card other station station opens opens-other refl (90 ∷ 91 ∷ 92 ∷ []) (5 ∷ 6 ∷ []) own [] (record { same-switches = refl; same-presets = refl; same-pending = refl })
+    machines-agree card other station station opens opens-other refl (90 ∷ 91 ∷ 92 ∷ []) (5 ∷ 6 ∷ []) own [] (record { same-switches = refl; same-presets = refl; same-depths = refl; same-pending = refl })
     (shared 7) (shared 8) (more (same 0) (more (same 0x404040) (more (same 0x808080) (more (same 0xffffff) none))))
     (omega arith, (omega arith, (omega arith, (omega arith, tt))))
     (omega arith, (omega arith, (omega arith, (omega arith, tt))))

@@ -105,7 +105,7 @@ unfolding presets
 no-presets [] e = refl
 no-presets (r ∷ rs) e =
     let d = neither (eqb (kindOf (r .pass)) 5) (among 5 (kinds rs)) e in
-    rw (no-lut (r .pass) (eqb-false _ _ (d .0)) .no-preset) (no-presets rs (d .1))
+    rw (no-lut (r .pass) (eqb-false _ _ (d .0)) .0) (no-presets rs (d .1))
 
 -- the one preset after a step
 pub one-preset : (seen : List ℕ) (n : ℕ) (rs : List Record) (i : ℕ) (d : Record) → normalChain seen (take n rs) ≡ true → First 5 n rs i → n ≤ length rs
@@ -121,4 +121,4 @@ one-preset seen (suc n) (r ∷ rs) zero d h t l =
 one-preset seen (suc n) (r ∷ rs) (suc i) d h t l =
     let not-5 = t .earlier 0 d (suc-le-suc zero-le) in
     let other : eqb (kindOf (r .pass)) 5 ≡ false = ne-eqb (kindOf (r .pass)) 5 not-5 in
-    rw (other, no-lut (r .pass) not-5 .no-preset) (one-preset (seen ++ kindOf (r .pass) ∷ []) n rs i d (headed seen r (take n rs) h .others) (later t) (le-of-suc-le-suc l))
+    rw (other, no-lut (r .pass) not-5 .0) (one-preset (seen ++ kindOf (r .pass) ∷ []) n rs i d (headed seen r (take n rs) h .others) (later t) (le-of-suc-le-suc l))

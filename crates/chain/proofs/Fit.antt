@@ -1,5 +1,5 @@
--- A good station with places for its records, and what a call may leave of it: its records change in nothing but switches and
--- preset, its places past n not at all. Each way in which a call changes a station keeps to that. Assumes nothing.
+-- A good station with places for its records, and what a call may leave of it: its records change in nothing but switches, preset and
+-- depth, its places past n not at all. Each way in which a call changes a station keeps to that. Assumes nothing.
 use Prim.Native.Nat.{ℕ}
 use mathlib.Core.Path.{_≡_, refl, ap, ap₂, sym, _∙_}
 use mathlib.Core.Bool.{Bool, true, false, not, _&&_, _||_, cond}
@@ -12,10 +12,9 @@ use Rattle.num.specs.Held.{Held, nothing, sameHeld, fineHeld}
 use Rattle.num.specs.Laws.Held.{same-held}
 use Rattle.cards.specs.Alike.{chainOf}
 use Rattle.chain.specs.Calls.{hold, rechain, pend}
-use Rattle.chain.specs.Calls.{onFirst, withSwitch, switched, committed, stepped, stepLut}
+use Rattle.chain.specs.Calls.{onFirst, withSwitch, switched, committed, stepped, stepLut, withDepth, redepth}
 use Rattle.cards.specs.Card.{accepted, openOf}
-use Rattle.chain.specs.Chain.{depth}
-use Rattle.cards.specs.Normal.{normalChain, persists, askable, goodStation}
+use Rattle.cards.specs.Normal.{counted, normalChain, persists, askable, goodStation}
 use Rattle.cards.specs.Passes.{kindOf}
 use Rattle.cards.specs.Records.{among}
 use Rattle.cards.specs.declared.station.Pass.{Pass}
@@ -24,13 +23,13 @@ use Rattle.cards.specs.declared.station.Pending.the-variants.{Nothing, Switch}
 use Rattle.cards.specs.declared.station.Record.{Record}
 use Rattle.cards.specs.declared.station.Station.{Station}
 use Rattle.num.specs.Laws.Bools.{or-first-only, or-map}
-use Rattle.chain.proofs.Changed.{shapes, kinds-are, depths, depth-is, Gentle, with-switch-gentle, stepped-gentle, first-shapes, first-normal}
+use Rattle.chain.proofs.Changed.{shapes, kinds-are, Gentle, with-switch-gentle, stepped-gentle, deep-gentle, first-shapes, first-normal}
 use Rattle.chain.proofs.Changed.{first-persists}
 use Rattle.cards.specs.Laws.Good.{Good, good, is-good, nothing-fine, nothing-idle}
 use Rattle.chain.proofs.PassCases.{blank}
 use Rattle.cards.proofs.OpensGood.{opens-good}
 
--- the passes of a station but for the preset, their number, and the places past it
+-- the passes of a station but for preset and depth, their number, and the places past it
 abbrev pub Fixed : Type 0
 Fixed = List Pass × ℕ × List Record
 
@@ -46,9 +45,6 @@ pub record Fit (s : Station) : Type 0 where
 pub record After (s t : Station) : Type 0 where
   pub sound : goodStation t ≡ true
   pub same : fixed t ≡ fixed s
-
-pub same-depth : (s t : Station) → fixed t ≡ fixed s → depth (chainOf t) ≡ depth (chainOf s)
-same-depth s t e = sym (depth-is (chainOf t)) ∙ ap (λ (x : Fixed). depths (x .0)) e ∙ depth-is (chainOf s)
 
 same-long : (rs qs : List Record) → shapes rs ≡ shapes qs → length rs ≡ length qs
 same-long rs qs e = sym (length-map rs (λ r. blank (r .pass))) ∙ ap length e ∙ length-map qs (λ r. blank (r .pass))
@@ -101,7 +97,7 @@ module _ (s : Station) (fit : Fit s) where
     long : length rs ≡ s .n
     long = same-long rs (chainOf s) alike ∙ fit .room
 
-    chain-is-rs : chainOf (rechain rs s) ≡ rs
+    pub chain-is-rs : chainOf (rechain rs s) ≡ rs
     chain-is-rs = take-at rs (drop (s .n) (s .records)) (s .n) long
 
     after-first : (held : Held) → fineHeld held ≡ true → sameHeld held nothing || persists rs ≡ true → After s (hold held (rechain rs s))
@@ -140,6 +136,9 @@ module _ (s : Station) (fit : Fit s) where
 
   pub after-step : After s (rechain (stepLut (chainOf s)) s)
   after-step = after-kept 5 stepped stepped-gentle (λ four r z. z)
+
+  pub after-depth : (d : ℕ) → counted 8 d ≡ true → After s (rechain (redepth d (chainOf s)) s)
+  after-depth d few = after-kept 4 (withDepth d) (deep-gentle d few) (λ four r z. z)
 
 pub after-commit : (s : Station) → Fit s → (q : Pending) → After s (committed q s)
 after-commit s f Nothing = after-itself s f

@@ -13,8 +13,8 @@ use Rattle.num.specs.Laws.Held.{same-held}
 use Rattle.passes.specs as Text
 use Rattle.passes.specs.Flow.{Flow, flow}
 use Rattle.passes.specs.Painted.{Painted, painted, onto}
-use Rattle.passes.specs.Plain.Persistence.{persistence, blend, copies, refilled, shifted}
-use Rattle.passes.specs.Laws.Persistence.{blend-take, length-copies}
+use Rattle.passes.specs.Plain.Persistence.{persistence, blend, copies, refilled, shifted, resized}
+use Rattle.passes.specs.Laws.Persistence.{blend-take, length-copies, resized-same}
 
 -- ## Two histories
 
@@ -149,3 +149,17 @@ near-picture amount k size x y same long some near =
     ap (λ (b : Painted). painted (b .words) (x .frame .clipped + b .clipped)) blends
     ∙ ap (onto (blend amount k (y .past))) same)
     same
+
+-- ## A new depth
+
+-- where all k places agree, so do those of another depth d
+pub near-resized : (k d : ℕ) (held : Held) (past was : List ℕ) → 1 ≤ k → d * area held ≤ length past → d * area held ≤ length was
+    → take (k * area held) past ≡ take (k * area held) was → (n : ℕ) → n ≤ d
+    → take (n * area held) (resized k d (area held) past) ≡ take (n * area held) (resized k d (area held) was)
+near-resized k d held past was some room room′ same n le =
+    let few = n * area held in
+    let many = d * area held in
+    let less : n * area held ≤ d * area held = mul-le-mul-right (area held) le in
+    sym (take-take few many (resized k d (area held) past) less)
+    ∙ ap (take few) (resized-same k d (area held) past was some room room′ same)
+    ∙ take-take few many (resized k d (area held) was) less

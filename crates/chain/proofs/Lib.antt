@@ -11,6 +11,7 @@ pub mod Goes
 pub mod Curves
 pub mod Kept
 pub mod Apart
+pub mod Deeper
 pub mod Changed
 pub mod Fit
 pub mod Sound

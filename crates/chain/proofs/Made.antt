@@ -3,9 +3,9 @@ use Prim.Native.Nat.{ℕ, _*_}
 use mathlib.Core.Path.{_≡_, refl, ap, ap₂, sym, subst, subst₂, _∙_}
 use mathlib.Core.List.{List, _∷_}
 use lib.ListN.{length, drop}
-use Rattle.chain.specs.Agree.{opened, Same, Lends, point, Comparable, Made, begin, by-apply, by-reset, by-set-enabled, by-ask, by-commit, by-cycle-lut}
+use Rattle.chain.specs.Agree.{opened, Same, Lends, point, Comparable, Made, begin, by-apply, by-reset, by-set-enabled, by-ask, by-commit, by-cycle-lut, by-set-depth}
 use Rattle.chain.specs.Agree.{Made-is, Demand-3}
-use Rattle.chain.specs.Answers.{reportedFrame, called, cycled}
+use Rattle.chain.specs.Answers.{reportedFrame, called, calledWith, cycled}
 use Rattle.chain.specs.Calls.{framed}
 use Rattle.cards.specs.Card.{accepted, openOf}
 use Rattle.cards.specs.Written.{cardOf}
@@ -43,6 +43,8 @@ is-machine (by-set-enabled {s = s} r e rest) = one-more (still (s .history) (cal
 is-machine (by-ask {s = s} r e rest) = one-more (still (s .history) (called r)) (ap (still (s .history)) e) (is-machine rest)
 is-machine (by-commit {s = s} r e rest) = one-more (still (s .history) (called r)) (ap (still (s .history)) e) (is-machine rest)
 is-machine (by-cycle-lut {s = s} r e rest) = one-more (still (s .history) (cycled r)) (ap (still (s .history)) e) (is-machine rest)
+is-machine (by-set-depth {s = s} {history = history} {past′ = past′} r e rest) =
+    one-more (lend 0 history (s .history) (calledWith r past′)) (ap (lend 0 history (s .history)) e) (is-machine rest)
 
 pub made-is : Made-is
 made-is s t cs gave m = (is-machine m .given, is-machine m .left)
@@ -52,13 +54,13 @@ agreement : (card other : List ℕ) (a b : Station) → openOf card ≡ accepted
     → (H G : List ℕ) (own own′ : List Call) (s t : State) → s ≡ run (opened a H) own → t ≡ run (opened b G) own′
     → (cs ds : List Call) (gave gave′ : List Seen) → gave ≡ saw s cs → gave′ ≡ saw t ds
     → Comparable (s .station) (t .station) → Same cs ds → Lends (length H) cs → Lends (length G) cs
-    → (point s cs ≡ point t ds) × (drop (point s cs) gave ≡ drop (point s cs) gave′)
+    → (point s t cs ds ≡ point t s ds cs) × (drop (point s t cs ds) gave ≡ drop (point s t cs ds) gave′)
 agreement card other a b opens opens′ alike H G own own′ s t es et cs ds gave gave′ eg eg′ =
     subst₂ (λ (x y : State). gave ≡ saw x cs → gave′ ≡ saw y ds → Comparable (x .station) (y .station) → Same cs ds → Lends (length H) cs → Lends (length G) cs
-    → (point x cs ≡ point y ds) × (drop (point x cs) gave ≡ drop (point x cs) gave′))
+    → (point x y cs ds ≡ point y x ds cs) × (drop (point x y cs ds) gave ≡ drop (point x y cs ds) gave′))
     (sym es) (sym et)
     (λ e e′ comparable same lH lG.
-    let n = point (run (opened a H) own) cs in
+    let n = point (run (opened a H) own) (run (opened b G) own′) cs ds in
     let d = machines-agree card other a b opens opens′ alike H G own own′ comparable cs ds same lH lG in
     (d .0, ap (drop n) e ∙ d .1 ∙ sym (ap (drop n) e′)))
     eg eg′

@@ -7,19 +7,21 @@ use mathlib.Core.List.{List, [], _∷_}
 use lib.Dec.{ltb}
 use lib.Ieee.{Float}
 use lib.ListN.{take}
+use Rattle.num.specs.Held.{area}
 use Rattle.num.specs.Refusals.{badSide, unless}
 use Rattle.passes.specs.ColorCorrection.{goodCurve}
 use Rattle.chain.specs.Agree.{opened}
 use Rattle.cards.specs.Alike.{chainOf}
 use Rattle.cards.specs.Answers.{Report, refusal}
 use Rattle.cards.specs.Laws.Answers.{accepted-not}
-use Rattle.chain.specs.Calls.{floatRoom, stops, lacks, waits, askStops, commitStops}
-use Rattle.chain.specs.Calls.{shownBy, frameReplyBy}
+use Rattle.chain.specs.Calls.{floatRoom, stops, lacks, waits, askStops, commitStops, depthStops}
+use Rattle.chain.specs.Calls.{shownBy, frameReplyBy, depthReply}
 use Rattle.cards.specs.Card.{accepted, openOf}
 use Rattle.chain.specs.Chain.{depth, readsCurve}
-use Rattle.chain.specs.Machine.{Call, frame, reset, switch, ask, commit, step, State, Seen, call, after, run, saw}
+use Rattle.chain.specs.Machine.{Call, frame, reset, switch, ask, commit, step, newDepth, State, Seen, call, after, run, saw}
 use Rattle.cards.specs.Normal.{goodStation}
 use Rattle.cards.specs.Records.{kinds, among}
+use Rattle.cards.specs.Settings.{oneAtLeast}
 use Rattle.cards.specs.declared.station.Station.{Station}
 use Rattle.chain.proofs.Fit.{Fit, opened-fit}
 use Rattle.chain.proofs.Sound.{by-stop, call-fit, run-fit, by-lack}
@@ -42,13 +44,21 @@ stops-not s w h u v m i curve e =
     (cond-not (ltb m (floatRoom w h) || ltb i (h * w)) 11 _ (omega arith)
     (cond-not (readsCurve (chainOf s) && not (goodCurve curve)) 16 0 (omega arith) (omega arith))))))
 
+-- after what the kind refuses
+unless-not : (k x : ℕ) → (k ≡ 13 → ⊥) → (x ≡ 13 → ⊥) → unless k (λ k. k) x ≡ 13 → ⊥
+unfolding unless
+unless-not zero x p q = q
+unless-not (suc k) x p q = p
+
 ask-not : (s : Station) (kind : ℕ) → goodStation s ≡ true → askStops s kind ≡ 13 → ⊥
-unfolding askStops unless
-ask-not s kind e = go (lacks s kind) (lacks-not s kind e)
-  where
-    go : (k : ℕ) → (k ≡ 13 → ⊥) → unless k (λ k. k) (cond (waits (s .pending)) 17 0) ≡ 13 → ⊥
-    go zero n = cond-not (waits (s .pending)) 17 0 (omega arith) (omega arith)
-    go (suc k) n = n
+unfolding askStops
+ask-not s kind e = unless-not (lacks s kind) _ (lacks-not s kind e) (cond-not (waits (s .pending)) 17 0 (omega arith) (omega arith))
+
+depth-not : (s : Station) (d history : ℕ) → goodStation s ≡ true → depthStops s d history ≡ 13 → ⊥
+unfolding depthStops
+depth-not s d history e =
+    unless-not (lacks s 4) _ (lacks-not s 4 e)
+    (cond-not (ltb 8 d) 6 _ (omega arith) (cond-not (ltb history (oneAtLeast d * area (s .held))) 10 0 (omega arith) (omega arith)))
 
 commit-not : (s : Station) → goodStation s ≡ true → commitStops s ≡ 13 → ⊥
 unfolding commitStops
@@ -59,7 +69,7 @@ refusal-not k q e = q (cc)
 
 -- to a good station, in one call
 pub call-not : (c : Call) (s : State) → goodStation (s .station) ≡ true → call c s .gives .answer ≡ refusal 13 → ⊥
-unfolding call frameReplyBy shownBy
+unfolding call frameReplyBy shownBy depthReply
 call-not (frame w h words l m i curve) s e =
     by-stop (λ r. r .answer ≡ refusal 13 → ⊥) _ (s .station) words (take l (s .history)) _
     (refusal-not _ (stops-not (s .station) w h _ _ m i curve e)) (λ z. accepted-not _ 13)
@@ -68,6 +78,8 @@ call-not (switch kind on) s e = by-lack (λ r. r .answer ≡ refusal 13 → ⊥)
 call-not (ask kind on) s e = by-lack (λ r. r .answer ≡ refusal 13 → ⊥) _ (s .station) _ (refusal-not _ (ask-not (s .station) kind e)) (λ z. accepted-not [] 13)
 call-not commit s e = by-lack (λ r. r .answer ≡ refusal 13 → ⊥) _ (s .station) _ (refusal-not _ (commit-not (s .station) e)) (λ z. accepted-not [] 13)
 call-not step s e = by-lack (λ r. r .answer ≡ refusal 13 → ⊥) _ (s .station) _ (refusal-not _ (lacks-not (s .station) 5 e)) (λ z. accepted-not _ 13)
+call-not (newDepth d l) s e =
+    by-stop (λ r. r .answer ≡ refusal 13 → ⊥) _ (s .station) [] (take l (s .history)) _ (refusal-not _ (depth-not (s .station) d _ e)) (λ z. accepted-not [] 13)
 
 -- no answer of a list is refusal 13
 abbrev pub No-13 : List Seen → Type 0

@@ -1,14 +1,15 @@
--- The ten passes by cases: persistence or a pass that only paints the frame, a LUT or a pass without a preset, and what the other arm of a `match` tells.
--- Assumes nothing.
+-- The ten passes by cases: persistence or a pass that only paints the frame; a LUT, persistence or a pass that no call changes but in its switch; and what the
+-- other arm of a `match` tells. Assumes nothing.
 use Prim.Native.Nat.{ℕ, suc, _+_, _*_, _≤_, zero-le}
 use native.Mathlib.Omega.{arith}
 use mathlib.Core.Path.{_≡_, refl, sym, ap, subst, _∙_}
 use mathlib.Core.Bool.{false, not}
-use mathlib.Core.List.{List, [], _∷_}
+use mathlib.Core.List.{List, [], _∷_, _++_}
 use denote.Enum.Declared.{tagOf}
 use lib.Dec.{T, eqb}
 use lib.Ieee.{Float}
-use lib.ListN.{length}
+use lib.ListN.{length, getD, drop}
+use lib.Seq.{drop-append-seam}
 use mir.Val.{hasKey}
 use types.Run.{OneOf, miss}
 use Rattle.num.specs.Held.{sized}
@@ -18,7 +19,7 @@ use Rattle.passes.specs.Laws.Lengths.{curvature-length, crt-length, vignette-le
 use Rattle.passes.specs.Laws.Lengths.{persistence-length, persistence-few, history-length}
 use Rattle.passes.specs.Painted.{painted}
 use Rattle.passes.specs.Laws.Painted.{Paints}
-use Rattle.chain.specs.Calls.{next, steppedPass, presetOf}
+use Rattle.chain.specs.Calls.{next, steppedPass, presetOf, deepPass}
 use Rattle.chain.specs.Chain.{wash, paint, over, overBy, depthOf, reads, samplesOf}
 use Rattle.cards.specs.Passes.{kindOf}
 use Rattle.cards.specs.declared.station.Pass.{Pass}
@@ -94,14 +95,14 @@ module _ (w h : ℕ) (curve : List Float) (x : Flow) where
 pub no-depth : (p : Pass) → (kindOf p ≡ 4 → ⊥) → depthOf p ≡ 0
 no-depth = by-memory (λ p. (kindOf p ≡ 4 → ⊥) → depthOf p ≡ 0) (λ amount k n. absurd (n refl)) (λ p m n. m .no-depth)
 
--- ## A LUT, or a pass without a preset
+-- ## A LUT, persistence, or a pass that no call changes but in its switch
 
--- a pass but for its preset
+-- a pass but for its preset and its depth
 abbrev pub blank : Pass → Pass
 blank (Ntsc strength bleed) = Ntsc strength bleed
 blank (Bloom threshold strength radius) = Bloom threshold strength radius
 blank (AutoGradient strength vertical horizontal) = AutoGradient strength vertical horizontal
-blank (Persistence amount depth) = Persistence amount depth
+blank (Persistence amount depth) = Persistence amount 0
 blank (Lut preset strength) = Lut 0 strength
 blank (Curvature amount) = Curvature amount
 blank (ColorCorrection brightness contrast saturation gamma) = ColorCorrection brightness contrast saturation gamma
@@ -109,35 +110,83 @@ blank (Crt strength) = Crt strength
 blank (Vignette strength) = Vignette strength
 blank (Scanlines strength) = Scanlines strength
 
--- a pass without a preset
+-- such a pass with the preset at the head of a list and a depth, where it has them
+abbrev refill : Pass → List ℕ → ℕ → Pass
+refill (Ntsc strength bleed) ps d = Ntsc strength bleed
+refill (Bloom threshold strength radius) ps d = Bloom threshold strength radius
+refill (AutoGradient strength vertical horizontal) ps d = AutoGradient strength vertical horizontal
+refill (Persistence amount depth) ps d = Persistence amount d
+refill (Lut preset strength) ps d = Lut (getD ps 0 0) strength
+refill (Curvature amount) ps d = Curvature amount
+refill (ColorCorrection brightness contrast saturation gamma) ps d = ColorCorrection brightness contrast saturation gamma
+refill (Crt strength) ps d = Crt strength
+refill (Vignette strength) ps d = Vignette strength
+refill (Scanlines strength) ps d = Scanlines strength
+
+-- a pass without a preset and without a depth
 pub record Other (p : Pass) : Type 0 where
   pub whole : blank p ≡ p
+  refilled : (ps : List ℕ) (d : ℕ) → refill p ps d ≡ p
   pub no-preset : presetOf p ≡ []
   pub unstepped : steppedPass p ≡ p
+  pub undeepened : (d : ℕ) → deepPass d p ≡ p
 
--- each pass is a LUT or has no preset
-pub by-preset : (P : Pass → Type 0) → ((preset : ℕ) (strength : Float) → P (Lut preset strength)) → ((p : Pass) → Other p → P p) → (p : Pass) → P p
-by-preset P f g (Ntsc a b) = g _ (record { whole = refl; no-preset = refl; unstepped = refl })
-by-preset P f g (Bloom a b c) = g _ (record { whole = refl; no-preset = refl; unstepped = refl })
-by-preset P f g (AutoGradient a b c) = g _ (record { whole = refl; no-preset = refl; unstepped = refl })
-by-preset P f g (Persistence a b) = g _ (record { whole = refl; no-preset = refl; unstepped = refl })
-by-preset P f g (Lut a b) = f a b
-by-preset P f g (Curvature a) = g _ (record { whole = refl; no-preset = refl; unstepped = refl })
-by-preset P f g (ColorCorrection a b c d) = g _ (record { whole = refl; no-preset = refl; unstepped = refl })
-by-preset P f g (Crt a) = g _ (record { whole = refl; no-preset = refl; unstepped = refl })
-by-preset P f g (Vignette a) = g _ (record { whole = refl; no-preset = refl; unstepped = refl })
-by-preset P f g (Scanlines a) = g _ (record { whole = refl; no-preset = refl; unstepped = refl })
+module _ (P : Pass → Type 0) (f : (preset : ℕ) (strength : Float) → P (Lut preset strength)) (g : (amount : Float) (k : ℕ) → P (Persistence amount k))
+    (h : (p : Pass) → Other p → P p)
+  where
+    other : (p : Pass) → blank p ≡ p → ((ps : List ℕ) (d : ℕ) → refill p ps d ≡ p) → presetOf p ≡ [] → steppedPass p ≡ p
+        → ((d : ℕ) → deepPass d p ≡ p) → P p
+    other p a b c d e = h p (record { whole = a; refilled = b; no-preset = c; unstepped = d; undeepened = e })
 
--- any pass but a LUT has none
-pub no-lut : (p : Pass) → (kindOf p ≡ 5 → ⊥) → Other p
-no-lut = by-preset (λ p. (kindOf p ≡ 5 → ⊥) → Other p) (λ preset strength n. absurd (n refl)) (λ p o n. o)
+    pub by-setting : (p : Pass) → P p
+    by-setting (Ntsc a b) = other _ refl (λ ps d. refl) refl refl (λ d. refl)
+    by-setting (Bloom a b c) = other _ refl (λ ps d. refl) refl refl (λ d. refl)
+    by-setting (AutoGradient a b c) = other _ refl (λ ps d. refl) refl refl (λ d. refl)
+    by-setting (Persistence a b) = g a b
+    by-setting (Lut a b) = f a b
+    by-setting (Curvature a) = other _ refl (λ ps d. refl) refl refl (λ d. refl)
+    by-setting (ColorCorrection a b c d) = other _ refl (λ ps d. refl) refl refl (λ d. refl)
+    by-setting (Crt a) = other _ refl (λ ps d. refl) refl refl (λ d. refl)
+    by-setting (Vignette a) = other _ refl (λ ps d. refl) refl refl (λ d. refl)
+    by-setting (Scanlines a) = other _ refl (λ ps d. refl) refl refl (λ d. refl)
+
+-- what a pass is, from what it is but for preset and depth, and these
+refilled-whole : (p : Pass) (u : List ℕ) → refill (blank p) (presetOf p ++ u) (depthOf p) ≡ p
+refilled-whole p u =
+    by-setting (λ p. refill (blank p) (presetOf p ++ u) (depthOf p) ≡ p) (λ preset strength. refl) (λ amount k. refl)
+    (λ p o. ap (λ (q : Pass). refill q (presetOf p ++ u) (depthOf p)) (o .whole) ∙ o .refilled (presetOf p ++ u) (depthOf p)) p
+
+pub same-pass : (p q : Pass) (u v : List ℕ) → blank p ≡ blank q → presetOf p ++ u ≡ presetOf q ++ v → depthOf p ≡ depthOf q → (p ≡ q) × (u ≡ v)
+same-pass p q u v a b c =
+    let one : p ≡ q = sym (refilled-whole p u) ∙ (λ i. refill (a i) (b i) (c i)) ∙ refilled-whole q v in
+    let after : Pass → List ℕ → List ℕ = λ r. drop (length (presetOf r)) in
+    (one, sym (drop-append-seam (presetOf p) u) ∙ (λ i. after (one i) (b i)) ∙ drop-append-seam (presetOf q) v)
+
+-- any pass but a LUT has no preset, and is not changed by a step
+pub no-lut : (p : Pass) → (kindOf p ≡ 5 → ⊥) → (presetOf p ≡ []) × (steppedPass p ≡ p)
+no-lut =
+    by-setting (λ p. (kindOf p ≡ 5 → ⊥) → (presetOf p ≡ []) × (steppedPass p ≡ p)) (λ preset strength n. absurd (n refl)) (λ amount k n. (refl, refl))
+    (λ p o n. (o .no-preset, o .unstepped))
+
+-- any pass but persistence is not changed by a new depth
+pub no-persistence : (p : Pass) → (kindOf p ≡ 4 → ⊥) → (d : ℕ) → deepPass d p ≡ p
+no-persistence =
+    by-setting (λ p. (kindOf p ≡ 4 → ⊥) → (d : ℕ) → deepPass d p ≡ p) (λ preset strength n d. refl) (λ amount k n. absurd (n refl))
+    (λ p o n. o .undeepened)
 
 pub stepped-kind : (p : Pass) → kindOf (steppedPass p) ≡ kindOf p
-stepped-kind = by-preset (λ p. kindOf (steppedPass p) ≡ kindOf p) (λ preset strength. refl) (λ p o. ap kindOf (o .unstepped))
+stepped-kind = by-setting (λ p. kindOf (steppedPass p) ≡ kindOf p) (λ preset strength. refl) (λ amount k. refl) (λ p o. ap kindOf (o .unstepped))
+
+pub stepped-depth : (p : Pass) → depthOf (steppedPass p) ≡ depthOf p
+stepped-depth = by-setting (λ p. depthOf (steppedPass p) ≡ depthOf p) (λ preset strength. refl) (λ amount k. refl) (λ p o. ap depthOf (o .unstepped))
 
 -- a LUT with its next preset
 pub steps : (p : Pass) {preset new : ℕ} {strength : Float} → p ≡ Lut preset strength → new ≡ next preset → Lut new strength ≡ steppedPass p
 steps p {strength = strength} e n = ap (λ (k : ℕ). Lut k strength) n ∙ ap steppedPass (sym e)
+
+-- persistence with a new depth
+pub deep : (p : Pass) {amount : Float} {k : ℕ} (d : ℕ) → p ≡ Persistence amount k → Persistence amount d ≡ deepPass d p
+deep p d e = ap (deepPass d) (sym e)
 
 -- ## Colour, or a pass that reads no curve
 

@@ -1,20 +1,24 @@
 -- The calls on one pass: a reply by its refusal, what no refusal tells, and the record changed or asked in its place. Assumes nothing.
 use Prim.Native.Nat.{ℕ, zero, suc, _≤_}
 use native.Mathlib.Omega.{arith}
-use mathlib.Core.Path.{_≡_, refl, sym, ap, _∙_}
+use mathlib.Core.Path.{_≡_, refl, sym, ap, ap₂, _∙_}
 use mathlib.Core.Bool.{Bool, true, false, not, cond}
 use mathlib.Core.List.{List, [], _∷_}
 use lib.ListN.{length, getD, set}
-use Rattle.num.specs.Held.{Held}
+use Rattle.num.specs.Held.{Held, area}
 use Rattle.num.specs.Refusals.{unless}
 use Rattle.num.specs.Laws.Refusals.{accepts}
 use Rattle.cards.specs.Alike.{chainOf}
 use Rattle.cards.specs.Answers.{refusal, acceptance, Reply, reply, refusing}
 use Rattle.chain.specs.Calls.{hold, rechain, pend, lacks, waits, askStops, commitStops, commitReply, onFirst, ofFirst, heldAfter, withSwitch, switched}
 use Rattle.chain.specs.Calls.{switchReply, stepped, steppedPass, presetOf, presets, stepLut, stepReply}
+use Rattle.chain.specs.Calls.{framed, refusingFrame, depthStops, deepPass, withDepth, redepth, depthReply}
+use Rattle.chain.specs.Chain.{depth}
+use Rattle.passes.specs.Plain.Persistence.{resized}
 use Rattle.chain.specs.Lent.{First, Stands}
 use Rattle.cards.specs.Normal.{askable, goodStation}
 use Rattle.cards.specs.Records.{kinds, among}
+use Rattle.cards.specs.Settings.{oneAtLeast}
 use Rattle.cards.specs.declared.station.Pass.{Pass}
 use Rattle.cards.specs.declared.station.Pending.{Pending}
 use Rattle.cards.specs.declared.station.Pending.the-variants.{Nothing, Switch}
@@ -109,3 +113,20 @@ cycles s i t room none {pass} {preset} e p =
     ∙ ap (λ (q : Pass). reply report (now q)) e
     ∙ ap (reply report) (placed 5 s i t room none stepped (s .held))
     ∙ accepts (lacks s 5) (refusing s) (reply report (rechain (stepLut (chainOf s)) s)) refl none
+
+-- persistence with a new depth, and the history that it leaves
+pub redepths : (s : Station) (i : ℕ) → First 4 (s .n) (s .records) i → s .n ≤ length (s .records) → (d : ℕ) (words : List ℕ)
+    → depthStops s d (length words) ≡ 0 → lacks s 4 ≡ 0 → {new before count : ℕ} {pass : Pass} {words′ : List ℕ}
+    → new ≡ oneAtLeast d → before ≡ depth (chainOf s) → count ≡ area (s .held) → pass ≡ deepPass new (getD (s .records) i past .pass)
+    → words′ ≡ resized before new count words
+    → framed (acceptance []) (put i (record { on = getD (s .records) i past .on; pass = pass }) (s .held) s) [] words′ ≡ depthReply d s words
+unfolding depthReply
+redepths s i t room d words none there {new} {before} {count} e b c p h =
+    let old = getD (s .records) i past in
+    let set-to : Pass → Station = λ q. put i (record { on = old .on; pass = q }) (s .held) s in
+    let left = resized (depth (chainOf s)) (oneAtLeast d) (area (s .held)) words in
+    ap₂ (λ (q : Pass) (l : List ℕ). framed (acceptance []) (set-to q) [] l) (p ∙ ap (λ (k : ℕ). deepPass k (old .pass)) e)
+    (h ∙ (λ j. resized (b j) (e j) (c j) words))
+    ∙ ap (λ (u : Station). framed (acceptance []) u [] left) (placed 4 s i t room there (withDepth (oneAtLeast d)) (s .held))
+    ∙ accepts (depthStops s d (length words)) (refusingFrame s [] words)
+    (framed (acceptance []) (rechain (redepth (oneAtLeast d) (chainOf s)) s) [] left) refl none

@@ -1,31 +1,34 @@
--- What a refusal keeps, and what no frame touches. Assumes nothing.
+-- What a refusal keeps, and what no frame and no new depth touches. Assumes nothing.
 use Prim.Native.Nat.{ℕ, zero, suc, _*_, _≤_}
 use mathlib.Core.Path.{_≡_, refl, ap, subst, _∙_}
 use mathlib.Core.Bool.{Bool, true, false, cond}
-use mathlib.Core.List.{List, _++_}
+use mathlib.Core.List.{List, [], _++_}
 use lib.Ieee.{Float}
 use lib.ListN.{length, take, drop, take-append-drop}
 use lib.Seq.{length-take-le, drop-at}
-use Rattle.num.specs.Held.{Held, sized, sameHeld}
+use Rattle.num.specs.Held.{Held, sized, area, sameHeld}
 use Rattle.num.specs.Refusals.{unless}
 use Rattle.passes.specs as Text
 use Rattle.passes.specs.Flow.{Flow, flow}
 use Rattle.passes.specs.Painted.{onto}
 use Rattle.passes.specs.Plain.Persistence.{persistence, blend, refilled, shifted}
-use Rattle.passes.specs.Laws.Persistence.{refilled-rest, shifted-rest}
+use Rattle.passes.specs.Laws.Persistence.{refilled-rest, shifted-rest, resized-front, resized-rest}
 use Rattle.cards.specs.Alike.{chainOf}
 use Rattle.cards.specs.Answers.{Report, refusal, acceptance, reply, refusing}
 use Rattle.cards.specs.Laws.Answers.{accepted-not}
-use Rattle.chain.specs.Calls.{stops, lacks, askStops, commitStops, Framed, framed}
-use Rattle.chain.specs.Calls.{refusingFrame, incoming, shown, shownBy, frameReplyBy}
+use Rattle.chain.specs.Calls.{stops, lacks, askStops, commitStops, depthStops, Framed, framed}
+use Rattle.chain.specs.Calls.{refusingFrame, incoming, shown, shownBy, frameReplyBy, depthReply}
 use Rattle.chain.specs.Chain.{chain, depth}
-use Rattle.chain.specs.Claims.{Refused-keeps, Untouched}
-use Rattle.chain.specs.Machine.{Call, frame, reset, switch, ask, commit, step, State, call, after}
+use Rattle.chain.specs.Claims.{Refused-keeps, Untouched, Depth-leaves}
+use Rattle.chain.specs.Machine.{Call, frame, reset, switch, ask, commit, step, newDepth, State, call, after}
+use Rattle.cards.specs.Settings.{oneAtLeast}
 use Rattle.cards.specs.declared.station.Record.{Record}
 use Rattle.cards.specs.declared.station.Station.{Station}
 use Rattle.chain.proofs.Apart.{repaint, Apart, quiet, keeping, apart, frame-length}
 use Rattle.cards.specs.Laws.Good.{good}
+use Rattle.chain.proofs.Deeper.{deep-enough, deepens}
 use Rattle.chain.proofs.Goes.{goes}
+use Rattle.chain.proofs.Sound.{by-stop}
 
 -- ## A refusal
 
@@ -34,30 +37,36 @@ unfolding unless
 reply-keeps zero s t ns k e = accepted-not ns k e
 reply-keeps (suc n) s t ns k e = refl
 
-frame-keeps : (n w h : ℕ) (s : Station) (words past : List ℕ) (curve : List Float) (k : ℕ)
-    → unless n (refusingFrame s words past) (shown w h s words past curve) .answer ≡ refusal k
-    → unless n (refusingFrame s words past) (shown w h s words past curve) ≡ framed (refusal k) s words past
-unfolding unless shownBy
-frame-keeps zero w h s words past curve k e = accepted-not _ k e
-frame-keeps (suc n) w h s words past curve k e = ap (λ (r : Report). framed r s words past) e
+-- of a call that is lent words
+lent-keeps : (n : ℕ) (s t : Station) (words past words′ past′ ns : List ℕ) (k : ℕ)
+    → unless n (refusingFrame s words past) (framed (acceptance ns) t words′ past′) .answer ≡ refusal k
+    → unless n (refusingFrame s words past) (framed (acceptance ns) t words′ past′) ≡ framed (refusal k) s words past
+unfolding unless
+lent-keeps zero s t words past words′ past′ ns k e = accepted-not ns k e
+lent-keeps (suc n) s t words past words′ past′ ns k e = ap (λ (r : Report). framed r s words past) e
 
-call-keeps : (c : Call) (s : State) (k : ℕ) → call c s .gives .answer ≡ refusal k → after c s ≡ s
-unfolding call after frameReplyBy
-call-keeps (frame w h words l m i curve) s k e =
-    let past = take l (s .history) in
-    let kept = frame-keeps (stops (s .station) w h (length words) (length past) m i curve) w h (s .station) words past curve k e in
+-- its words come back as they were
+given-back : (l : ℕ) (s : State) (k : ℕ) {words : List ℕ} {r : Framed} → r ≡ framed (refusal k) (s .station) words (take l (s .history))
+    → record { station = r .station; history = r .past ++ drop l (s .history) } ≡ s
+given-back l s k kept =
     ap (λ (r : Framed). record { station = r .station; history = r .past ++ drop l (s .history) }) kept
     ∙ ap (λ (l : List ℕ). record { station = s .station; history = l }) (take-append-drop l (s .history))
+
+call-keeps : (c : Call) (s : State) (k : ℕ) → call c s .gives .answer ≡ refusal k → after c s ≡ s
+unfolding call after frameReplyBy shownBy depthReply
+call-keeps (frame w h words l m i curve) s k e =
+    given-back l s k (lent-keeps (stops (s .station) w h (length words) (length (take l (s .history))) m i curve) (s .station) _ words _ _ _ _ k e)
 call-keeps reset s k e = ap (λ (t : Station). record { station = t; history = s .history }) (reply-keeps (lacks (s .station) 4) (s .station) _ _ k e)
 call-keeps (switch kind on) s k e = ap (λ (t : Station). record { station = t; history = s .history }) (reply-keeps (lacks (s .station) kind) (s .station) _ _ k e)
 call-keeps (ask kind on) s k e =
     ap (λ (t : Station). record { station = t; history = s .history }) (reply-keeps (askStops (s .station) kind) (s .station) _ _ k e)
 call-keeps commit s k e = ap (λ (t : Station). record { station = t; history = s .history }) (reply-keeps (commitStops (s .station)) (s .station) _ _ k e)
 call-keeps step s k e = ap (λ (t : Station). record { station = t; history = s .history }) (reply-keeps (lacks (s .station) 5) (s .station) _ _ k e)
+call-keeps (newDepth d l) s k e = given-back l s k (lent-keeps (depthStops (s .station) d (length (take l (s .history)))) (s .station) _ [] _ _ _ _ k e)
 
 pub refused-keeps : Refused-keeps
-unfolding frameReplyBy
-refused-keeps = (call-keeps, λ w h s words past floats ints curve k e. frame-keeps (stops s w h (length words) (length past) floats ints curve) w h s words past curve k e)
+unfolding frameReplyBy shownBy
+refused-keeps = (call-keeps, λ w h s words past floats ints curve k e. lent-keeps (stops s w h (length words) (length past) floats ints curve) s _ words past _ _ _ k e)
 
 -- ## What no frame touches
 
@@ -114,3 +123,18 @@ stays w h s words past floats ints curve (suc n) e = (refl, refl, refl)
 pub untouched : Untouched
 unfolding frameReplyBy
 untouched w h s words past floats ints curve = stays w h s words past floats ints curve (stops s w h (length words) (length past) floats ints curve) refl
+
+-- ## What no new depth touches
+
+pub depth-leaves : Depth-leaves
+unfolding depthReply
+depth-leaves d s past =
+    let count = area (s .held) in
+    by-stop
+    (λ r. (take (depth (chainOf s) * count) (r .past) ≡ take (depth (chainOf s) * count) past)
+    × (drop (oneAtLeast d * count) (r .past) ≡ drop (oneAtLeast d * count) past) × (r .station .held ≡ s .held))
+    _ s [] past _ (refl, refl, refl)
+    (λ z.
+    let g = deepens s d (length past) z in
+    let some = deep-enough s (g .there) in
+    (resized-front _ (oneAtLeast d) count past some (g .room), resized-rest _ (oneAtLeast d) count past some (g .room), refl))

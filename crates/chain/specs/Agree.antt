@@ -1,18 +1,18 @@
 -- Demand 3: whatever two stations went through, from the point of agreement of a shared list on they give the same. Assumes nothing.
 use Prim.Native.Nat.{ℕ, suc, _*_, _-_, _≤_}
 use mathlib.Core.Path.{_≡_}
-use mathlib.Core.Bool.{Bool, true, false, not, _&&_, _||_, cond}
+use mathlib.Core.Bool.{Bool, true, false, not, _&&_, _||_, cond, Bool·beq}
 use mathlib.Core.List.{List, [], _∷_, _++_}
 use lib.Dec.{eqb}
 use lib.ListN.{length, take, drop}
 use lib.Ieee.{Float}
 use Rattle.cards.specs.Alike.{chainOf, switches}
-use Rattle.chain.specs.Answers.{reportedFrame, called, cycled, Applies}
+use Rattle.chain.specs.Answers.{reportedFrame, called, calledWith, cycled, Applies}
 use Rattle.cards.specs.Answers.{ok}
-use Rattle.chain.specs.Calls.{resetReply, switchReply, askReply, commitReply, stepReply, presets}
+use Rattle.chain.specs.Calls.{resetReply, switchReply, askReply, commitReply, stepReply, presets, depthReply}
 use Rattle.cards.specs.Card.{accepted, openOf}
-use Rattle.chain.specs.Chain.{depth}
-use Rattle.chain.specs.Machine.{Call, frame, reset, switch, ask, commit, step, State, Seen, seen, picture, still, call, after, run, saw}
+use Rattle.chain.specs.Chain.{depth, depths}
+use Rattle.chain.specs.Machine.{Call, frame, reset, switch, ask, commit, step, newDepth, State, Seen, seen, picture, lend, still, call, after, run, saw}
 use Rattle.cards.specs.Normal.{persists}
 use Rattle.cards.specs.Written.{cardOf}
 use Rattle.chain.specs.declared.pipeline.Applied.{Applied}
@@ -41,6 +41,7 @@ pub data SameCall : Call → Call → Type 0 where
   asks : {kind : ℕ} {on : Bool} → SameCall (ask kind on) (ask kind on)
   commits : SameCall commit commit
   steps : SameCall step step
+  new-depths : {d lent : ℕ} → SameCall (newDepth d lent) (newDepth d lent)
 
 -- one shared list, as either station gets it
 pub data Same : List Call → List Call → Type 0 where
@@ -55,6 +56,7 @@ lent (switch kind on) = 0
 lent (ask kind on) = 0
 lent commit = 0
 lent step = 0
+lent (newDepth d history) = history
 
 -- each call lends no more words than an own buffer of n words has
 abbrev pub Lends : ℕ → List Call → Type 0
@@ -75,6 +77,7 @@ takes s (switch kind position) = false
 takes s (ask kind position) = false
 takes s commit = false
 takes s step = false
+takes s (newDepth d history) = false
 
 -- an accepted call that switches persistence from on to off
 abbrev pub switchesOff : State → Call → Bool
@@ -88,23 +91,44 @@ ends s (switch kind position) = switchesOff s (switch kind position)
 ends s (ask kind position) = false
 ends s commit = switchesOff s commit
 ends s step = false
+ends s (newDepth d history) = false
 
--- how many calls come before the point, while k frames have still to be taken
-unfoldable pub before : ℕ → State → List Call → ℕ
-before k s [] = 0
-before k s (c ∷ cs) = cond (eqb k 0 || ends s c) 0 (suc (before (cond (takes s c) (k - 1) k) (after c s) cs))
+-- an accepted change of depth, to the present one too
+abbrev pub changes : State → Call → Bool
+changes s (frame w h words history floats ints curve) = false
+changes s reset = false
+changes s (switch kind position) = false
+changes s (ask kind position) = false
+changes s commit = false
+changes s step = false
+changes s (newDepth d history) = ok (call (newDepth d history) s .gives .answer)
 
--- the first call where persistence is off or absent; else the call after the K-th frame that it takes, or the first reset or
--- switching-off, if that comes sooner
-unfoldable pub point : State → List Call → ℕ
-point s cs = cond (on s) (before (depth (chainOf (s .station))) s cs) 0
+-- how many frames have still to be taken after a call, of k before it: a change of depth starts the count anew, with the new depth
+abbrev pub due : ℕ → State → Call → ℕ
+due k s c = cond (changes s c) (depth (chainOf (after c s .station))) (cond (takes s c) (k - 1) k)
+
+-- How many calls come before the point, while k frames have still to be taken. Where one station accepts a change of depth and the other
+-- refuses it, since it holds larger frames, the list has no point: all of its calls come before.
+unfoldable pub before : ℕ → (s t : State) → (cs ds : List Call) → ℕ
+before k s t [] ds = 0
+before k s t (c ∷ cs) [] = 0
+before k s t (c ∷ cs) (d ∷ ds) =
+    cond (eqb k 0 || ends s c) 0
+    (suc (cond (Bool·beq (changes s c) (changes t d)) (before (due k s c) (after c s) (after d t) cs ds) (length cs)))
+
+-- the first call where persistence is off or absent; else the call after the K-th frame that it takes since the list began or the depth
+-- was changed, or the first reset or switching-off, if that comes sooner
+unfoldable pub point : (s t : State) → (cs ds : List Call) → ℕ
+point s t cs ds = cond (on s) (before (depth (chainOf (s .station))) s t cs ds) 0
 
 -- ## The agreement of two plain machines
 
--- comparable after the own lists, beside cards that normalise alike: the switch of each pass, the preset, if there is one, and what is asked for are equal
+-- comparable after the own lists, beside cards that normalise alike: the switch of each pass, the preset, if there is one, the depths, and what is asked for
+-- are equal
 pub record Comparable (s t : Station) : Type 0 where
   pub same-switches : switches s ≡ switches t
   pub same-presets : presets (chainOf s) ≡ presets (chainOf t)
+  pub same-depths : depths (chainOf s) ≡ depths (chainOf t)
   pub same-pending : s .pending ≡ t .pending
 
 abbrev pub Machines-agree : Type 0
@@ -116,10 +140,10 @@ Machines-agree =
     let s : State = run (opened a H) own in
     let t : State = run (opened b G) own′ in
     Comparable (s .station) (t .station)
-    -- a shared list, whose frames lend words of either own buffer
+    -- a shared list, whose calls lend words of either own buffer
     → (cs ds : List Call) → Same cs ds → Lends (length H) cs → Lends (length G) cs
     -- the point is one for both, and from it on each answer, returned station and picture is equal
-    → (point s cs ≡ point t ds) × (drop (point s cs) (saw s cs) ≡ drop (point s cs) (saw t ds))
+    → (point s t cs ds ≡ point t s ds cs) × (drop (point s t cs ds) (saw s cs) ≡ drop (point s t cs ds) (saw t ds))
 
 -- ## The same of calls that were made
 
@@ -151,6 +175,11 @@ pub data Made : (s : State) → List Call → (gave : List Seen) → (t : State)
   by-cycle-lut : {s t : State} {cs : List Call} {gave : List Seen} (r : Cycled) → cycled r ≡ stepReply (s .station)
       → Made (record { station = r .station; history = s .history }) cs gave t
       → Made s (step ∷ cs) (still (s .history) (cycled r) .gives ∷ gave) t
+  -- with the first words of the own buffer
+  by-set-depth : {s t : State} {cs : List Call} {gave : List Seen} {d history : ℕ} {past′ : List ℕ} (r : Called)
+      → calledWith r past′ ≡ depthReply d (s .station) (take history (s .history))
+      → Made (record { station = r .station; history = past′ ++ drop history (s .history) }) cs gave t
+      → Made s (newDepth d history ∷ cs) (lend 0 history (s .history) (calledWith r past′) .gives ∷ gave) t
 
 -- what a list of calls gave and left is what the plain machine gives and leaves: each answer, returned station and picture, and the own buffer
 abbrev pub Plain : State → List Call → List Seen → State → Type 0
@@ -172,7 +201,7 @@ Demand-3 =
     → (cs ds : List Call) (gave gave′ : List Seen) (u v : State) → Made s cs gave u → Made t ds gave′ v
     -- in own and shared lists each answer, returned station and picture is the plain machine's
     → (Plain (opened a H) own past s × Plain (opened b G) own′ past′ t × Plain s cs gave u × Plain t ds gave′ v)
-    -- where the stations are comparable and the further calls are one shared list, whose frames lend words of either own buffer:
+    -- where the stations are comparable and the further calls are one shared list, whose calls lend words of either own buffer:
     -- the point is one for both, and from it on each answer, returned station and picture is equal
     × (Comparable (s .station) (t .station) → Same cs ds → Lends (length H) cs → Lends (length G) cs
-    → (point s cs ≡ point t ds) × (drop (point s cs) gave ≡ drop (point s cs) gave′))
+    → (point s t cs ds ≡ point t s ds cs) × (drop (point s t cs ds) gave ≡ drop (point s t cs ds) gave′))

@@ -5,7 +5,7 @@ use mathlib.Core.List.{List, [], _∷_}
 use lib.ListN.{length, drop}
 use lib.Ieee.{Float}
 use Rattle.cards.specs.Answers.{Report, refusal, acceptance, Reply, reply, reported}
-use Rattle.chain.specs.Calls.{floatRoom, framed, frameReply}
+use Rattle.chain.specs.Calls.{floatRoom, Framed, framed, frameReply}
 use Rattle.chain.specs.declared.pipeline.Applied.{Applied}
 use Rattle.chain.specs.declared.pipeline.Called.{Called}
 use Rattle.chain.specs.declared.pipeline.Cycled.{Cycled}
@@ -41,6 +41,10 @@ reportedSamples (Sampling.Refused k) = refusal k
 
 abbrev pub called : Called → Reply
 called r = reply (reported (r .answer)) (r .station)
+
+-- of a call that is lent the history alone, with what it leaves there
+abbrev pub calledWith : Called → (past : List ℕ) → Framed
+calledWith r past = framed (reported (r .answer)) (r .station) [] past
 
 abbrev pub cycled : Cycled → Reply
 cycled r = reply (reportedStep (r .answer)) (r .station)

@@ -5,18 +5,20 @@ use mathlib.Core.List.{List, [], _∷_, _++_}
 use lib.Dec.{eqb, ltb}
 use lib.Ieee.{Float}
 use lib.ListN.{length, take, drop}
-use Rattle.num.specs.Held.{Held, nothing}
+use Rattle.num.specs.Held.{Held, nothing, area}
 use Rattle.num.specs.Refusals.{badSide, unless}
 use Rattle.passes.specs.Arith.{Arith, plain}
 use Rattle.passes.specs.ColorCorrection.{goodCurve}
 use Rattle.passes.specs.Flow.{Flow, flow}
 use Rattle.passes.specs.Painted.{painted}
+use Rattle.passes.specs.Persistence.{resized}
 use Rattle.cards.specs.Alike.{chainOf}
 use Rattle.cards.specs.Answers.{Report, refusal, acceptance, Reply, reply, refusing}
 use Rattle.chain.specs.Chain.{chainBy, depth, readsCurve, samplesIn}
 use Rattle.cards.specs.Normal.{goodStation}
 use Rattle.cards.specs.Passes.{kindOf}
 use Rattle.cards.specs.Records.{kinds, among}
+use Rattle.cards.specs.Settings.{oneAtLeast}
 use Rattle.cards.specs.declared.station.Pass.{Pass}
 use Rattle.cards.specs.declared.station.Pass.the-variants.{Ntsc, Bloom, AutoGradient, Persistence, Lut, Curvature, ColorCorrection, Crt, Vignette, Scanlines}
 use Rattle.cards.specs.declared.station.Pending.{Pending}
@@ -70,6 +72,10 @@ askStops s kind = unless (lacks s kind) (λ k. k) (cond (waits (s .pending)) 17 
 -- of committing it
 unfoldable pub commitStops : Station → ℕ
 commitStops s = cond (not (goodStation s)) 13 (cond (waits (s .pending)) 0 18)
+
+-- of a new depth, by the length of the history that is lent: where nothing is held no word of it is asked for
+unfoldable pub depthStops : Station → (d history : ℕ) → ℕ
+depthStops s d history = unless (lacks s 4) (λ k. k) (cond (ltb 8 d) 6 (cond (ltb history (oneAtLeast d * area (s .held))) 10 0))
 
 -- ## Reset, switch, asking and committing, preset step
 
@@ -175,7 +181,7 @@ samplesReport w h s = unless (samplesStops s w h) refusal (acceptance (samplesIn
 
 -- ## Frame
 
--- a frame leaves the framebuffer and the lent history too
+-- what a call leaves that is lent buffers: the framebuffer and the history too
 pub record Framed : Type 0 where
   pub answer : Report
   pub station : Station
@@ -212,3 +218,30 @@ shown = shownBy plain
 
 abbrev pub frameReply : (w h : ℕ) → Station → (words past : List ℕ) → (floats ints : ℕ) → (curve : List Float) → Framed
 frameReply = frameReplyBy plain
+
+-- ## A new depth (request P11)
+
+abbrev pub deepPass : ℕ → Pass → Pass
+deepPass d (Ntsc strength bleed) = Ntsc strength bleed
+deepPass d (Bloom threshold strength radius) = Bloom threshold strength radius
+deepPass d (AutoGradient strength vertical horizontal) = AutoGradient strength vertical horizontal
+deepPass d (Persistence amount depth) = Persistence amount d
+deepPass d (Lut preset strength) = Lut preset strength
+deepPass d (Curvature amount) = Curvature amount
+deepPass d (ColorCorrection brightness contrast saturation gamma) = ColorCorrection brightness contrast saturation gamma
+deepPass d (Crt strength) = Crt strength
+deepPass d (Vignette strength) = Vignette strength
+deepPass d (Scanlines strength) = Scanlines strength
+
+abbrev pub withDepth : ℕ → Record → Record
+withDepth d r = record { on = r .on; pass = deepPass d (r .pass) }
+
+abbrev pub redepth : ℕ → List Record → List Record
+redepth d = onFirst 4 (withDepth d)
+
+-- by the card's rule; no framebuffer is lent, and of the history as many places as there are then are written
+unfoldable pub depthReply : (d : ℕ) → Station → (past : List ℕ) → Framed
+depthReply d s past =
+    unless (depthStops s d (length past)) (refusingFrame s [] past)
+    (framed (acceptance []) (rechain (redepth (oneAtLeast d) (chainOf s)) s) []
+    (resized (depth (chainOf s)) (oneAtLeast d) (area (s .held)) past))

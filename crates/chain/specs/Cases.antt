@@ -1,5 +1,5 @@
--- The cases of the refusals of the calls, of what a frame reports, of frames with a curve, of turned frames, and of switches that are asked for. Each list
--- pairs what a definition gives with what it should give, and one proof by computation holds the whole list. Assumes nothing.
+-- The cases of the refusals of the calls, of what a frame reports, of frames with a curve, of turned frames, of switches that are asked for, and of a new
+-- depth. Each list pairs what a definition gives with what it should give, and one proof by computation holds the whole list. Assumes nothing.
 use Prim.Native.Nat.{ℕ, _+_, _*_}
 use mathlib.Core.Bool.{Bool, true, false}
 use mathlib.Core.List.{List, [], _∷_, map}
@@ -17,15 +17,16 @@ use Rattle.passes.specs.Cases.{times}
 use Rattle.passes.specs.Fold.{fold}
 use Rattle.passes.specs.Painted.{converted}
 use Rattle.passes.specs.Plain.Persistence as Persistence
+use Rattle.cards.specs.Alike.{chainOf}
 use Rattle.cards.specs.Answers.{Report, refusal, acceptance}
 use Rattle.cards.specs.Card.{stationOf}
 use Rattle.cards.specs.Normal.{settled, normalPass, normalChain, persists, goodStation}
 use Rattle.chain.specs.Calls.{floatRoom, hold, pend, stops, lacks, askStops, commitStops, onFirst, shownBy, frameReply, frameReplyBy}
-use Rattle.chain.specs.Calls.{samplesStops, samplesReport}
+use Rattle.chain.specs.Calls.{samplesStops, samplesReport, depthStops, depthReply}
 use Rattle.chain.specs.Agree.{opened}
 use Rattle.passes.specs.Samples.{samples, ntscSamples, bloomSamples}
-use Rattle.chain.specs.Chain.{wash, overBy, turnBy, depth, readsCurve, recordSamples, samplesIn}
-use Rattle.chain.specs.Machine.{Call, frame, reset, switch, ask, commit, step, State, call, after, run, saw}
+use Rattle.chain.specs.Chain.{wash, overBy, turnBy, depth, depths, readsCurve, recordSamples, samplesIn}
+use Rattle.chain.specs.Machine.{Call, frame, reset, switch, ask, commit, step, newDepth, State, call, after, run, saw}
 use Rattle.cards.specs.declared.station.Pass.the-variants.{Ntsc, Bloom, Persistence, Lut, ColorCorrection, Scanlines}
 use Rattle.cards.specs.declared.station.Pending.{Pending}
 use Rattle.cards.specs.declared.station.Pending.the-variants.{Nothing, Switch}
@@ -300,3 +301,71 @@ unfolding run saw after call askStops commitStops lacks onFirst frameReplyBy unl
     Text.Persistence.total Text.Persistence.add Text.Persistence.mix Text.Persistence.blend Persistence.copies
     Persistence.refilled Persistence.shifted
 untilCommitted-hold = refl
+
+-- A new depth (request P11). Persistence 0.5 of depth 3, frames of one word, an own buffer of five words. After three frames, depth 2 leaves all words; depth 4
+-- then repeats the oldest of two, 000000, and the word past the four places stays; the next frame is mixed with these four. Depth 0 is 1. A history that holds
+-- nothing is not touched.
+abbrev three : State
+three = opened (stationOf (record { on = true; pass = Persistence c0·5 3 } ∷ [])) (1 ∷ 2 ∷ 3 ∷ 4 ∷ 5 ∷ [])
+
+abbrev word : ℕ → Call
+word p = frame 1 1 (p ∷ []) 4 6 1 []
+
+abbrev threeFrames : State
+threeFrames = run three (word 0xffffff ∷ word 0 ∷ word 0x404040 ∷ [])
+
+abbrev pub renewed : List (List ℕ × List ℕ)
+renewed =
+    (threeFrames .history, 0x404040 ∷ 0 ∷ 0xffffff ∷ 4 ∷ 5 ∷ [])
+    ∷ (run threeFrames (newDepth 2 5 ∷ []) .history, 0x404040 ∷ 0 ∷ 0xffffff ∷ 4 ∷ 5 ∷ [])
+    ∷ (run threeFrames (newDepth 2 5 ∷ newDepth 4 5 ∷ []) .history, 0x404040 ∷ 0 ∷ 0 ∷ 0 ∷ 5 ∷ [])
+    ∷ (depths (chainOf (run threeFrames (newDepth 2 5 ∷ newDepth 4 5 ∷ []) .station)), 4 ∷ [])
+    ∷ (after (word 0xffffff) (run threeFrames (newDepth 2 5 ∷ newDepth 4 5 ∷ [])) .history, 0xffffff ∷ 0x404040 ∷ 0 ∷ 0 ∷ 5 ∷ [])
+    ∷ (run threeFrames (newDepth 0 5 ∷ newDepth 3 5 ∷ []) .history, 0x404040 ∷ 0x404040 ∷ 0x404040 ∷ 4 ∷ 5 ∷ [])
+    ∷ (depths (chainOf (run threeFrames (newDepth 0 1 ∷ []) .station)), 1 ∷ [])
+    ∷ (run three (newDepth 8 5 ∷ []) .history, 1 ∷ 2 ∷ 3 ∷ 4 ∷ 5 ∷ [])
+    ∷ (depths (chainOf (run three (newDepth 8 0 ∷ []) .station)), 8 ∷ [])
+    ∷ []
+
+pub renewed-hold : Hold renewed
+unfolding run after call depthReply depthStops lacks onFirst frameReplyBy unless shownBy stops badSide goodStation fineHeld sameHeld normalChain normalPass
+    settled persists depth readsCurve fold turnBy overBy ofBits ofInt add sub mul div neg lt clampOf cutOf rewrite sum converted Text.Pixel.unpack
+    Text.Pixel.pack Text.Pixel.packClamped Text.Pixel.clip Text.Pixel.clips Text.Persistence.persistence Text.Persistence.decay
+    Text.Persistence.total Text.Persistence.add Text.Persistence.mix Text.Persistence.blend Persistence.copies
+    Persistence.refilled Persistence.shifted Persistence.resized
+renewed-hold = refl
+
+-- the next picture
+abbrev pub renewedPictures : List (List (List ℕ) × List (List ℕ))
+renewedPictures =
+    (pictures threeFrames (newDepth 2 5 ∷ newDepth 4 5 ∷ word 0xffffff ∷ []), [] ∷ [] ∷ (0x8e8e8e ∷ []) ∷ [])
+    ∷ []
+
+pub renewedPictures-hold : Hold renewedPictures
+unfolding run saw after call depthReply depthStops lacks onFirst frameReplyBy unless shownBy stops badSide goodStation fineHeld sameHeld normalChain normalPass
+    settled persists depth readsCurve fold turnBy overBy ofBits ofInt add sub mul div neg lt clampOf cutOf rewrite sum converted Text.Pixel.unpack
+    Text.Pixel.pack Text.Pixel.packClamped Text.Pixel.clip Text.Pixel.clips Text.Persistence.persistence Text.Persistence.decay
+    Text.Persistence.total Text.Persistence.add Text.Persistence.mix Text.Persistence.blend Persistence.copies
+    Persistence.refilled Persistence.shifted Persistence.resized
+renewedPictures-hold = refl
+
+-- What it answers: 9 is above 8 (6), also where no word is lent; of one held word, four words are enough for depth 4 and three are not (10), and for depth 0
+-- none is too few; where nothing is held, and where persistence is off, no word is asked for; without persistence 12, whatever the depth; a bad station 13.
+abbrev pub deeper : List (List Report × List Report)
+deeper =
+    (answers threeFrames (newDepth 9 0 ∷ newDepth 255 5 ∷ newDepth 8 0 ∷ []), refusal 6 ∷ refusal 6 ∷ refusal 10 ∷ [])
+    ∷ (answers threeFrames (newDepth 4 3 ∷ newDepth 4 4 ∷ newDepth 4 3 ∷ []), refusal 10 ∷ done ∷ refusal 10 ∷ [])
+    ∷ (answers threeFrames (newDepth 0 0 ∷ newDepth 0 1 ∷ []), refusal 10 ∷ done ∷ [])
+    ∷ (answers three (newDepth 8 0 ∷ newDepth 9 0 ∷ newDepth 3 0 ∷ []), done ∷ refusal 6 ∷ done ∷ [])
+    ∷ (answers threeFrames (switch 4 false ∷ newDepth 8 0 ∷ switch 4 true ∷ newDepth 1 0 ∷ []), done ∷ done ∷ done ∷ done ∷ [])
+    ∷ (answers (opened (stationOf []) []) (newDepth 9 0 ∷ newDepth 1 0 ∷ []), refusal 12 ∷ refusal 12 ∷ [])
+    ∷ (answers absent (newDepth 9 0 ∷ []), refusal 13 ∷ [])
+    ∷ []
+
+pub deeper-hold : Hold deeper
+unfolding run saw after call depthReply depthStops lacks onFirst frameReplyBy unless shownBy stops badSide goodStation fineHeld sameHeld normalChain normalPass
+    settled persists depth readsCurve fold turnBy overBy ofBits ofInt add sub mul div neg lt clampOf cutOf rewrite sum converted Text.Pixel.unpack
+    Text.Pixel.pack Text.Pixel.packClamped Text.Pixel.clip Text.Pixel.clips Text.Persistence.persistence Text.Persistence.decay
+    Text.Persistence.total Text.Persistence.add Text.Persistence.mix Text.Persistence.blend Persistence.copies
+    Persistence.refilled Persistence.shifted Persistence.resized
+deeper-hold = refl

@@ -1,7 +1,7 @@
 -- The way of a frame through the chain: the passes that are on, in the card's order. Assumes nothing.
 use Prim.Native.Nat.{ℕ, _+_}
 use mathlib.Core.Bool.{Bool, false, _||_, cond}
-use mathlib.Core.List.{List, [], _∷_}
+use mathlib.Core.List.{List, [], _∷_, map}
 use lib.Ieee.{Float}
 use Rattle.num.specs.Held.{sized}
 use Rattle.passes.specs.Arith.{Arith, plain}
@@ -107,6 +107,10 @@ depthOf (Scanlines strength) = 0
 unfoldable pub depth : List Record → ℕ
 depth [] = 0
 depth (r ∷ rs) = depthOf (r .pass) + depth rs
+
+-- of each record
+abbrev pub depths : List Record → List ℕ
+depths = map (λ r. depthOf (r .pass))
 
 -- ## The curve
 

@@ -4,13 +4,15 @@ use mathlib.Core.Bool.{Bool, true, false}
 use mathlib.Core.List.{List}
 use mathlib.Core.Path.{_≡_}
 use lib.Ieee.{Float}
-use lib.ListN.{drop}
+use lib.ListN.{take, drop}
+use Rattle.num.specs.Held.{area}
 use Rattle.cards.specs.Alike.{chainOf}
 use Rattle.cards.specs.Answers.{refusal}
-use Rattle.chain.specs.Calls.{pend, Framed, framed, frameReply}
+use Rattle.chain.specs.Calls.{pend, Framed, framed, frameReply, depthReply}
 use Rattle.chain.specs.Chain.{depth}
-use Rattle.chain.specs.Machine.{Call, frame, reset, switch, ask, commit, step, State, call, after}
+use Rattle.chain.specs.Machine.{Call, frame, reset, switch, ask, commit, step, newDepth, State, call, after}
 use Rattle.cards.specs.Normal.{goodStation}
+use Rattle.cards.specs.Settings.{oneAtLeast}
 use Rattle.cards.specs.declared.station.Pending.{Pending}
 use Rattle.cards.specs.declared.station.Pending.the-variants.{Nothing, Switch}
 use Rattle.cards.specs.declared.station.Station.{Station}
@@ -33,6 +35,16 @@ Untouched =
     × (drop (depth (chainOf s) * count) (r .past) ≡ drop (depth (chainOf s) * count) past)
     × (r .station .records ≡ s .records)
 
+-- a new depth, accepted or not, leaves the words of the places that there are, the words past those that there are then, and what is held
+abbrev pub Depth-leaves : Type 0
+Depth-leaves =
+    (d : ℕ) (s : Station) (past : List ℕ) →
+    let r : Framed = depthReply d s past in
+    let count : ℕ = area (s .held) in
+    (take (depth (chainOf s) * count) (r .past) ≡ take (depth (chainOf s) * count) past)
+    × (drop (oneAtLeast d * count) (r .past) ≡ drop (oneAtLeast d * count) past)
+    × (r .station .held ≡ s .held)
+
 -- ## Switches that are asked for
 
 -- a station of which that is asked, with its own buffer
@@ -47,6 +59,7 @@ isAsking (switch kind on) = false
 isAsking (ask kind on) = true
 isAsking commit = true
 isAsking step = false
+isAsking (newDepth d history) = false
 
 -- every other call leaves what is asked for; asking changes nothing else; and a good station commits a switch as it makes one at once, with the
 -- same answer, and has nothing asked of it then

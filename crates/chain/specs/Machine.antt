@@ -5,10 +5,10 @@ use mathlib.Core.List.{List, [], _∷_, _++_}
 use lib.Ieee.{Float}
 use lib.ListN.{take, drop}
 use Rattle.cards.specs.Answers.{Report, refusal, acceptance, Reply}
-use Rattle.chain.specs.Calls.{resetReply, switchReply, askReply, commitReply, stepReply, Framed, frameReply}
+use Rattle.chain.specs.Calls.{resetReply, switchReply, askReply, commitReply, stepReply, Framed, frameReply, depthReply}
 use Rattle.cards.specs.declared.station.Station.{Station}
 
--- a frame brings its framebuffer and its curve; of the history and of both scratches, how many words are lent
+-- a frame brings its framebuffer and its curve; of the history, for a new depth too, and of both scratches, how many words are lent
 pub data Call : Type 0 where
   frame : (w h : ℕ) (words : List ℕ) (history floats ints : ℕ) (curve : List Float) → Call
   reset : Call
@@ -16,6 +16,7 @@ pub data Call : Type 0 where
   ask : (kind : ℕ) (on : Bool) → Call
   commit : Call
   step : Call
+  newDepth : (d history : ℕ) → Call
 
 pub record State : Type 0 where
   pub station : Station
@@ -39,7 +40,7 @@ abbrev pub picture : Report → ℕ → List ℕ → List ℕ
 picture (refusal e) count words = []
 picture (acceptance r) count words = take count words
 
--- after a frame: the lent words come back to the front of the own buffer
+-- after a frame, or a new depth, which shows no word: the lent words come back to the front of the own buffer
 abbrev pub lend : (count lent : ℕ) → List ℕ → Framed → Done
 lend count lent history r =
     record { gives = seen (r .answer) (r .station) (picture (r .answer) count (r .words)); history = r .past ++ drop lent history }
@@ -56,6 +57,7 @@ call (switch kind on) s = still (s .history) (switchReply kind on (s .station))
 call (ask kind on) s = still (s .history) (askReply kind on (s .station))
 call commit s = still (s .history) (commitReply (s .station))
 call step s = still (s .history) (stepReply (s .station))
+call (newDepth d lent) s = lend 0 lent (s .history) (depthReply d (s .station) (take lent (s .history)))
 
 unfoldable pub after : Call → State → State
 after c s = record { station = call c s .gives .station; history = call c s .history }

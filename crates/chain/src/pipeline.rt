@@ -1,5 +1,5 @@
-// The calls on a station: a frame, a reset, a switch, at once or asked for and committed, a preset step, and two questions. None has a condition: what it
-// cannot do it refuses, by a number of the papers' tables, and a refusal changes nothing.
+// The calls on a station: a frame, a reset, a switch, at once or asked for and committed, a preset step, a new depth, and two questions. None has a
+// condition: what it cannot do it refuses, by a number of the papers' tables, and a refusal changes nothing.
 ghost use mathlib.Core.Path.{_≡_};
 ghost use Prim.Native.Nat.{_≤_, _<_};
 ghost use mathlib.Core.Bool.{true};
@@ -7,18 +7,20 @@ ghost use mathlib.Core.List.{[], _∷_};
 ghost use lib.ListN.{take};
 ghost use Rattle.cards.specs.Alike.{chainOf};
 ghost use Rattle.chain.specs.Chain.{depth as depthIn};
-ghost use Rattle.chain.specs.Calls.{lacks as lacksAt, pend as pendOn, heldAfter, next as nextOf, steppedPass, presetOf};
-ghost use Rattle.chain.specs.Calls.{resetReply, switchReply, askReply, commitReply, stepReply, enabledReport, presetReport};
+ghost use Rattle.chain.specs.Calls.{lacks as lacksAt, pend as pendOn, heldAfter, next as nextOf, steppedPass, presetOf, deepPass};
+ghost use Rattle.chain.specs.Calls.{resetReply, switchReply, askReply, commitReply, stepReply, depthReply, enabledReport, presetReport};
 ghost use Rattle.chain.specs.Lent.{First, Stands};
 ghost use Rattle.cards.specs.Passes.{kindOf};
-ghost use Rattle.chain.specs.Answers.{called, cycled, reportedQuestion, Applies};
+ghost use Rattle.chain.specs.Answers.{called, calledWith, cycled, reportedQuestion, Applies};
 ghost use Rattle.cards.specs.Records.{kinds, among};
 use super::refusals::ask_stops;
-use super::refusals::depth;
+use super::refusals::depth as depth_in;
+use super::refusals::depth_stops;
 use super::refusals::lacks;
 use super::refusals::stops;
 use super::run::run_chain;
 use cards::check::is_good;
+use cards::fields::one_at_least;
 use cards::station::Answer;
 use cards::station::Pass;
 use cards::station::Pending;
@@ -27,8 +29,10 @@ use cards::station::Station;
 use cards::station::few;
 use cards::station::kind_of;
 use num::size::Size;
+use num::size::area;
+use passes::persistence::resize;
 
-// What a reset, a switch, asking and committing answer, with the station.
+// What a reset, a switch, asking, committing and a new depth answer, with the station.
 pub struct Called {
     pub answer: Answer,
     pub station: Station,
@@ -68,7 +72,7 @@ pub fn places(station: Station) -> usize
     ensures { λ r. ⌜ (r ≡ depthIn (chainOf station)) × (r ≤ 2550) ⌝ }
 {
     let records = station.records;
-    depth(records, few(station.n))
+    depth_in(records, few(station.n))
 }
 
 // A frame: the passes that are on, in the card's order, over the first count words of the framebuffer. The first
@@ -348,6 +352,53 @@ pub fn cycle_lut(station: Station) -> Cycled
     };
     Cycled {
         answer: Cycle::Preset(preset_of(pass)),
+        station: after,
+    }
+}
+
+// Persistence with that depth; any other pass stays.
+pub(crate) fn deep_pass(pass: Pass, d: u8) -> Pass
+    ensures { λ r. ⌜ r ≡ deepPass d pass ⌝ }
+{
+    if let Pass::Persistence { amount, depth: _ } = pass {
+        return Pass::Persistence { amount, depth: d };
+    }
+    pass
+}
+
+// Gives persistence a new depth, by the card's rule. The newest frames of the history stay where they are; where there are more places than
+// before, the oldest frame is repeated until they are full. A history that holds nothing is not touched.
+pub fn set_depth(station: Station, history: &mut [u32], depth: u8) -> Called
+    ensures { λ r. ⌜ calledWith r (now (history .exit)) ≡ depthReply depth station (now (history .entry)) ⌝ }
+{
+    let refusal = depth_stops(station, depth, history.len());
+    if refusal != 0 {
+        return Called {
+            answer: Answer::Refused(refusal),
+            station,
+        };
+    }
+    let n = station.n;
+    let mut records = station.records;
+    let held = station.held;
+    let d = one_at_least(depth);
+    let before = depth_in(records, n);
+    resize(history, area(held), before, d as usize);
+    let at = place(records, n, 4);
+    let r = records[at];
+    let on = r.on;
+    let old = r.pass;
+    let pass = deep_pass(old, d);
+    records[at] = Record { on, pass };
+    let pending = station.pending;
+    let after = Station {
+        records,
+        n,
+        held,
+        pending,
+    };
+    Called {
+        answer: Answer::Accepted,
         station: after,
     }
 }

@@ -5,13 +5,15 @@ ghost use Prim.Native.Nat.{_≤_, _*_};
 ghost use lib.ListN.{take};
 ghost use Rattle.passes.specs.ColorCorrection.{goodCurve};
 ghost use Rattle.chain.specs.Chain.{depthOf, depth as depthIn, reads as readsBy, readsCurve};
-ghost use Rattle.chain.specs.Calls.{stops as stopsBy, lacks as lacksAt, askStops};
+ghost use Rattle.chain.specs.Calls.{stops as stopsBy, lacks as lacksAt, askStops, depthStops};
 use cards::check::is_good;
+use cards::fields::one_at_least;
 use cards::station::Pass;
 use cards::station::Pending;
 use cards::station::Record;
 use cards::station::Station;
 use cards::station::has_kind;
+use num::size::area;
 use num::size::bad_side;
 use passes::color_correction::is_curved;
 use passes::color_correction::is_good_curve;
@@ -150,6 +152,24 @@ pub(crate) fn ask_stops(station: Station, kind: u8) -> u8
     let pending = station.pending;
     if let Pending::Switch { kind: _, on: _ } = pending {
         return 17;
+    }
+    0
+}
+
+// Of a new depth, by how many words of the history are lent. A history that holds nothing is asked for none.
+pub(crate) fn depth_stops(station: Station, d: u8, history: usize) -> u8
+    ensures { λ r. ⌜ r ≡ depthStops station d history ⌝ }
+{
+    let refusal = lacks(station, 4);
+    if refusal != 0 {
+        return refusal;
+    }
+    if 8 < d {
+        return 6;
+    }
+    let held = station.held;
+    if history < one_at_least(d) as usize * area(held) {
+        return 10;
     }
     0
 }

@@ -1,6 +1,7 @@
 // Sizes of pictures. Definitions: specs/Refusals.antt, specs/Held.antt.
 ghost use mathlib.Core.Path.{_≡_};
-ghost use Rattle.num.specs.Held.{sameHeld, fineHeld};
+ghost use Prim.Native.Nat.{_≤_};
+ghost use Rattle.num.specs.Held.{area as areaOf, sameHeld, fineHeld};
 ghost use Rattle.num.specs.Refusals.{badSide};
 
 // Whether no picture has a side of that length: it is 0, or above 1024.
@@ -17,6 +18,13 @@ pub fn bad_side(x: usize) -> bool
 pub struct Size {
     pub width: u16,
     pub height: u16,
+}
+
+// The words of one frame of that size.
+pub fn area(size: Size) -> usize
+    ensures { λ r. ⌜ (r ≡ areaOf size) × (r ≤ 4294836225) ⌝ }
+{
+    size.height as usize * size.width as usize
 }
 
 // Whether two sizes are one: neither side differs.

@@ -1,8 +1,9 @@
 -- Persistence: each frame is mixed with the frames before it, which the history keeps as they came.
 -- A is the arithmetic (Arith.antt): binary32 in the product. Definitions only.
-use Prim.Native.Nat.{ℕ, zero, suc, _*_}
+use Prim.Native.Nat.{ℕ, zero, suc, _*_, _-_}
 use mathlib.Core.Bool.{cond}
 use mathlib.Core.List.{List, [], _++_}
+use lib.Dec.{leb}
 use lib.ListN.{length, take, drop}
 use Rattle.num.specs.Const.{c0·55, c1·0}
 use Rattle.num.specs.Held.{Held, sameHeld}
@@ -24,6 +25,10 @@ refilled k frame past = copies k frame ++ drop (k * length frame) past
 -- the k places shift by one, and the frame becomes the newest
 unfoldable pub shifted : ℕ → (frame past : List ℕ) → List ℕ
 shifted k frame past = take (k * length frame) (frame ++ past) ++ drop (k * length frame) past
+
+-- k places of n words become d: the newest stay where they are, and the oldest is repeated until there are d
+unfoldable pub resized : (k d n : ℕ) → (past : List ℕ) → List ℕ
+resized k d n past = cond (leb d k) past (take (k * n) past ++ copies (d - k) (take n (drop ((k - 1) * n) past)) ++ drop (d * n) past)
 
 module _ (A : Arith) where
   open Arith A using (F, lit, _⊕_, _⊗_, _⊘_, Rgb, rgb, red, green, blue, cell)

@@ -1,8 +1,9 @@
 // Persistence: each frame is mixed with the frames before it. The history is lent, frame j at word j * count, newest first. The frame
 // is mixed part by part, of up to 64 words, with the same part of each place of the history; then the places shift by one, each as a whole.
 ghost use mathlib.Core.Path.{_≡_};
-ghost use Prim.Native.Nat.{_+_, _*_, _≤_, _<_};
+ghost use Prim.Native.Nat.{_+_, _-_, _*_, _≤_, _<_};
 ghost use lib.ListN.{length, getD, drop};
+ghost use lib.Seq.{paste};
 ghost use lib.Ieee.{nan};
 ghost use Rattle.num.specs.F32.{_⊕_, _⊗_};
 ghost use Rattle.num.specs.Rewrite.{every, fill};
@@ -188,6 +189,37 @@ fn shift(history: &mut [u32], carried: &mut [u32], depth: usize)
         let end = at + count;
         exchange(&mut history[at..end], carried);
         at = end;
+        j += 1;
+    }
+}
+
+// The count words from `at` on become those before them.
+fn repeat(history: &mut [u32], at: usize, count: usize)
+    requires { ⌜ (count ≤ at) × (at + count ≤ length (now history)) ⌝ }
+    ensures { λ _. ⌜ now (history .exit) ≡ paste (now (history .entry)) at (drop (at - count) (now (history .entry))) count ⌝ }
+{
+    let from = at - count;
+    let mut i = 0;
+    while i < count {
+        history[at + i] = history[from + i];
+        i += 1;
+    }
+}
+
+// The places of the history, of count words each, become `to`: the newest stay where they are, and the oldest is repeated until there
+// are enough. Words past them stay.
+pub fn resize(history: &mut [u32], count: usize, from: usize, to: usize)
+    requires { ⌜ (1 ≤ from) × (to * count ≤ length (now history)) ⌝ }
+    ensures { λ _. ⌜ now (history .exit) ≡ Persistence.resized from to count (now (history .entry)) ⌝ }
+{
+    if to <= from {
+        return;
+    }
+    let mut at = from * count;
+    let mut j = from;
+    while j < to {
+        repeat(history, at, count);
+        at += count;
         j += 1;
     }
 }

@@ -1,5 +1,5 @@
 //! Document 01's card, with the order of document 02's P2 and the gamma of its P3, read and written as the papers say it, with
-//! nothing of the library; and the samples of its P9.
+//! nothing of the library; and the samples of its P9, and what a new depth may be by its P11.
 
 /// A refusal's number.
 pub type Number = u32;
@@ -67,6 +67,9 @@ pub enum Field {
     Preset,
 }
 
+/// That of persistence.
+const DEPTH: Field = Field::Count(8);
+
 /// The settings of a kind, in the order of the paper's table.
 pub fn fields(kind: u32) -> Option<&'static [Field]> {
     use Field::*;
@@ -74,7 +77,7 @@ pub fn fields(kind: u32) -> Option<&'static [Field]> {
         1 => &[Limited(1.0), Count(64)],
         2 => &[Byte, Limited(1.0), Count(64)],
         3 => &[Limited(1.0), Limited(1.0), Limited(1.0)],
-        4 => &[Limited(0.95), Count(8)],
+        4 => &[Limited(0.95), DEPTH],
         5 => &[Preset, Limited(1.0)],
         6 => &[Limited(0.5)],
         7 => &[
@@ -189,6 +192,13 @@ pub fn read(card: &[u8]) -> Result<Opened, Refusal> {
         return Err(refusal(7, end, Place::Rest));
     }
     Ok(Opened { records })
+}
+
+/// A depth that is not on a card but comes by a call, by document 02's P11: the same is refused, and 0 becomes 1.
+pub fn depth(byte: u8) -> Result<Value, Number> {
+    let (card, place) = (&[byte], Place::Setting(1, 4, 1));
+    let read = DEPTH.read(&mut Bits { card, at: 0 }, place);
+    read.map_err(|refusal| refusal.number)
 }
 
 /// The gamma of a chain that reads a curve, by document 02's P3: it has colour, on or off, and the gamma is not 1.

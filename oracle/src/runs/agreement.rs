@@ -1,14 +1,14 @@
 //! Agreement by trial: two stations from cards that normalise alike, each with its own past and its own
-//! buffers, then one shared list of calls. From the point that document 01 gives, answers, reports, states and pictures
-//! have to be equal; before it they are looked at, since a trial in which nothing can differ shows nothing. The samples
-//! that a frame reports have to be equal from the first call on.
+//! buffers, then one shared list of calls. From the point that document 01 gives, and document 02's P11 where the depth is
+//! changed, answers, reports, states and pictures have to be equal; before it they are looked at, since a trial in which
+//! nothing can differ shows nothing. The samples that a frame reports have to be equal from the first call on.
 
 use super::calls::{self, Call, Frame, Sizes};
 use super::cards;
 use super::cases::Point;
 use super::noise::Noise;
 use super::sides::Checked;
-use super::station::{Pending, Station};
+use super::station::{Pending, Station, DEEPEST};
 use crate::bridge::{self, Answer, Lent, State, UNTOLD};
 use crate::cards::paper::Size;
 use crate::cards::spelling;
@@ -67,6 +67,9 @@ fn trial(random: &mut Random, tally: &mut RunTally, met: &mut Met<Point>) -> Che
     if random.one_in(2) {
         std::mem::swap(&mut a, &mut b);
     }
+    if a.station.depth() != b.station.depth() {
+        met.note(Point::DepthDiffers);
+    }
     equalise(&a, &mut b, random, tally)?;
     if a.station.held != b.station.held {
         met.note(Point::HeldDiffers);
@@ -111,8 +114,8 @@ fn own(card: &[u8], station: &Station, longest: usize, random: &mut Random) -> C
             "opening {card:02x?}: here {answer:?} and {state:02x?}"
         ));
     }
-    // Room for every frame in most cases, and in some not.
-    let most = station.depth().unwrap_or(1) * longest * longest;
+    // Room for every frame and every depth in most cases, and in some not.
+    let most = DEEPEST * longest * longest;
     let words = if random.one_in(8) {
         random.below(most + 1)
     } else {
@@ -135,7 +138,12 @@ fn own_list(
     met: &mut Met<Point>,
 ) -> Checked {
     for _ in 0..random.below(20) {
-        let call = calls::next(&own.station, &mut own.sizes, own.history.len(), random);
+        let room = own.history.len();
+        let call = if random.one_in(16) {
+            calls::set_depth(&own.station, room, random)
+        } else {
+            calls::next(&own.station, &mut own.sizes, room, random)
+        };
         let before = own.station.clone();
         let seen = own.call(&call, random, tally)?;
         if turns(&before, &call, seen.answer) {
@@ -144,6 +152,7 @@ fn own_list(
         match (call, seen.answer) {
             (Call::Ask(..), Ok(_)) => met.note(Point::OwnAsked),
             (Call::Commit, Ok(_)) => met.note(Point::OwnCommitted),
+            (Call::SetDepth(..), Ok(_)) => met.note(Point::OwnResized),
             _ => {}
         }
     }
@@ -169,7 +178,7 @@ fn turn(a: &Own, b: &mut Own, random: &mut Random, tally: &mut RunTally) -> Chec
     Ok(())
 }
 
-/// Makes the switches of `b`, one kind after another, the preset and the pending switch those of `a`.
+/// Makes the switches of `b`, one kind after another, the preset, the depth and the pending switch those of `a`.
 fn equalise(a: &Own, b: &mut Own, random: &mut Random, tally: &mut RunTally) -> Checked {
     let asked = a.station.pending;
     // A commit alone clears another record. What it switches is made equal with the others.
@@ -189,8 +198,23 @@ fn equalise(a: &Own, b: &mut Own, random: &mut Random, tally: &mut RunTally) -> 
     while a.station.preset() != b.station.preset() {
         b.call(&Call::Step, random, tally)?;
     }
+    same_depth(a, b, random, tally)?;
     if let Some(Pending { kind, on }) = asked.filter(|_| another) {
         b.call(&Call::Ask(kind, on.into()), random, tally)?;
+    }
+    Ok(())
+}
+
+/// Makes the depth of `b` that of `a`. Its own buffer may be too short for what it holds; where it holds nothing, no word is asked for.
+fn same_depth(a: &Own, b: &mut Own, random: &mut Random, tally: &mut RunTally) -> Checked {
+    let depth = a.station.depth();
+    if depth == b.station.depth() {
+        return Ok(());
+    }
+    let call = Call::SetDepth(depth.unwrap_or_default() as u8, b.history.len());
+    if b.call(&call, random, tally)?.answer.is_err() {
+        b.call(&Call::Reset, random, tally)?;
+        b.call(&call, random, tally)?;
     }
     Ok(())
 }
@@ -205,6 +229,9 @@ const OFF: Pending = Pending {
 struct Course {
     /// How many frames persistence has still to take.
     left: usize,
+    /// The same as if no change of depth began the count anew, and whether one did.
+    left_of_first: usize,
+    anew: bool,
     agreed: bool,
 }
 
@@ -218,6 +245,8 @@ impl Course {
         }
         Course {
             left: station.depth().unwrap_or_default(),
+            left_of_first: station.depth().unwrap_or_default(),
+            anew: false,
             agreed: !station.remembers(),
         }
     }
@@ -228,6 +257,7 @@ impl Course {
             return;
         }
         let point = match call {
+            _ if self.left == 0 && self.anew => Point::FramesAnew,
             _ if self.left == 0 => Point::Frames,
             Call::Reset => Point::Reset,
             // Persistence is on: these are switchings-off.
@@ -240,14 +270,49 @@ impl Course {
         met.note(point);
     }
 
-    /// After a call, with the station as it was before.
-    fn went(&mut self, station: &Station, call: &Call, answer: Answer, met: &mut Met<Point>) {
+    /// After a call, with the stations as they were before and what they answered: whether the list goes on. It does not where, before
+    /// the point, one takes a new depth and the other refuses it, which can only be by 10: they hold frames of two sizes.
+    fn goes_on(
+        &mut self,
+        stations: [&Station; 2],
+        call: &Call,
+        answers: [Answer; 2],
+        met: &mut Met<Point>,
+    ) -> bool {
         if self.agreed {
-            return;
+            if let (Call::SetDepth(..), [Ok(_), _]) = (call, answers) {
+                met.note(Point::Resized);
+            }
+            return true;
         }
+        let Call::SetDepth(depth, _) = call else {
+            self.went(stations[0], call, answers[0], met);
+            return true;
+        };
+        match answers {
+            [Ok(_), Ok(_)] => self.resized(stations, *depth, met),
+            [Err(number), Err(_)] => met.note(Point::ResizingRefused(number)),
+            _ => met.note(Point::Outside),
+        }
+        answers[0].is_ok() == answers[1].is_ok()
+    }
+
+    /// After a new depth before the point, which both took: the count begins anew, with it.
+    fn resized(&mut self, [here, there]: [&Station; 2], depth: u8, met: &mut Met<Point>) {
+        self.left = depth.max(1).into();
+        self.anew = true;
+        met.note(Point::ResizedBefore(here.beside(depth)));
+        if here.held != there.held {
+            met.note(Point::ResizedApart);
+        }
+    }
+
+    /// After any other call before the point. Both stations answer it alike.
+    fn went(&mut self, station: &Station, call: &Call, answer: Answer, met: &mut Met<Point>) {
         match (call, answer) {
             (Call::Frame(frame), Ok(_)) => {
                 self.left -= 1;
+                self.left_of_first = self.left_of_first.saturating_sub(1);
                 if !station.meets(frame.size) {
                     met.note(Point::RefillBefore);
                 }
@@ -275,7 +340,7 @@ fn shared_list(
     let mut course = Course::new(&a.station, met);
     let mut differed = false;
     for number in 0..random.within(4, 28) {
-        let call = shared_call(a, room, random);
+        let call = shared_call(a, b, room, random);
         course.reach(&a.station, &call, met);
         let before = a.station.clone();
         let beside = b.station.clone();
@@ -287,7 +352,12 @@ fn shared_list(
                 "call {number} of the shared list, {call}: {here:08x?} and {there:08x?}"
             ));
         }
-        differed |= here.picture != there.picture;
+        if here.picture != there.picture {
+            differed = true;
+            if course.left_of_first == 0 {
+                met.note(Point::DiffersAnew);
+            }
+        }
         if here.reports != there.reports {
             met.note(Point::ClippedDiffers);
         }
@@ -300,7 +370,10 @@ fn shared_list(
             }
             note_curves(a, b, here.answer, course.agreed, met);
         }
-        course.went(&before, &call, here.answer, met);
+        let answers = [here.answer, there.answer];
+        if !course.goes_on([&before, &beside], &call, answers, met) {
+            return Ok(differed);
+        }
     }
     if !course.agreed {
         met.note(Point::Never);
@@ -336,10 +409,13 @@ fn note_curves(a: &Own, b: &Own, answer: Answer, agreed: bool, met: &mut Met<Poi
     });
 }
 
-/// Frames above all: a reset or a switching-off brings the point at once.
-fn shared_call(a: &mut Own, room: usize, random: &mut Random) -> Call {
+/// Frames above all: a reset or a switching-off brings the point at once. A new depth asks for words of what one of the two holds.
+fn shared_call(a: &mut Own, b: &Own, room: usize, random: &mut Random) -> Call {
     if a.station.pending.is_some() && random.one_in(16) {
         Call::Commit
+    } else if random.one_in(12) {
+        let own = if random.one_in(2) { &*a } else { b };
+        calls::set_depth(&own.station, room, random)
     } else if random.one_in(4) {
         calls::next(&a.station, &mut a.sizes, room, random)
     } else {
@@ -376,6 +452,11 @@ impl Own {
             }
             Call::Commit => (bridge::commit(&mut self.state), self.station.commit()),
             Call::Step => (bridge::cycle_lut(&mut self.state), self.station.step()),
+            Call::SetDepth(depth, words) => {
+                let asked = self.station.set_depth(*depth, *words);
+                let lent = &mut self.history[..*words];
+                (bridge::set_depth(&mut self.state, lent, *depth), asked)
+            }
             Call::Write(_) | Call::Depth => {
                 let asked = self.station.depth().unwrap_or_default() as u32;
                 (bridge::depth(&self.state), Ok(asked))

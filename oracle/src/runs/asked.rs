@@ -24,6 +24,7 @@ pub enum Told {
 impl Listed for Told {
     const ALL: &'static [Told] = &[
         Told::Accepted,
+        Told::Refused(6),
         Told::Refused(8),
         Told::Refused(9),
         Told::Refused(10),
@@ -205,7 +206,7 @@ const COMMIT: Call = |state, _| bridge::commit(state);
 
 /// Every call on a state but these two, accepted and refused.
 #[rustfmt::skip]
-const OTHERS: [(&str, Call); 17] = [
+const OTHERS: [(&str, Call); 22] = [
     ("frame", |state, lent| lent.frame(state, SIZE)),
     ("another frame", |state, lent| lent.frame(state, SIZE)),
     ("turned frame", |state, lent| lent.frame(state, (SIZE.1, SIZE.0))),
@@ -216,6 +217,11 @@ const OTHERS: [(&str, Call); 17] = [
     ("frame without a curve", |state, lent| lent.lend(state, SIZE, [ENOUGH, ENOUGH, 0])),
     ("reset", |state, _| bridge::reset(state)),
     ("step", |state, _| bridge::cycle_lut(state)),
+    ("deepest history", |state, lent| bridge::set_depth(state, &mut lent.history, 8)),
+    ("frame of the deepest history", |state, lent| lent.frame(state, SIZE)),
+    ("smaller depth", |state, lent| bridge::set_depth(state, &mut lent.history, 2)),
+    ("new depth without history", |state, _| bridge::set_depth(state, &mut [], 3)),
+    ("depth above the limit", |state, lent| bridge::set_depth(state, &mut lent.history, 9)),
     ("switch on", |state, _| bridge::set_enabled(state, PERSISTENCE as u8, 1)),
     ("switch of no kind", |state, _| bridge::set_enabled(state, 0, 0)),
     ("depth", |state, _| bridge::depth(state)),

@@ -4,7 +4,7 @@ use std::fmt;
 
 use super::cases::Which;
 use super::noise::Noise;
-use super::station::{float_room, Lengths, Station};
+use super::station::{float_room, Lengths, Station, DEEPEST};
 use crate::cards::paper::Size;
 use crate::passes::chain::PERSISTENCE;
 use crate::passes::curves::Curve;
@@ -20,6 +20,8 @@ pub enum Call {
     Ask(u8, u8),
     Commit,
     Step,
+    /// A new depth, and how many words of the history are lent.
+    SetDepth(u8, usize),
     /// Into a buffer of this length.
     Write(usize),
     Depth,
@@ -55,6 +57,7 @@ impl Call {
             Call::Ask(..) => Which::Ask,
             Call::Commit => Which::Commit,
             Call::Step => Which::Step,
+            Call::SetDepth(..) => Which::SetDepth,
             Call::Write(_) => Which::Write,
             Call::Depth => Which::Depth,
         }
@@ -78,6 +81,7 @@ impl fmt::Display for Call {
             Call::Ask(kind, on) => write!(f, "ask {kind} {on}"),
             Call::Commit => write!(f, "commit"),
             Call::Step => write!(f, "step"),
+            Call::SetDepth(depth, words) => write!(f, "new depth {depth} with {words} words"),
             Call::Write(room) => write!(f, "write {room}"),
             Call::Depth => write!(f, "depth"),
         }
@@ -147,7 +151,7 @@ impl Sizes {
 /// How many words at most are lent past a limit.
 const PAST: usize = 16;
 
-/// The next call on a station whose own history buffer has `room` words.
+/// The next call on a station whose own history buffer has `room` words. None changes the depth.
 pub fn next(station: &Station, sizes: &mut Sizes, room: usize, random: &mut Random) -> Call {
     match random.below(80) {
         0..50 => good(station, sizes, room, random),
@@ -297,6 +301,32 @@ fn switch(station: &Station, random: &mut Random) -> (u8, u8) {
     let off = random.one_in(if u32::from(kind) == PERSISTENCE { 4 } else { 2 });
     let on = random.choose(&[1, 1, 2, 128, 255]);
     (kind, if off { 0 } else { on })
+}
+
+/// A new depth: mostly one that a card may name, 0 among them, often the present one, at times a number above. It is lent about as many
+/// words as it asks for, or as the present depth would.
+pub fn set_depth(station: &Station, room: usize, random: &mut Random) -> Call {
+    let present = station.depth().unwrap_or(1) as u8;
+    let any = random.word() as u8;
+    let depth = match random.below(16) {
+        0..2 => random.choose(&[9, 9, 10, 255, any]),
+        2..4 => present,
+        _ => random.below(DEEPEST + 1) as u8,
+    };
+    let [needed, before] = station.words_of(depth);
+    let some = random.below(room + 1);
+    let lent = random.choose(&[
+        needed,
+        needed,
+        needed + PAST,
+        needed.saturating_sub(1),
+        before,
+        0,
+        some,
+        room,
+        room,
+    ]);
+    Call::SetDepth(depth, lent.min(room))
 }
 
 /// Into a buffer with room for the card, in most cases, or one byte short of it.

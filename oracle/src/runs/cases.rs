@@ -15,6 +15,8 @@ pub enum Short {
     Floats,
     Ints,
     Card,
+    /// The history, for a new depth.
+    NewDepth,
 }
 
 /// Which call was made.
@@ -26,6 +28,7 @@ pub enum Which {
     Ask,
     Commit,
     Step,
+    SetDepth,
     Write,
     Depth,
 }
@@ -87,11 +90,12 @@ pub enum Case {
     AskRefused(u32),
     CommitRefused(u32),
     StepRefused(u32),
+    SetDepthRefused(u32),
     WriteRefused(u32),
     DepthRefused(u32),
     EnabledRefused(u32),
     PresetRefused(u32),
-    /// The only fault of a frame or of a writing.
+    /// The only fault of a frame, of a new depth or of a writing.
     OneShort(Short),
     SideZero,
     Side1025,
@@ -127,6 +131,28 @@ pub enum Case {
     /// From preset 6 to 0.
     StepRound,
     StepOff,
+    /// A new depth that is less than, equal to or greater than the one before it: while frames are held, while none is, and while
+    /// persistence is off.
+    Resized(Ordering),
+    ResizedEmpty(Ordering),
+    ResizedOff(Ordering),
+    /// One of this number, which is accepted; 0 becomes 1.
+    ResizedTo(u8),
+    /// One that is lent not a word more than it asks for, while frames are held; and no word at all, while none is.
+    ResizedExact,
+    ResizedUnlent,
+    /// One that is accepted with fewer words than the depth before it would ask for, and one that is refused with as many.
+    ResizedBelow,
+    ShortAsBefore,
+    /// A number above 8: where there is no persistence, 12 and not 6; and with too few words, 6 and not 10.
+    AboveAbsent,
+    AboveShort,
+    /// A new depth straight after another, and a frame straight after one: of the size that is held, and of another.
+    ResizedAgain,
+    BlendResized(Ordering),
+    RefillResized(Ordering),
+    /// An accepted frame after a new depth, which is not compared with the original as it stands.
+    AfterResizing,
     Written,
     Depth,
     /// A pass that was told to be off, and one that was told to be on.
@@ -223,6 +249,10 @@ impl Listed for Case {
         Case::CommitRefused(18),
         Case::StepRefused(12),
         Case::StepRefused(13),
+        Case::SetDepthRefused(6),
+        Case::SetDepthRefused(10),
+        Case::SetDepthRefused(12),
+        Case::SetDepthRefused(13),
         Case::WriteRefused(13),
         Case::WriteRefused(14),
         Case::DepthRefused(13),
@@ -236,6 +266,7 @@ impl Listed for Case {
         Case::OneShort(Short::Floats),
         Case::OneShort(Short::Ints),
         Case::OneShort(Short::Card),
+        Case::OneShort(Short::NewDepth),
         Case::SideZero,
         Case::Side1025,
         Case::SideHuge,
@@ -267,6 +298,8 @@ impl Listed for Case {
         Case::Kept(Which::Ask, false),
         Case::Kept(Which::Step, true),
         Case::Kept(Which::Step, false),
+        Case::Kept(Which::SetDepth, true),
+        Case::Kept(Which::SetDepth, false),
         Case::Kept(Which::Write, true),
         Case::Kept(Which::Write, false),
         Case::Kept(Which::Depth, true),
@@ -276,6 +309,32 @@ impl Listed for Case {
         Case::Step,
         Case::StepRound,
         Case::StepOff,
+        Case::Resized(Ordering::Less),
+        Case::Resized(Ordering::Equal),
+        Case::Resized(Ordering::Greater),
+        Case::ResizedEmpty(Ordering::Less),
+        Case::ResizedEmpty(Ordering::Equal),
+        Case::ResizedEmpty(Ordering::Greater),
+        Case::ResizedOff(Ordering::Less),
+        Case::ResizedOff(Ordering::Equal),
+        Case::ResizedOff(Ordering::Greater),
+        Case::ResizedTo(0),
+        Case::ResizedTo(1),
+        Case::ResizedTo(8),
+        Case::ResizedExact,
+        Case::ResizedUnlent,
+        Case::ResizedBelow,
+        Case::ShortAsBefore,
+        Case::AboveAbsent,
+        Case::AboveShort,
+        Case::ResizedAgain,
+        Case::BlendResized(Ordering::Less),
+        Case::BlendResized(Ordering::Equal),
+        Case::BlendResized(Ordering::Greater),
+        Case::RefillResized(Ordering::Less),
+        Case::RefillResized(Ordering::Equal),
+        Case::RefillResized(Ordering::Greater),
+        Case::AfterResizing,
         Case::Written,
         Case::Depth,
         Case::Enabled(false),
@@ -299,6 +358,7 @@ impl Listed for Case {
         Case::OutOfOrder(Which::Ask),
         Case::OutOfOrder(Which::Commit),
         Case::OutOfOrder(Which::Step),
+        Case::OutOfOrder(Which::SetDepth),
         Case::OutOfOrder(Which::Write),
         Case::OutOfOrder(Which::Depth),
         Case::PendingBroken(Broken::Kind),
@@ -345,14 +405,17 @@ pub enum Point {
     /// From the first call on: no persistence in the chain, or it is off.
     Absent,
     Off,
-    /// After the K-th frame that persistence takes.
+    /// After the K-th frame that persistence takes: from the start of the list, and from a change of depth.
     Frames,
+    FramesAnew,
     Reset,
     /// Persistence is switched from on to off: at once, and by a commit.
     SwitchedOff,
     CommittedOff,
     /// The list ends before the point.
     Never,
+    /// The list leaves the claim before the point: a new depth is taken by one station and refused by the other.
+    Outside,
     /// Both stations have the same pending switch as the shared list begins.
     Pending,
     /// A switch that is asked for, and a commit, in an own list.
@@ -361,6 +424,17 @@ pub enum Point {
     /// The same in the shared list before the point, which the commit does not bring.
     AskedBefore,
     CommittedBefore,
+    /// A new depth in an own list, and own lists that leave two depths, of which one is then made the other.
+    OwnResized,
+    DepthDiffers,
+    /// One in the shared list before the point that both take, as it is beside the depth before it, and while they hold frames of two
+    /// sizes, or one of them none; one that both refuse, by the number; and one from the point on that both take.
+    ResizedBefore(Ordering),
+    ResizedApart,
+    ResizingRefused(u32),
+    Resized,
+    /// A picture that differs though the stations would have agreed, had a change of depth not begun the count anew.
+    DiffersAnew,
     /// The cards differ, and normalise alike.
     Respelt,
     /// One station holds frames and the other none, or frames of another size.
@@ -398,15 +472,27 @@ impl Listed for Point {
         Point::Absent,
         Point::Off,
         Point::Frames,
+        Point::FramesAnew,
         Point::Reset,
         Point::SwitchedOff,
         Point::CommittedOff,
         Point::Never,
+        Point::Outside,
         Point::Pending,
         Point::OwnAsked,
         Point::OwnCommitted,
         Point::AskedBefore,
         Point::CommittedBefore,
+        Point::OwnResized,
+        Point::DepthDiffers,
+        Point::ResizedBefore(Ordering::Less),
+        Point::ResizedBefore(Ordering::Equal),
+        Point::ResizedBefore(Ordering::Greater),
+        Point::ResizedApart,
+        Point::ResizingRefused(6),
+        Point::ResizingRefused(10),
+        Point::Resized,
+        Point::DiffersAnew,
         Point::Respelt,
         Point::HeldDiffers,
         Point::HeldTurned,

@@ -29,6 +29,7 @@ fn runs(mode: Mode, total: &mut Total) {
     total.add_runs(&tally);
     total.unmet += met.report();
     total.add_turned(met.count(Case::Turned));
+    total.add_resized(met.count(Case::AfterResizing));
     let curved = [true, false].map(|powers| met.count(Case::Curved(powers)));
     total.add_curved(curved.iter().sum());
 }

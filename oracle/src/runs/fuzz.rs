@@ -122,12 +122,24 @@ fn call(tape: &mut Tape, size: &mut Size, sides: &Sides) -> Call {
         }
         8 => Call::Reset,
         9 => Call::Switch(tape.byte(), tape.byte()),
-        10 | 11 => Call::Ask(tape.byte(), tape.byte()),
+        10 => Call::Ask(tape.byte(), tape.byte()),
+        11 => set_depth(tape, sides),
         12 => Call::Commit,
         13 => Call::Step,
         14 => Call::Write(tape.byte().into()),
         _ => Call::Depth,
     }
+}
+
+/// Mostly a depth that a card may name, or 9, with exactly the words that it asks for, or with about as many.
+fn set_depth(tape: &mut Tape, sides: &Sides) -> Call {
+    let byte = tape.byte();
+    let depth = if byte < 240 { byte % 10 } else { byte };
+    let station = sides.machine.station();
+    let [needed, _] = station.map_or([0; 2], |station| station.words_of(depth));
+    let exact = tape.byte() % 2 == 0;
+    let words = if exact { needed } else { tape.near(needed) };
+    Call::SetDepth(depth, words.min(HISTORY))
 }
 
 /// A frame with exactly what it needs, or with lengths near it. One that is too large is lent too little.

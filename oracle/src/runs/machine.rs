@@ -3,7 +3,10 @@
 //! as the original's effects before persistence leave them. At a turned frame, which the original would mix with the frames before
 //! the turn, its effects are built anew: that is what document 02's P1 asks. Where colour reads a curve (P3), it is the original's if
 //! the curve holds the original's powers, else a second writing of it. The original knows nothing of a switch that is asked for (P7): it
-//! is switched at the commit.
+//! is switched at the commit. Nor can it change its depth (P11): from such a call on the pictures are those of another one, which is
+//! built with the new depth and then shown what is held, oldest first. Since it keeps the frames as they come to it and not its
+//! pictures, its own history is then that of the words here, place by place. That this is so is seen at the present depth, at which
+//! nothing changes: the other one has to go on as the first would have.
 
 use super::station::{Lengths, Pending, Station};
 use crate::bridge::{Answer, State};
@@ -95,6 +98,16 @@ impl Machine {
         Ok(answer)
     }
 
+    /// The words are made apart from the original, which is built anew and given them.
+    pub fn set_depth(&mut self, depth: u8, lent: usize) -> Answer {
+        let station = self.station.as_mut().ok_or(13u32)?;
+        let before = station.depth().unwrap_or_default();
+        let answer = station.set_depth(depth, lent)?;
+        lengthen(station, &mut self.history, before);
+        self.pipeline = refilled(station, &self.history);
+        Ok(answer)
+    }
+
     /// The preset is the original's; that of the station is counted apart from it.
     pub fn step(&mut self) -> Answer {
         let station = self.station.as_mut().ok_or(13u32)?;
@@ -151,12 +164,25 @@ fn remember(station: &Station, history: &mut [u32], incoming: &[u32], size: Size
     }
 }
 
+/// Repeats the oldest of so many frames that are held until the station's history is full. A smaller history keeps the newest, which
+/// stand first: no word changes.
+fn lengthen(station: &Station, history: &mut [u32], before: usize) {
+    let (count, depth) = (station.count(), station.depth().unwrap_or_default());
+    if count == 0 || depth <= before {
+        return;
+    }
+    let oldest = history[(before - 1) * count..][..count].to_vec();
+    for place in history.chunks_exact_mut(count).take(depth).skip(before) {
+        place.copy_from_slice(&oldest);
+    }
+}
+
 /// The original's pipeline of a station, with what is held given to its persistence frame by frame, oldest
 /// first, while all else is off.
 fn refilled(station: &Station, history: &[u32]) -> Both {
     let mut pipeline = Both::built(station.records());
     let (width, height) = station.held;
-    let (count, depth) = (width * height, station.depth().unwrap_or_default());
+    let (count, depth) = (station.count(), station.depth().unwrap_or_default());
     // More than the buffer has room for meets no frame: the next one fills all places.
     if count == 0 || depth * count > history.len() {
         return pipeline;

@@ -1,11 +1,11 @@
 //! Runs: one card and many calls, on the library and on the machine.
 
-use super::calls::{self, Sizes};
+use super::calls::{self, Call, Sizes};
 use super::cards;
 use super::cases::{Broken, Case};
 use super::noise::Noise;
 use super::sides::{Checked, Sides};
-use super::station::{Station, HEIGHT_END};
+use super::station::{Station, DEEPEST, HEIGHT_END};
 use crate::bridge::{self, State};
 use crate::cards::damage;
 use crate::cards::paper::{Opened, Record, Value};
@@ -23,6 +23,8 @@ pub struct Run {
     longest: usize,
     /// The sizes of its frames, where they are not random.
     sizes: &'static [(usize, usize)],
+    /// Whether some of its calls change the depth: from the first one on its pictures are not the original's as it stands.
+    resizes: bool,
 }
 
 /// Words of the history buffer past the most that a run needs.
@@ -42,6 +44,10 @@ const LARGEST: [(usize, usize); 1] = [(1024, 1024)];
 
 /// A row and a column.
 const THIN: [(usize, usize); 4] = [(1024, 1), (1, 1024), (512, 2), (1, 1)];
+
+/// One run of so many has new depths, as one call of so many.
+const RESIZING: usize = 3;
+const RESIZED: usize = 8;
 
 /// Nanoseconds, as the rows of the passes estimate them.
 struct Effort {
@@ -103,6 +109,7 @@ fn dearest() -> Run {
         calls: 3,
         longest: 1024,
         sizes: &LARGEST,
+        resizes: false,
     }
 }
 
@@ -117,6 +124,7 @@ fn large(effort: &Effort, random: &mut Random, runs: &mut Vec<Run>) -> usize {
         calls,
         longest: 1024,
         sizes: &LARGE,
+        resizes: random.one_in(RESIZING),
     });
     calls * cost
 }
@@ -144,6 +152,7 @@ fn other(random: &mut Random, runs: &mut Vec<Run>) -> usize {
         calls,
         longest,
         sizes,
+        resizes: random.one_in(RESIZING),
     });
     time
 }
@@ -183,7 +192,7 @@ fn play(
     let mut sizes = Sizes::new(run.longest, run.sizes, random);
     for _ in 0..run.calls {
         let station = sides.machine.station().expect("a good station stays good");
-        let call = calls::next(station, &mut sizes, sides.history.len(), random);
+        let call = next(run, station, &mut sizes, sides.history.len(), random);
         if random.one_in(8) {
             let state = match out_of_order(station, random) {
                 Some(state) => {
@@ -206,6 +215,14 @@ fn play(
     every_bit(&sides.state, tally)
 }
 
+fn next(run: &Run, station: &Station, sizes: &mut Sizes, room: usize, random: &mut Random) -> Call {
+    if run.resizes && random.one_in(RESIZED) {
+        calls::set_depth(station, room, random)
+    } else {
+        calls::next(station, sizes, room, random)
+    }
+}
+
 /// Opens the run's card on both sides, with any words in the history buffer.
 fn opened(run: &Run, random: &mut Random) -> Checked<Sides> {
     let station = Station::open(&run.card).expect("the card is a good one");
@@ -215,7 +232,11 @@ fn opened(run: &Run, random: &mut Random) -> Checked<Sides> {
     if (answer, state) != (Ok(0), station.state()) {
         return Err(format!("opening: here {answer:?} and {state:02x?}"));
     }
-    let depth = station.depth().unwrap_or(1);
+    let depth = if run.resizes {
+        DEEPEST
+    } else {
+        station.depth().unwrap_or(1)
+    };
     let largest = run.sizes.iter().map(|(width, height)| width * height).max();
     let largest = largest.unwrap_or(run.longest * run.longest);
     let history = Noise::any(random.next()).words(depth * largest + PAST);

@@ -1,10 +1,12 @@
 //! One station on both sides, from call to call: the library's 80 bytes and lent buffers, and the machine.
 
+use std::cmp::Ordering;
+
 use super::calls::{Call, Frame};
 use super::cases::{Bad, Case, Line, Short};
 use super::machine::Machine;
 use super::noise::Noise;
-use super::station::{float_room, Lengths, Pending, Station};
+use super::station::{float_room, Lengths, Pending, Station, DEEPEST};
 use crate::bridge::{self, Answer, Lent, State, UNTOLD};
 use crate::cards::paper::Size;
 use crate::met::Met;
@@ -20,6 +22,9 @@ pub struct Sides {
     pub history: Vec<u32>,
     /// How many calls were made: the switch of which kind is looked at after each.
     made: usize,
+    /// How the last call changed the depth, if it did, and whether any did.
+    last_resized: Option<Ordering>,
+    ever_resized: bool,
 }
 
 /// What a check gives, or the difference in words.
@@ -31,6 +36,9 @@ const LOOKED_AT: [u8; 12] = [1, 2, 3, 4, 5, 6, 7, 8, 9, 10, 0, 11];
 /// What stands in a card buffer before a card is written.
 const MARK: u8 = 0xa5;
 
+/// The bytes of the longest card.
+const CARD: usize = 72;
+
 impl Sides {
     /// Both sides at this state, with these words in the history buffer.
     pub fn new(state: State, history: Vec<u32>) -> Self {
@@ -39,6 +47,8 @@ impl Sides {
             state,
             history,
             made: 0,
+            last_resized: None,
+            ever_resized: false,
         }
     }
 
@@ -83,6 +93,7 @@ impl Sides {
                 let asked = self.machine.step();
                 answered(bridge::cycle_lut(&mut self.state), asked)?
             }
+            Call::SetDepth(depth, words) => self.set_depth(*depth, *words)?,
             Call::Write(room) => self.write(*room)?,
             Call::Depth => {
                 let here = bridge::depth(&self.state);
@@ -93,6 +104,7 @@ impl Sides {
         same_words("history", &self.history, &self.machine.history)?;
         tally.called(asked, self.history.len());
         note(call, before.as_ref(), asked, met);
+        self.follow(call, before.as_ref(), asked, met);
         self.look_at_switch(LOOKED_AT[self.made % LOOKED_AT.len()], met)?;
         self.look_at_preset(met)?;
         self.made += 1;
@@ -122,6 +134,40 @@ impl Sides {
             answered(here, self.machine.preset()).map_err(|text| format!("the preset, {text}"))?;
         met.note(asked.map_or_else(Case::PresetRefused, Case::Preset));
         Ok(())
+    }
+
+    /// Tells the list of cases what a call was after a new depth, and keeps whether it is one.
+    fn follow(
+        &mut self,
+        call: &Call,
+        before: Option<&Station>,
+        asked: Answer,
+        met: &mut Met<Case>,
+    ) {
+        let last = self.last_resized.take();
+        let (Ok(_), Some(before)) = (asked, before) else {
+            return;
+        };
+        if let Some(last) = last {
+            note_after(last, call, before, met);
+        }
+        match call {
+            Call::Frame(_) if self.ever_resized => met.note(Case::AfterResizing),
+            Call::SetDepth(depth, _) => {
+                self.last_resized = Some(before.beside(*depth));
+                self.ever_resized = true;
+            }
+            _ => {}
+        }
+    }
+
+    /// A new depth, and what tells of it beside the state: the depth that is reported, and the card that is written.
+    fn set_depth(&mut self, depth: u8, words: usize) -> Checked<Answer> {
+        let asked = self.machine.set_depth(depth, words);
+        let lent = &mut self.history[..words];
+        let asked = answered(bridge::set_depth(&mut self.state, lent, depth), asked)?;
+        same("depth", bridge::depth(&self.state), self.machine.depth())?;
+        self.write(CARD).map(|_| asked)
     }
 
     fn write(&self, room: usize) -> Checked<Answer> {
@@ -223,6 +269,15 @@ fn note(call: &Call, before: Option<&Station>, asked: Answer, met: &mut Met<Case
         (Call::Reset, Err(number), _) => met.note(Case::ResetRefused(number)),
         (Call::Step, Ok(preset), Some(before)) => note_step(preset, before, met),
         (Call::Step, Err(number), _) => met.note(Case::StepRefused(number)),
+        (Call::SetDepth(depth, words), Ok(_), Some(before)) => {
+            note_resized(*depth, *words, before, met);
+        }
+        (Call::SetDepth(depth, words), Err(number), _) => {
+            met.note(Case::SetDepthRefused(number));
+            if let Some(before) = before {
+                note_not_resized(*depth, *words, before, number, met);
+            }
+        }
         (Call::Write(_), Ok(_), _) => met.note(Case::Written),
         (Call::Write(room), Err(number), _) => {
             met.note(Case::WriteRefused(number));
@@ -414,6 +469,59 @@ fn note_step(preset: u32, before: &Station, met: &mut Met<Case>) {
     });
     if !before.is_on(LUT) {
         met.note(Case::StepOff);
+    }
+}
+
+fn note_resized(depth: u8, words: usize, before: &Station, met: &mut Met<Case>) {
+    let beside = before.beside(depth);
+    met.note(if before.holds() {
+        Case::Resized(beside)
+    } else if before.remembers() {
+        Case::ResizedEmpty(beside)
+    } else {
+        Case::ResizedOff(beside)
+    });
+    if met.listed(Case::ResizedTo(depth)) {
+        met.note(Case::ResizedTo(depth));
+    }
+    let [asked, as_before] = before.words_of(depth);
+    if before.holds() && words == asked {
+        met.note(Case::ResizedExact);
+    }
+    if !before.holds() && words == 0 {
+        met.note(Case::ResizedUnlent);
+    }
+    if words < as_before {
+        met.note(Case::ResizedBelow);
+    }
+}
+
+fn note_not_resized(depth: u8, words: usize, before: &Station, number: u32, met: &mut Met<Case>) {
+    let [asked, as_before] = before.words_of(depth);
+    if number == 10 && words + 1 == asked {
+        met.note(Case::OneShort(Short::NewDepth));
+    }
+    if number == 10 && words >= as_before {
+        met.note(Case::ShortAsBefore);
+    }
+    if number == 12 && usize::from(depth) > DEEPEST {
+        met.note(Case::AboveAbsent);
+    }
+    if number == 6 && words < asked {
+        met.note(Case::AboveShort);
+    }
+}
+
+/// Tells the list of cases what an accepted call was straight after a new depth, which was so beside the one before it.
+fn note_after(beside: Ordering, call: &Call, before: &Station, met: &mut Met<Case>) {
+    match call {
+        Call::SetDepth(..) => met.note(Case::ResizedAgain),
+        Call::Frame(frame) if before.holds() => met.note(if before.meets(frame.size) {
+            Case::BlendResized(beside)
+        } else {
+            Case::RefillResized(beside)
+        }),
+        _ => {}
     }
 }
 

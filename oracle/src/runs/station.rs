@@ -1,5 +1,7 @@
-//! Document 01's station, with the pending switch of document 02's P7, as the library lends it, in 80 bytes, with nothing of the
-//! library: what it says, and what each call on it answers.
+//! Document 01's station, with the pending switch of document 02's P7 and the new depth of its P11, as the library lends it, in 80
+//! bytes, with nothing of the library: what it says, and what each call on it answers.
+
+use std::cmp::Ordering;
 
 use crate::bridge::{Answer, State};
 use crate::cards::paper::{self, Opened, Record, Size, Value, NOTHING};
@@ -26,6 +28,9 @@ pub struct Pending {
     pub kind: u8,
     pub on: bool,
 }
+
+/// The deepest history.
+pub const DEEPEST: usize = 8;
 
 /// The f32 words of scratch that a frame takes.
 pub fn float_room(width: usize, height: usize) -> usize {
@@ -127,10 +132,22 @@ impl Station {
     /// Of persistence, on or off.
     pub fn depth(&self) -> Option<usize> {
         let record = &self.records()[self.place(PERSISTENCE)?];
-        match record.settings[1] {
-            Value::Whole(depth, _) => Some(depth as usize),
-            Value::Float(_) => panic!("a depth is no float"),
-        }
+        Some(whole(record.settings[1]))
+    }
+
+    /// How a new depth is beside the present one.
+    pub fn beside(&self, depth: u8) -> Ordering {
+        let [new, present] = self.depths(depth);
+        new.cmp(&present)
+    }
+
+    /// The words of what is held that a new depth asks for, whatever it is, and those that the present one would.
+    pub fn words_of(&self, depth: u8) -> [usize; 2] {
+        self.depths(depth).map(|depth| depth * self.count())
+    }
+
+    fn depths(&self, new: u8) -> [usize; 2] {
+        [new.max(1).into(), self.depth().unwrap_or_default()]
     }
 
     /// The gamma at which the chain reads a curve, where it does.
@@ -141,10 +158,7 @@ impl Station {
     /// The radius of a blur, where it is on.
     pub fn radius(&self, kind: u32) -> Option<usize> {
         let record = self.records().iter().find(|r| r.kind == kind && r.on)?;
-        match record.settings.last()? {
-            Value::Whole(radius, _) => Some(*radius as usize),
-            Value::Float(_) => panic!("a radius is no float"),
-        }
+        record.settings.last().copied().map(whole)
     }
 
     /// The samples that an accepted frame of this size reports. The clipped channels are no station's to say.
@@ -186,6 +200,11 @@ impl Station {
         self.held != NOTHING
     }
 
+    /// The words of a frame that is held.
+    pub fn count(&self) -> usize {
+        self.held.0 * self.held.1
+    }
+
     /// Whether an accepted frame meets what is held: neither side differs. Any other fills the history anew.
     pub fn meets(&self, size: Size) -> bool {
         self.held == size
@@ -194,7 +213,7 @@ impl Station {
     /// Whether an accepted frame is one of another shape that has as many words as those that are held. The original would mix it
     /// with them: document 02's P1.
     pub fn turned(&self, size: Size) -> bool {
-        !self.meets(size) && self.held.0 * self.held.1 == size.0 * size.1
+        !self.meets(size) && self.count() == size.0 * size.1
     }
 
     /// What persistence keeps of an accepted frame, beside the words.
@@ -238,6 +257,20 @@ impl Station {
         answer
     }
 
+    /// Changes the depth and nothing else, where as many words of the history are lent as it asks for of what is held. What becomes of
+    /// them is no station's to say.
+    pub fn set_depth(&mut self, depth: u8, lent: usize) -> Answer {
+        let Some(place) = self.place(PERSISTENCE) else {
+            return Err(12);
+        };
+        let depth = paper::depth(depth)?;
+        if lent < whole(depth) * self.count() {
+            return Err(10);
+        }
+        self.opened.records[place].settings[1] = depth;
+        Ok(0)
+    }
+
     /// Whether the pass of that kind is on, as 1 or 0.
     pub fn enabled(&self, kind: u8) -> Answer {
         let place = self.place(kind.into()).ok_or(12u32)?;
@@ -252,9 +285,15 @@ impl Station {
     }
 
     pub fn preset(&self) -> Option<u32> {
-        match self.records()[self.place(LUT)?].settings[0] {
-            Value::Whole(preset, _) => Some(preset),
-            Value::Float(_) => panic!("a preset is no float"),
-        }
+        let record = &self.records()[self.place(LUT)?];
+        Some(whole(record.settings[0]) as u32)
+    }
+}
+
+/// A setting that is no float.
+fn whole(setting: Value) -> usize {
+    match setting {
+        Value::Whole(number, _) => number as usize,
+        Value::Float(_) => panic!("a whole number is no float"),
     }
 }

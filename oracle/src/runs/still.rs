@@ -10,7 +10,7 @@ use crate::random::Random;
 use crate::steps::Mode;
 use crate::tally::RunTally;
 
-use super::station::float_room;
+use super::station::{float_room, DEEPEST};
 
 /// What a picture shows beside its frame.
 #[derive(Clone, Copy, PartialEq, Debug)]
@@ -28,9 +28,6 @@ const AMOUNT: [Field; 1] = [clamped("amount", 0.95)];
 /// A frame of 16 by 16 words has room for all channels.
 const SIDE: usize = 16;
 const COUNT: usize = SIDE * SIDE;
-
-/// The deepest history.
-const DEEPEST: usize = 8;
 
 /// Both ends of the range, what lies one step beside them, subnormal and limited ones, then any.
 pub fn amounts(mode: Mode) -> Vec<f32> {

@@ -8,7 +8,7 @@ use Rattle.passes.specs.Arith.{plain}
 use Rattle.passes.specs.Painted.{Painted}
 use Rattle.passes.specs.Flow.{Flow}
 use Rattle.passes.specs.declared.pixel.Rgb.{Rgb}
-unfoldable pub use Rattle.passes.specs.Persistence.{copies, refilled, shifted}
+unfoldable pub use Rattle.passes.specs.Persistence.{copies, refilled, shifted, resized}
 
 abbrev pub decay : Float → ℕ → Float
 decay = Text.Persistence.decay plain
