@@ -68,8 +68,8 @@
  * subnormal numbers are flushed, a card's subnormal setting opens as 0, which normalises to another
  * card, and a state with such a setting may be refused by 13.
  *
- * Stack. hedgemallow_apply takes less than 48 KiB, whatever the card and the size of the frame, and
- * hedgemallow_areas less than 44 KiB (45,656 and 41,288 bytes were measured on 2026-11-17). A thread that is
+ * Stack. hedgemallow_apply takes less than 52 KiB, whatever the card and the size of the frame, and
+ * hedgemallow_areas less than 44 KiB (49,752 and 41,288 bytes were measured on 2026-11-17). A thread that is
  * made with a small stack should have 64 KiB left for either.
  *
  * No function keeps a pointer, allocates, or has state of its own, so calls on different buffers
@@ -92,9 +92,10 @@ extern "C" {
 #define HEDGEMALLOW_STATE 134
 #define HEDGEMALLOW_CARD 83
 
-/* The longest side of a frame, the most frames that the history of one persistence pass has room for, and the most such passes of a card.
-   So the words of a history that serves every card are HEDGEMALLOW_GLOWS * HEDGEMALLOW_DEPTH * width * height, and those of one that
-   serves every card with one such pass HEDGEMALLOW_DEPTH * width * height; they serve every new depth too. */
+/* The longest side of a frame, the most frames that the history of one persistence pass has room for, and the
+   most such passes of a card. So the words of a history that serves every card are HEDGEMALLOW_GLOWS *
+   HEDGEMALLOW_DEPTH * width * height, and those of one that serves every card with one such pass
+   HEDGEMALLOW_DEPTH * width * height; they serve every new depth too. */
 #define HEDGEMALLOW_SIDE 1024
 #define HEDGEMALLOW_DEPTH 8
 #define HEDGEMALLOW_GLOWS 3

@@ -3,8 +3,8 @@
 //!
 //! The types see to pointers, lengths and threads. Two things are left to the caller, as the header
 //! says: the thread's control word for floats (MXCSR) rounds to nearest, keeps subnormal numbers and
-//! masks all exceptions, as Rust itself takes for granted; and a frame takes less than 48 KiB of stack,
-//! a call of `areas` less than 44 (45,656 and 41,288 bytes were measured on 2026-11-17).
+//! masks all exceptions, as Rust itself takes for granted; and a frame takes less than 52 KiB of stack,
+//! a call of `areas` less than 44 (49,752 and 41,288 bytes were measured on 2026-11-17).
 //!
 //! ```
 //! use hedgemallow::{scratch_words, Kind, Refusal, Station};

@@ -186,7 +186,7 @@ pub fn note(card: &[u8], answer: Result<usize, Number>, stopped: usize, met: &mu
     };
     met.note(Case::Refused(number));
     if let (3, &[first, ..]) = (number, card) {
-        met.note(Case::Overfull(u32::from(first) & 15));
+        met.note_listed(Case::Overfull(u32::from(first) & 15));
     }
     note_kinds(number, &kinds(card, stopped), met);
     // Reading stops at the kind, or at the on bit after it.
@@ -200,8 +200,8 @@ pub fn note(card: &[u8], answer: Result<usize, Number>, stopped: usize, met: &mu
 fn note_taken(card: &[u8], met: &mut Met<Case>) {
     let opened = paper::open(card).expect("the card is taken");
     met.note(Case::Taken);
-    met.note(Case::Glows(opened.glows().count()));
-    met.note(Case::Passes(opened.records.len()));
+    met.note_listed(Case::Glows(opened.glows().count()));
+    met.note_listed(Case::Passes(opened.records.len()));
 }
 
 /// Notes what a size is that a place is made to remember, where the card is a good one.
@@ -217,7 +217,7 @@ pub fn note_held(card: &[u8], at: usize, answer: Result<usize, Number>, met: &mu
         (Some(_), Ok(_)) => Case::HeldBy(glows.count()),
         _ => return,
     };
-    met.note(case);
+    met.note_listed(case);
 }
 
 /// Notes what was refused at the last of these kinds.
@@ -230,7 +230,7 @@ fn note_kinds(number: Number, kinds: &[u32], met: &mut Met<Case>) {
         15 => {
             met.note(Case::OutOfOrder(before, kind));
             if kind == GLOW && glows > 1 {
-                met.note(Case::GlowOutOfOrder(glows - 1));
+                met.note_listed(Case::GlowOutOfOrder(glows - 1));
             }
         }
         5 if kind == GLOW && kind < before => met.note(Case::FourthBelow),

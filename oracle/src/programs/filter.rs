@@ -196,10 +196,7 @@ fn note(frame: &Frame, file: &[u8], case: OfRun, met: &mut Met<OfRun>) {
         start,
     } = frame;
     met.note(case);
-    let size = OfRun::Size(width, height);
-    if met.listed(size) {
-        met.note(size);
-    }
+    met.note_listed(OfRun::Size(width, height));
     if file.len() == ppm::ROOM {
         met.note(OfRun::Full);
     }

@@ -369,10 +369,7 @@ fn note_taken(frame: &Frame, before: &Station, met: &mut Met<Case>) {
     if (frame.lent, frame.curve.len) == (needed(before, frame.size), curve) {
         met.note(Case::Exact);
     }
-    let size = Case::Size(frame.size.0, frame.size.1);
-    if met.listed(size) {
-        met.note(size);
-    }
+    met.note_listed(Case::Size(frame.size.0, frame.size.1));
 }
 
 /// Tells the list of cases what a frame was with this curve. A frame changes no setting and no switch, so the station may be that of
@@ -400,9 +397,7 @@ fn note_read(curve: &[f32], gamma: f32, station: &Station, met: &mut Met<Case>) 
     } else {
         Case::CurveOff
     });
-    if met.listed(Case::CurveOf(curve.len())) {
-        met.note(Case::CurveOf(curve.len()));
-    }
+    met.note_listed(Case::CurveOf(curve.len()));
     if curves::has(read, Odd::MinusZero) {
         met.note(Case::CurveMinusZero);
     }
@@ -416,10 +411,7 @@ fn note_refused(curve: &[f32], station: &Station, met: &mut Met<Case>) {
         met.note(Case::CurveBadOff);
     }
     let Some(read) = curve.get(..curves::READ) else {
-        let short = Case::CurveShort(curve.len());
-        return if met.listed(short) {
-            met.note(short)
-        };
+        return met.note_listed(Case::CurveShort(curve.len()));
     };
     let mut bad = (0..).zip(read).filter(|(_, word)| !curves::is_taken(word));
     let (Some((place, &word)), None) = (bad.next(), bad.next()) else {
@@ -428,9 +420,7 @@ fn note_refused(curve: &[f32], station: &Station, met: &mut Met<Case>) {
     let odd = ODD.into_iter().find(|&odd| curves::has(&[word], odd));
     let cases = [odd.map(Case::CurveWord), Some(Case::CurveWordAt(place))];
     for case in cases.into_iter().flatten() {
-        if met.listed(case) {
-            met.note(case);
-        }
+        met.note_listed(case);
     }
 }
 
@@ -548,9 +538,7 @@ fn note_resized(depth: u8, words: usize, before: &Station, met: &mut Met<Case>) 
             (false, false) => Case::ResizedOffBeside(beside),
         });
     }
-    if met.listed(Case::ResizedTo(depth)) {
-        met.note(Case::ResizedTo(depth));
-    }
+    met.note_listed(Case::ResizedTo(depth));
     let [asked, as_before] = before.words_of(depth);
     if holds && words == asked {
         met.note(Case::ResizedExact);
