@@ -15,6 +15,7 @@ static const uint16_t middle[] = {16, 12, 32, 24};
 /* By the kinds' numbers. */
 static const char *const names[] = {"", "NTSC", "bloom", "gradient", "persistence", "LUT", "curvature", "colour", "CRT", "vignette",
                                     "scanlines"};
+/* The card has one persistence pass. */
 static uint32_t frame[COUNT], history[HEDGEMALLOW_DEPTH * COUNT], ints[COUNT];
 static float floats[HEDGEMALLOW_FLOATS(WIDTH, HEIGHT)];
 /* The card has no colour, so no word of a curve is read: its length is 0. */
@@ -51,7 +52,7 @@ static void show(const uint8_t *state) {
     }
     uint32_t preset = hedgemallow_preset(state);
     if (preset < HEDGEMALLOW_REFUSED) printf(", preset %u", (unsigned)preset);
-    if (state[77] != 0) printf(", asked for: %s %s", names[state[77]], state[78] ? "on" : "off");
+    if (state[132] != 0) printf(", asked for: %s %s", names[state[132]], state[133] ? "on" : "off");
     printf("\n");
 }
 

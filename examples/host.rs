@@ -76,7 +76,7 @@ fn run() -> Result<(), Refusal> {
         clipped += counts.clipped;
         samples += counts.samples;
     }
-    let length = station.write(&mut [0; 72])?;
+    let length = station.write(&mut [0; 83])?;
     let mut totals = [0; 3];
     let read = areas(&frame, WIDTH, HEIGHT, &MIDDLE, &mut totals)?;
     println!(

@@ -3,22 +3,28 @@
  * libhedgemallow.a, for C and C++.
  *
  * A station is the chain of passes of one card with their switches and settings, the width and
- * height of the older frames in its history, and the pending switch: at most one, that was asked for
- * and is not committed yet. It lives in 80 bytes that the caller owns, the state. Copy them, store
- * them, compare them: two stations are equal exactly when their states are.
+ * height of the older frames in the history of each persistence pass, and the pending switch: at most
+ * one, that was asked for and is not committed yet. It lives in 134 bytes that the caller owns, the
+ * state. Copy them, store them, compare them: two stations are equal exactly when their states are.
  *
- *     byte  0        L, the length of the normalised card, 1 to 72
- *     bytes 1 to 72  the card, followed by zeros
- *     bytes 73, 74   the width of the frames in the history, most significant byte first
- *     bytes 75, 76   their height, likewise; where the history holds none, both are 0
- *     byte  77       the kind of the pending switch, 0 for none
- *     byte  78       its position: 1 on, 0 off; 0 where none is pending
- *     byte  79       zero
+ *     byte  0           L, the length of the normalised card, 1 to 83
+ *     bytes 1 to 83     the card, followed by zeros
+ *     bytes 84 to 131   four bytes for each of the twelve places of a chain: the width of the frames in
+ *                       the history of the pass there, most significant byte first, then their height,
+ *                       likewise; zeros where that history holds none, where the pass there is not
+ *                       persistence, and where there is none
+ *     byte  132         the kind of the pending switch, 0 for none
+ *     byte  133         its position: 1 on, 0 off; 0 where none is pending
  *
  * Every state is checked on the way in. Bytes that are no state, damaged ones too, those whose card
- * does not name its passes by ascending kind and those whose pending switch is of a pass that the
- * card does not name, are refused by 13 and never followed. A state that a call returned is never
- * refused by 13.
+ * does not name its passes by ascending kind, those in which two histories hold frames of two sizes and
+ * those whose pending switch is of a pass that the card does not name, are refused by 13 and never
+ * followed. A state that a call returned is never refused by 13.
+ *
+ * Several glows. A card may name persistence up to three times, in a row, every other pass once. Each
+ * such pass has a history of its own and remembers the size of its frames by itself. Calls that name a
+ * kind act on the first pass of that kind: of several persistence passes the first can be switched and
+ * gets a new depth, and the others stand as on the card. A reset makes all of them forget.
  *
  * Answers: below 256 the call is accepted, and the number is what it reports, or 0. From 256 on it
  * is refused by the number answer - 256, and every byte and word is as it was before the call.
@@ -29,7 +35,9 @@
  *                  in the pixels that it works out, and what no pass works out keeps it: the even rows
  *                  under scanlines, a frame with which persistence begins its history
  *     history      hedgemallow_depth(state) * count words: the same ones at each frame and at each
- *                  new depth, at first with anything in them
+ *                  new depth, at first with anything in them. The histories of several persistence
+ *                  passes follow one another in it, by the order of the chain, each with its own depth
+ *                  * count words, also while the pass is off
  *     floats       3 * count + 3 * width words of scratch, whatever they hold (HEDGEMALLOW_FLOATS)
  *     ints         count words of scratch, whatever they hold
  *     curve        HEDGEMALLOW_CURVE words, each in 0..1, where the card has colour with a gamma other
@@ -37,7 +45,7 @@
  *                  be 0
  * Longer ones are taken: the words past these are neither read nor changed, except that the length
  * decides a refusal. The history's words belong to the station between its frames. A frame of another
- * width or height than the one before it begins the history anew: one that is turned, too.
+ * width or height than the one before it begins each history anew: one that is turned, too.
  *
  * The curve. Where gamma is not 1, colour begins with word k of the curve for a channel k, 0 to 255, in
  * place of k/255: that word is meant to be k/255 to the power gamma. It is data, since the powf of two
@@ -50,7 +58,7 @@
  *
  * The caller promises, as always in C: a pointer is aligned and not null, with a length of 0 too (any
  * aligned address will do then: nothing is read there), as many elements as its length says are there
- * (80 bytes for a state), no argument that is written through overlaps another one, and no
+ * (134 bytes for a state), no argument that is written through overlaps another one, and no
  * other thread reads or writes what is written, or writes what is read, during the call.
  *
  * Floats. The thread's control word (MXCSR) must be as at the start of a program: rounding to
@@ -60,8 +68,8 @@
  * subnormal numbers are flushed, a card's subnormal setting opens as 0, which normalises to another
  * card, and a state with such a setting may be refused by 13.
  *
- * Stack. hedgemallow_apply takes less than 48 KiB, whatever the card and the size of the frame, and
- * hedgemallow_areas less than 44 KiB (45,656 and 41,288 bytes were measured on 2026-11-17). A thread that is
+ * Stack. hedgemallow_apply takes less than 52 KiB, whatever the card and the size of the frame, and
+ * hedgemallow_areas less than 44 KiB (49,752 and 41,288 bytes were measured on 2026-11-17). A thread that is
  * made with a small stack should have 64 KiB left for either.
  *
  * No function keeps a pointer, allocates, or has state of its own, so calls on different buffers
@@ -81,13 +89,16 @@ extern "C" {
 #define HEDGEMALLOW_VERSION "0.1.0"
 
 /* The bytes of a state, and the most that a card has. */
-#define HEDGEMALLOW_STATE 80
-#define HEDGEMALLOW_CARD 72
+#define HEDGEMALLOW_STATE 134
+#define HEDGEMALLOW_CARD 83
 
-/* The longest side of a frame, and the most frames that a history has room for. So the words of a history that serves every card are
+/* The longest side of a frame, the most frames that the history of one persistence pass has room for, and the
+   most such passes of a card. So the words of a history that serves every card are HEDGEMALLOW_GLOWS *
+   HEDGEMALLOW_DEPTH * width * height, and those of one that serves every card with one such pass
    HEDGEMALLOW_DEPTH * width * height; they serve every new depth too. */
 #define HEDGEMALLOW_SIDE 1024
 #define HEDGEMALLOW_DEPTH 8
+#define HEDGEMALLOW_GLOWS 3
 
 /* The words of a curve: one for each number that a channel may be. */
 #define HEDGEMALLOW_CURVE 256
@@ -105,15 +116,16 @@ extern "C" {
 enum hedgemallow_refusal {
     HEDGEMALLOW_TORN_CARD = 257,         /* 1, torn card: a field's bits run past the end */
     HEDGEMALLOW_FOREIGN_CARD = 258,      /* 2, foreign card: version not 1 */
-    HEDGEMALLOW_OVERFULL_CARD = 259,     /* 3, overfull card: more than 10 passes */
+    HEDGEMALLOW_OVERFULL_CARD = 259,     /* 3, overfull card: more than 12 passes */
     HEDGEMALLOW_UNKNOWN_PASS = 260,      /* 4, unknown pass: kind 0 or 11 to 15 */
-    HEDGEMALLOW_DOUBLED_PASS = 261,      /* 5, doubled pass: kind already read */
+    HEDGEMALLOW_DOUBLED_PASS = 261,      /* 5, doubled pass: kind already read, persistence three times */
     HEDGEMALLOW_BAD_SETTING = 262,       /* 6, bad setting: a setting out of range, a new depth above 8 too */
     HEDGEMALLOW_LONG_CARD = 263,         /* 7, long card: a padding bit set, or a byte left over */
     HEDGEMALLOW_BAD_SIZE = 264,          /* 8, bad size: width or height 0 or above 1024 */
     HEDGEMALLOW_SHORT_FRAME = 265,       /* 9, short frame: framebuffer below count */
-    HEDGEMALLOW_SHORT_HISTORY = 266,     /* 10, short history: history below depth * count, persistence on or off;
-                                            for a new depth, below it * the count of the frames that are held */
+    HEDGEMALLOW_SHORT_HISTORY = 266,     /* 10, short history: history below the sum of the depths * count, each
+                                            persistence pass on or off; for a new depth, below it * the count of the
+                                            frames that the first one holds */
     HEDGEMALLOW_SHORT_SCRATCH = 267,     /* 11, short scratch: floats below 3 * count + 3 * width, or ints below count */
     HEDGEMALLOW_NOT_IN_CHAIN = 268,      /* 12, not in chain: the pass of the call is not in the chain */
     HEDGEMALLOW_BAD_STATION = 269,       /* 13, bad station: the bytes are no state */
@@ -128,9 +140,9 @@ enum hedgemallow_refusal {
                                             totals */
 };
 
-/* The kinds of passes, as a card, hedgemallow_set_enabled, hedgemallow_ask, hedgemallow_enabled and byte 77 of a state
-   name them. On a card they ascend. Beside each is the word that program `card` prints, for a front end: the library
-   has no texts. */
+/* The kinds of passes, as a card, hedgemallow_set_enabled, hedgemallow_ask, hedgemallow_enabled and byte 132 of a state
+   name them. On a card they ascend, and persistence may stand there up to three times. Beside each is the word that
+   program `card` prints, for a front end: the library has no texts. */
 enum hedgemallow_kind {
     HEDGEMALLOW_NTSC = 1,             /* NTSC */
     HEDGEMALLOW_BLOOM = 2,            /* bloom */
@@ -158,7 +170,7 @@ enum hedgemallow_preset {
 /* Opens a card: writes the state where the card is accepted. Refusals 1 to 7 and 15. */
 uint32_t hedgemallow_open(const uint8_t *card, size_t card_len, uint8_t state[HEDGEMALLOW_STATE]);
 
-/* Writes the normalised card to the start of the buffer, and reports its length, 1 to 72.
+/* Writes the normalised card to the start of the buffer, and reports its length, 1 to 83.
    Refusals 13, 14. */
 uint32_t hedgemallow_write(const uint8_t state[HEDGEMALLOW_STATE], uint8_t *buffer, size_t buffer_len);
 
@@ -179,15 +191,16 @@ uint32_t hedgemallow_apply(uint8_t state[HEDGEMALLOW_STATE], uint32_t *framebuff
                            float *floats, size_t floats_len, uint32_t *ints, size_t ints_len,
                            const float *curve, size_t curve_len, uint32_t reports[2]);
 
-/* Forgets what the history holds; its words stay. Refusals 13, 12. */
+/* Forgets what the histories hold, those of all persistence passes; their words stay. Refusals 13, 12. */
 uint32_t hedgemallow_reset(uint8_t state[HEDGEMALLOW_STATE]);
 
-/* Switches the pass of that kind, 1 to 10: on 0 is off, any other number on. Persistence that is
-   switched off holds nothing. Refusals 13, 12: any other kind is in no chain. */
+/* Switches the first pass of that kind, 1 to 10: on 0 is off, any other number on. Persistence that is
+   switched off holds nothing; a second and a third one go on. Refusals 13, 12: any other kind is in no
+   chain. */
 uint32_t hedgemallow_set_enabled(uint8_t state[HEDGEMALLOW_STATE], uint8_t kind, uint8_t on);
 
 /* Asks for a switch that is to take hold later, between rounds: kind and on, taken as above, become
-   the pending switch, to be seen in bytes 77 and 78. Nothing else changes: no switch, no picture. The
+   the pending switch, to be seen in bytes 132 and 133. Nothing else changes: no switch, no picture. The
    present position may be asked for. The pending switch outlives every other call on the state,
    hedgemallow_set_enabled and refused calls too: hedgemallow_commit alone clears it, and a card that
    is opened begins with none. Refusals 13, 12, 17, in that order. */
@@ -200,22 +213,25 @@ uint32_t hedgemallow_commit(uint8_t state[HEDGEMALLOW_STATE]);
 /* Steps the LUT to its next preset, and reports it, 0 to 6. Refusals 13, 12. */
 uint32_t hedgemallow_cycle_lut(uint8_t state[HEDGEMALLOW_STATE]);
 
-/* Takes a new depth for persistence, on or off, between two frames, and lets what the history holds go
+/* Takes a new depth for persistence, on or off, between two frames, and lets what its history holds go
    on: there is no refill. Depth 0 is taken as 1, as on a card; the present depth may be named too. The
    history is lent as to a frame. Let count be that of the frames that it holds, newest first. A smaller
    depth keeps the newest of them, and no word changes. A larger one repeats the oldest behind it until
    depth * count words are full, and the words past them stay. Where nothing is held, as after a reset
    and while persistence is off, no word changes and none is asked for. The switch, the amount, the size
-   that is held and the pending switch stay. Afterwards hedgemallow_depth reports the new depth,
-   hedgemallow_write writes it, and a frame takes the new depth * its own count words of history.
-   Refusals 13, 12, 6, 10, in that order. */
+   that is held and the pending switch stay. Of several persistence passes it is the first that gets the
+   new depth. Where that is another one than before, the histories behind the first begin elsewhere, and
+   what they hold is forgotten, also while the first is off; the present depth leaves them. Afterwards
+   hedgemallow_depth reports the sum with the new depth, hedgemallow_write writes it, and a frame takes
+   that sum * its own count words of history. Refusals 13, 12, 6, 10, in that order. */
 uint32_t hedgemallow_set_depth(uint8_t state[HEDGEMALLOW_STATE], uint32_t *history, size_t history_len, uint8_t depth);
 
-/* Reports how many frames of count words the history must have room for, 0 to 8: as the card says, or the last
-   hedgemallow_set_depth. Refusal 13: look at the answer before it is multiplied. */
+/* Reports how many frames of count words the history must have room for, 0 to 24: the sum of the depths of all
+   persistence passes, on or off, as the card says, or the last hedgemallow_set_depth. Refusal 13: look at the
+   answer before it is multiplied. */
 uint32_t hedgemallow_depth(const uint8_t state[HEDGEMALLOW_STATE]);
 
-/* Reports whether the pass of that kind, 1 to 10, is on: 1, or 0 where it is off. Nothing is switched.
+/* Reports whether the first pass of that kind, 1 to 10, is on: 1, or 0 where it is off. Nothing is switched.
    Refusals 13, 12: a pass that the card does not name is neither. */
 uint32_t hedgemallow_enabled(const uint8_t state[HEDGEMALLOW_STATE], uint8_t kind);
 

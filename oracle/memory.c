@@ -6,7 +6,8 @@
 #include <string.h>
 #include "hedgemallow.h"
 
-enum { LONGEST = 1 << 16 };
+/* The bytes of an input at most, and the history words that the program lends at most. */
+enum { LONGEST = 1 << 16, LENT = 8192 };
 
 static uint8_t input[LONGEST];
 static size_t left; /* bytes that are still to be read: the last ones of the input */
@@ -80,23 +81,58 @@ static void with_curve(const struct frame *f, size_t length) {
     free(curve);
 }
 
-/* Prints the picture, or the refusal of a frame that needs a curve. */
+/* Prints the picture, or the refusal of a frame that needs a curve or more history than is lent. */
 static void tell(const struct frame *f) {
     float *curve = room(0);
-    if (apply(f, curve, 0) == HEDGEMALLOW_BAD_CURVE) {
+    uint32_t answer = apply(f, curve, 0);
+    if (answer == HEDGEMALLOW_BAD_CURVE) {
         with_curve(f, 256);
         with_curve(f, 300);
-        refused(HEDGEMALLOW_BAD_CURVE - HEDGEMALLOW_REFUSED);
-    } else
+    }
+    if (answer)
+        refused(answer - HEDGEMALLOW_REFUSED);
+    else
         show(stdout, f);
     free(curve);
 }
 
+/* So many bits of the card that the state holds, from this bit on. */
+static size_t card_bits(size_t at, size_t number) {
+    size_t bits = 0;
+    for (; number; number--, at++) bits = bits << 1 | (state[1 + at / 8] >> (7 - at % 8) & 1);
+    return bits;
+}
+
+/* The place of the first persistence pass, and its depth; both 0 where there is none. */
+struct glow {
+    size_t place, depth;
+};
+
+static struct glow first_glow(void) {
+    /* The bits of a record, by its kind: four for that, one for the switch, and the settings. */
+    static const size_t width[] = {0, 45, 53, 101, 45, 40, 37, 133, 37, 37, 37};
+    size_t at = 8;
+    for (size_t place = 0; place < card_bits(4, 4); place++) {
+        size_t kind = card_bits(at, 4);
+        if (kind == HEDGEMALLOW_PERSISTENCE) return (struct glow){place, card_bits(at + 37, 8)};
+        at += width[kind];
+    }
+    return (struct glow){0, 0};
+}
+
+/* A side in these two bytes of the state. */
+static size_t side(size_t at) {
+    return (size_t)(state[at] << 8 | state[at + 1]);
+}
+
 /* A new depth on a copy of the state, one above the present one, or 1 for 8: in a block of as many words as it asks for, of which nobody
-   wrote those that are to repeat the oldest frame; and in one of a word less, which is refused. Without persistence no depth is taken. */
+   wrote those that are to repeat the oldest frame; and in one of a word less, which is refused. What a second and a third persistence pass
+   held is forgotten. Without persistence no depth is taken. */
 static void deepen(void) {
-    size_t depth = hedgemallow_depth(state), other = depth % HEDGEMALLOW_DEPTH + 1;
-    size_t held = (size_t)(state[73] << 8 | state[74]) * (size_t)(state[75] << 8 | state[76]), words = other * held;
+    static const uint8_t nothing[48];
+    struct glow first = first_glow();
+    size_t sum = hedgemallow_depth(state), depth = first.depth, other = depth % HEDGEMALLOW_DEPTH + 1;
+    size_t sizes = 84 + 4 * first.place, held = side(sizes) * side(sizes + 2), words = other * held;
     uint8_t *copy = memcpy(room(HEDGEMALLOW_STATE), state, HEDGEMALLOW_STATE);
     if (words) {
         uint32_t *short_block = room((words - 1) * 4);
@@ -106,7 +142,8 @@ static void deepen(void) {
     uint32_t *block = room(words * 4);
     memcpy(block, history, (other < depth ? other : depth) * held * 4);
     if (hedgemallow_set_depth(copy, block, words, (uint8_t)other) != (depth ? 0 : HEDGEMALLOW_NOT_IN_CHAIN)) printf("another answer to a new depth\n");
-    if (hedgemallow_depth(copy) != (depth ? other : 0)) printf("another depth\n");
+    if (hedgemallow_depth(copy) != (depth ? sum - depth + other : 0)) printf("another depth\n");
+    if (memcmp(copy + sizes + 4, nothing, 128 - sizes)) printf("a later history that is not forgotten\n");
     for (size_t i = 0; i < words; i++) fprintf(nowhere, "%u\n", (unsigned)block[i]);
     free(block);
     free(copy);
@@ -120,7 +157,13 @@ static int frame(void) {
     if (!(pixels = take(3 * words))) return refused(1);
 
     size_t places = hedgemallow_depth(state) * words;
-    if (words != count) {
+    uint32_t *kept = history;
+    int short_history = places > LENT;
+    if (short_history) {
+        /* It is refused: what is held stays. */
+        history = room(LENT * sizeof *history);
+        places = LENT;
+    } else if (words != count) {
         free(history);
         history = room(places * sizeof *history);
         count = words;
@@ -129,7 +172,11 @@ static int frame(void) {
     for (size_t i = 0; i < words; i++)
         f.picture[i] = (uint32_t)pixels[3 * i] << 16 | (uint32_t)pixels[3 * i + 1] << 8 | pixels[3 * i + 2];
     tell(&f);
-    deepen();
+    if (short_history) {
+        free(history);
+        history = kept;
+    } else
+        deepen();
     free(f.picture);
     free(f.ints);
     free(f.reports);

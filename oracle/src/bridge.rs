@@ -1,7 +1,8 @@
 //! The calls under comparison, from the static library `bridge`, as safe functions.
 
 /// A station as the library lends it.
-pub type State = [u8; 80];
+pub const STATE: usize = 134;
+pub type State = [u8; STATE];
 
 /// What a call reports, or a refusal's number.
 pub type Answer = Result<u32, u32>;

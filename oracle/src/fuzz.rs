@@ -5,7 +5,7 @@
 use crate::met::{Listed, Met};
 
 /// More than there are cases of any target.
-const CASES: usize = 256;
+const CASES: usize = 512;
 
 // A second guide beside the coverage: libFuzzer clears this section before each input and reads it after.
 #[used]

@@ -5,12 +5,12 @@
 #[path = "bridge.rs"]
 mod plain;
 
-pub use plain::{Answer, Lent, State, UNTOLD};
+pub use plain::{Answer, Lent, State, STATE, UNTOLD};
 
 use crate::pages::{self, NONE, PAGE, READ_WRITE};
 
-/// Bytes for the longest buffer that the fuzzer lends: history and floats.
-const BYTES: usize = 16 * PAGE;
+/// Bytes for the longest buffer that the fuzzer lends: the histories of three glows.
+const BYTES: usize = 32 * PAGE;
 
 /// Which end of a copy touches the guarded page.
 #[derive(Clone, Copy)]
@@ -86,7 +86,7 @@ fn twice<T: PartialEq>(call: impl Fn(&mut Rooms, Guard) -> T) -> T {
 }
 
 fn array(bytes: &mut [u8]) -> &mut State {
-    bytes.try_into().expect("a state has 80 bytes")
+    bytes.try_into().expect("a state has 134 bytes")
 }
 
 /// A call on a state alone.

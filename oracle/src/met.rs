@@ -21,13 +21,20 @@ impl<C: Listed> Met<C> {
         }
     }
 
+    pub fn note(&mut self, case: C) {
+        let place = self.all.iter().position(|&other| other == case);
+        self.counts[place.unwrap_or_else(|| panic!("{case:?} is not listed"))] += 1;
+    }
+
     pub fn listed(&self, case: C) -> bool {
         self.all.contains(&case)
     }
 
-    pub fn note(&mut self, case: C) {
-        let place = self.all.iter().position(|&other| other == case);
-        self.counts[place.unwrap_or_else(|| panic!("{case:?} is not listed"))] += 1;
+    /// Notes it where it is listed.
+    pub fn note_listed(&mut self, case: C) {
+        if self.listed(case) {
+            self.note(case);
+        }
     }
 
     /// How often this one was met.

@@ -18,6 +18,7 @@ mod exports {
         pub fn probe_card(
             card: *const u8,
             card_len: usize,
+            at: usize,
             width: u16,
             height: u16,
             out: *mut u8,
@@ -132,9 +133,9 @@ fn over<T>(export: Export<T>, xs: &[f32], out: &mut [T]) {
 /// What `probe_card` adds to a refusal's number: no card is so long.
 const REFUSED: usize = 256;
 
-/// Opens a card, lets its station remember frames of size `held`, and writes it. Answers the length, or a
-/// refusal's number.
-pub fn card(card: &[u8], held: Size, out: &mut [u8]) -> Result<usize, u32> {
+/// Opens a card, lets the place `at` of its station, if there is such a one, remember frames of size `held`, and writes it. Answers the
+/// length, or a refusal's number.
+pub fn card(card: &[u8], at: usize, held: Size, out: &mut [u8]) -> Result<usize, u32> {
     assert_lendable(card.as_ptr(), card.len());
     assert_lendable(out.as_ptr(), out.len());
     // SAFETY: both pointers come with the length of their own slice, and a shared and a mutable
@@ -144,6 +145,7 @@ pub fn card(card: &[u8], held: Size, out: &mut [u8]) -> Result<usize, u32> {
         exports::probe_card(
             card.as_ptr(),
             card.len(),
+            at,
             width,
             height,
             out.as_mut_ptr(),

@@ -398,7 +398,7 @@ impl CardTally {
     pub fn check(
         &mut self,
         card: &[u8],
-        held: Size,
+        held: (usize, Size),
         here: (Answer, &[u8]),
         paper: (Answer, &[u8]),
     ) {
@@ -412,7 +412,7 @@ impl CardTally {
         let at = self.cards() as usize - 1;
         self.differences.note(at, || {
             format!(
-                "card {card:02x?}, held {held:?}: here {:?} and {:02x?}, by the paper {:?} and {:02x?}",
+                "card {card:02x?}, held at a place {held:?}: here {:?} and {:02x?}, by the paper {:?} and {:02x?}",
                 here.0, here.1, paper.0, paper.1
             )
         });
@@ -776,14 +776,15 @@ pub struct Total {
     calls: u64,
     turned: u64,
     resized: u64,
+    several: u64,
     curved: u64,
     pub different: u64,
     /// What a comparison was to meet and did not.
     pub unmet: u64,
 }
 
-/// In a list of the comparison at least so many frames have to be turned, so many have to come after a new depth, and so many have to
-/// have a curve: else it shows little of them.
+/// In a list of the comparison at least so many frames have to be turned, so many have to come after a new depth, so many have to go
+/// through several glows, and so many have to have a curve: else it shows little of them.
 const LEAST: u64 = 150;
 
 impl Total {
@@ -861,6 +862,12 @@ impl Total {
         self.ask_for("frames after a new depth", resized);
     }
 
+    /// Prints how many frames of a list went through more than one glow that was on, and adds them.
+    pub fn add_several(&mut self, several: u64) {
+        self.several += several;
+        self.ask_for("frames through several glows", several);
+    }
+
     /// Prints how many frames of a list started their channels from a curve, and adds them.
     pub fn add_curved(&mut self, curved: u64) {
         self.curved += curved;
@@ -889,6 +896,7 @@ impl fmt::Display for Total {
             calls,
             turned,
             resized,
+            several,
             curved,
             different,
             unmet,
@@ -905,6 +913,9 @@ impl fmt::Display for Total {
         }
         if *resized > 0 {
             write!(f, ", {resized} frames after a new depth")?;
+        }
+        if *several > 0 {
+            write!(f, ", {several} frames through several glows")?;
         }
         if *curved > 0 {
             write!(f, ", {curved} curved frames")?;

@@ -3,8 +3,8 @@
 //!
 //! The types see to pointers, lengths and threads. Two things are left to the caller, as the header
 //! says: the thread's control word for floats (MXCSR) rounds to nearest, keeps subnormal numbers and
-//! masks all exceptions, as Rust itself takes for granted; and a frame takes less than 48 KiB of stack,
-//! a call of `areas` less than 44 (45,656 and 41,288 bytes were measured on 2026-11-17).
+//! masks all exceptions, as Rust itself takes for granted; and a frame takes less than 52 KiB of stack,
+//! a call of `areas` less than 44 (49,752 and 41,288 bytes were measured on 2026-11-17).
 //!
 //! ```
 //! use hedgemallow::{scratch_words, Kind, Refusal, Station};
@@ -158,8 +158,8 @@ fn report(answer: u32) -> Result<u32, Refusal> {
     }
 }
 
-/// The kinds of passes, with the numbers of a card, on which they ascend. They are printed by their words, as program `card` prints
-/// them.
+/// The kinds of passes, with the numbers of a card, on which they ascend; persistence may stand there up to three times. They are
+/// printed by their words, as program `card` prints them.
 ///
 /// ```
 /// # use hedgemallow::{Kind, Refusal, Station, KINDS};
@@ -266,16 +266,19 @@ pub const KINDS: [Kind; 10] = [
 ];
 
 /// The bytes of a state.
-pub const STATE: usize = 80;
+pub const STATE: usize = 134;
 
 /// The most bytes that a card has.
-pub const CARD: usize = 72;
+pub const CARD: usize = 83;
 
 /// The longest side of a frame.
 pub const SIDE: usize = 1024;
 
-/// The most frames that a history has room for.
+/// The most frames that the history of one persistence pass has room for.
 pub const DEPTH: usize = 8;
+
+/// The most persistence passes of a card.
+pub const GLOWS: usize = 3;
 
 /// The words of a curve: one for each number that a channel may be.
 pub const CURVE: usize = 256;
@@ -311,6 +314,9 @@ pub struct Counts {
 
 /// A station, as the [`STATE`] bytes of its state. It is no `Copy` type: a station that was used by value is gone, so one with the older
 /// state cannot go on beside it unnoticed. Who wants a second station says `clone`.
+///
+/// A card may name persistence up to [`GLOWS`] times, each with a history of its own. A call that names a kind acts on the first pass
+/// of that kind.
 #[derive(Clone, Debug, PartialEq, Eq, Hash)]
 pub struct Station {
     state: [u8; STATE],
@@ -326,8 +332,9 @@ impl Station {
         Ok(Station { state })
     }
 
-    /// The station of bytes that were stored, a pending switch included. Lend it the history words that it had then. Where persistence is
-    /// on its card it may also be reset, and any words will do; a reset of another station is `NotInChain`, and no word is read.
+    /// The station of bytes that were stored, a pending switch included. Lend it the history words that it had then, those of every
+    /// persistence pass. Where persistence is on its card it may also be reset, and any words will do; a reset of another station is
+    /// `NotInChain`, and no word is read.
     pub fn from_bytes(state: [u8; STATE]) -> Result<Station, Refusal> {
         let station = Station { state };
         station.depth()?;
@@ -339,14 +346,15 @@ impl Station {
         &self.state
     }
 
-    /// The normalised card at the start of the buffer, and its length: 72 bytes at most.
+    /// The normalised card at the start of the buffer, and its length: 83 bytes at most.
     pub fn write(&self, buffer: &mut [u8]) -> Result<usize, Refusal> {
         let (to, len) = (buffer.as_mut_ptr(), buffer.len());
         report(unsafe { exports::hedgemallow_write(self.state.as_ptr(), to, len) }).map(|n| n as usize)
     }
 
     /// A frame: the passes that are on, over the first width * height words of the framebuffer. The answer is what was counted on the
-    /// way. One of another width or height than the frame before it begins the history anew.
+    /// way. One of another width or height than the frame before it begins the history anew. The histories of several persistence passes
+    /// follow one another in the lent words, by the order of the chain, each with room for its own depth, also while the pass is off.
     ///
     /// The curve is read where the card has colour with a gamma other than 1, on or off: `BadCurve` tells that it has fewer than
     /// [`CURVE`] words then, or that one of the first so many is not in 0..1. With every other card `&[]` will do. Colour begins
@@ -386,12 +394,13 @@ impl Station {
         report(answer).map(|_| Counts { clipped, samples })
     }
 
-    /// Forgets what the history holds.
+    /// Forgets what the histories of all persistence passes hold.
     pub fn reset(&mut self) -> Result<(), Refusal> {
         report(unsafe { exports::hedgemallow_reset(self.state.as_mut_ptr()) }).map(|_| ())
     }
 
-    /// Switches the pass of that kind. Persistence that is switched off forgets what the history holds.
+    /// Switches the first pass of that kind. Persistence that is switched off forgets what its history holds; a second and a third one
+    /// go on.
     pub fn set_enabled(&mut self, kind: Kind, on: bool) -> Result<(), Refusal> {
         let state = self.state.as_mut_ptr();
         report(unsafe { exports::hedgemallow_set_enabled(state, kind as u8, on as u8) }).map(|_| ())
@@ -442,8 +451,8 @@ impl Station {
     /// # Ok::<(), Refusal>(())
     /// ```
     pub fn pending(&self) -> Option<(Kind, bool)> {
-        let kind = KINDS.into_iter().find(|&kind| kind as u8 == self.state[77])?;
-        Some((kind, self.state[78] != 0))
+        let kind = KINDS.into_iter().find(|&kind| kind as u8 == self.state[132])?;
+        Some((kind, self.state[133] != 0))
     }
 
     /// Steps the LUT to its next preset, and reports it.
@@ -451,7 +460,7 @@ impl Station {
         report(unsafe { exports::hedgemallow_cycle_lut(self.state.as_mut_ptr()) }).map(preset)
     }
 
-    /// Whether the pass of that kind is on. `NotInChain` tells that the card does not name it.
+    /// Whether the first pass of that kind is on. `NotInChain` tells that the card does not name it.
     ///
     /// ```
     /// # use hedgemallow::{Kind, Refusal, Station};
@@ -493,6 +502,9 @@ impl Station {
     /// for, and `&mut []` will do. `BadSetting` tells that the depth is above [`DEPTH`]. Afterwards a frame takes as many words of
     /// history as [`Station::history_words`] then says, and [`Station::write`] writes the new depth.
     ///
+    /// Of several persistence passes it is the first that gets the new depth, and the words that are asked for are those of what it
+    /// holds. Where the depth is another one than before, the histories behind the first begin elsewhere, and what they hold is forgotten.
+    ///
     /// ```
     /// # use hedgemallow::{Refusal, Station};
     /// // Persistence 0.5 with depth 1, on.
@@ -513,7 +525,19 @@ impl Station {
         report(unsafe { exports::hedgemallow_set_depth(self.state.as_mut_ptr(), words, len, depth) }).map(|_| ())
     }
 
-    /// How many older frames the history has room for.
+    /// How many older frames the history has room for: the sum of the depths of all persistence passes, on or off.
+    ///
+    /// ```
+    /// # use hedgemallow::{Kind, Refusal, Station};
+    /// // Persistence 0.5 with depth 1, on, and once more.
+    /// let mut station = Station::open(&[0x12, 0x49, 0xF8, 0, 0, 0, 0x0A, 0x4F, 0xC0, 0, 0, 0, 0x40])?;
+    /// assert_eq!((station.depth(), station.history_words(3, 2)), (Ok(2), Ok(12)));
+    ///
+    /// station.set_enabled(Kind::Persistence, false)?;
+    /// station.set_depth(&mut [], 3)?;
+    /// assert_eq!((station.depth(), station.history_words(3, 2)), (Ok(4), Ok(24)));
+    /// # Ok::<(), Refusal>(())
+    /// ```
     pub fn depth(&self) -> Result<usize, Refusal> {
         report(unsafe { exports::hedgemallow_depth(self.state.as_ptr()) }).map(|k| k as usize)
     }
@@ -631,21 +655,21 @@ mod tests {
     #[test]
     fn the_layout_is_the_documented_one() {
         let mut station = opened();
-        let mut bytes = [0; 80];
+        let mut bytes = [0; 134];
         bytes[0] = 17;
         bytes[1..18].copy_from_slice(&CARD);
         assert_eq!(station.as_bytes(), &bytes);
         station.apply(&mut [0; 600], 30, 20, &mut [0; 1800], &mut [0.0; 3600], &mut [0; 600], &[]).unwrap();
-        bytes[73..77].copy_from_slice(&[0, 30, 0, 20]);
+        bytes[84..88].copy_from_slice(&[0, 30, 0, 20]);
         assert_eq!(station.as_bytes(), &bytes);
         station.apply(&mut [0; 600], 2, 300, &mut [0; 1800], &mut [0.0; 3600], &mut [0; 600], &[]).unwrap();
-        bytes[73..77].copy_from_slice(&[0, 2, 1, 44]);
+        bytes[84..88].copy_from_slice(&[0, 2, 1, 44]);
         assert_eq!(station.as_bytes(), &bytes);
         station.ask(Kind::Scanlines, true).unwrap();
-        bytes[77..79].copy_from_slice(&[10, 1]);
+        bytes[132..134].copy_from_slice(&[10, 1]);
         assert_eq!(station.as_bytes(), &bytes);
         station.commit().unwrap();
-        bytes[77..79].copy_from_slice(&[0, 0]);
+        bytes[132..134].copy_from_slice(&[0, 0]);
         assert_eq!(station.as_bytes(), &bytes);
         station.reset().unwrap();
         assert_eq!(station, opened());
@@ -857,7 +881,7 @@ mod tests {
                 let (mut station, mut switched) = (before.clone(), before.clone());
                 station.ask(kind, on).unwrap();
                 let mut bytes = *before.as_bytes();
-                bytes[77..79].copy_from_slice(&[kind as u8, on as u8]);
+                bytes[132..134].copy_from_slice(&[kind as u8, on as u8]);
                 assert_eq!((station.pending(), station.as_bytes()), (Some((kind, on)), &bytes));
                 assert_eq!(Station::from_bytes(bytes), Ok(station.clone()));
                 station.commit().unwrap();
@@ -890,7 +914,7 @@ mod tests {
         let mut both = |call: &dyn Fn(&mut Station) -> Result<u32, Refusal>| {
             assert_eq!(call(&mut station), call(&mut other));
             assert_eq!((station.pending(), other.pending()), (Some((Kind::Lut, false)), None));
-            assert_eq!((&station.state[..77], station.state[79]), (&other.state[..77], other.state[79]));
+            assert_eq!(&station.state[..132], &other.state[..132]);
         };
         let frame = |station: &mut Station| {
             let counts = station.apply(&mut [0xFF; 2], 2, 1, &mut [0; 6], &mut [0.0; 12], &mut [0; 2], &[])?;
@@ -904,7 +928,7 @@ mod tests {
         both(&|station| station.cycle_lut().map(|preset| preset as u32));
         both(&|station| station.set_depth(&mut [0; 6], 2).map(|_| 0));
         both(&|station| station.set_depth(&mut [], 3).map(|_| 0));
-        both(&|station| station.write(&mut [0; 72]).map(|length| length as u32));
+        both(&|station| station.write(&mut [0; 83]).map(|length| length as u32));
         both(&|station| station.write(&mut []).map(|length| length as u32));
         both(&|station| station.enabled(Kind::Lut).map(u32::from));
         both(&frame);
@@ -914,13 +938,13 @@ mod tests {
         assert_eq!(station, other);
     }
 
-    /// Bytes 77 and 78 as all that they can be: none is pending, or a pass of the card to one of two positions.
+    /// Bytes 132 and 133 as all that they can be: none is pending, or a pass of the card to one of two positions.
     #[test]
     fn a_pending_switch_names_a_pass_of_the_card() {
         let mut bytes = *opened().as_bytes();
         for kind in 0..=255 {
             for on in 0..=255 {
-                bytes[77..79].copy_from_slice(&[kind, on]);
+                bytes[132..134].copy_from_slice(&[kind, on]);
                 let pending = KINDS.into_iter().find(|&known| known as u8 == kind).map(|known| (known, on == 1));
                 let good = (kind, on) == (0, 0) || [4, 5, 10].contains(&kind) && on < 2;
                 let told = Station::from_bytes(bytes).map(|station| station.pending());
@@ -1013,6 +1037,115 @@ mod tests {
         assert_eq!((station, history), before);
     }
 
+    /// Persistence 0.5 of depth 1 twice, both on; the same three times, of depths 1, 2 and 3, of which the second is off.
+    const TWO_GLOWS: [u8; 13] = [0x12, 0x49, 0xF8, 0, 0, 0, 0x0A, 0x4F, 0xC0, 0, 0, 0, 0x40];
+    const THREE_GLOWS: [u8; 18] = [0x13, 0x49, 0xF8, 0, 0, 0, 0x0A, 0x0F, 0xC0, 0, 0, 0, 0x92, 0x7E, 0, 0, 0, 0x06];
+
+    /// The picture of a frame of one word.
+    fn pixel(station: &mut Station, word: u32, history: &mut [u32]) -> u32 {
+        let mut frame = [word];
+        station.apply(&mut frame, 1, 1, history, &mut [0.0; 6], &mut [0], &[]).unwrap();
+        frame[0]
+    }
+
+    /// White, then black: 555555 comes to the second glow, which remembers white. Each history takes what came to it.
+    #[test]
+    fn glows_follow_one_another() {
+        let (mut station, mut history) = (Station::open(&TWO_GLOWS).unwrap(), [7; 3]);
+        let shown = [0xFFFFFF, 0, 0, 0].map(|word| (pixel(&mut station, word, &mut history), history));
+        let asked = [
+            (0xFFFFFF, [0xFFFFFF, 0xFFFFFF, 7]),
+            (0x8D8D8D, [0, 0x555555, 7]),
+            (0x1C1C1C, [0, 0, 7]),
+            (0, [0, 0, 7]),
+        ];
+        assert_eq!(shown, asked);
+        assert_eq!(station.as_bytes()[84..96], [0, 1, 0, 1, 0, 1, 0, 1, 0, 0, 0, 0]);
+        station.reset().unwrap();
+        assert_eq!(station, Station::open(&TWO_GLOWS).unwrap());
+    }
+
+    /// Of three glows the second is off: it remembers nothing, and its part of the history stays.
+    #[test]
+    fn a_glow_that_is_off_has_its_room() {
+        let (mut station, mut history) = (Station::open(&THREE_GLOWS).unwrap(), [7; 7]);
+        assert_eq!((station.depth(), station.history_words(2, 3)), (Ok(6), Ok(36)));
+        assert_eq!(station.apply(&mut [5], 1, 1, &mut history[..5], &mut [0.0; 6], &mut [0], &[]), Err(ShortHistory));
+        assert_eq!(pixel(&mut station, 5, &mut history), 5);
+        assert_eq!(history, [5, 7, 7, 5, 5, 5, 7]);
+        assert_eq!(station.as_bytes()[84..96], [0, 1, 0, 1, 0, 0, 0, 0, 0, 1, 0, 1]);
+    }
+
+    /// A switch is that of the first glow, which forgets alone; on again, it begins anew while the second goes on.
+    #[test]
+    fn the_first_glow_is_switched() {
+        let (mut station, mut history) = (Station::open(&TWO_GLOWS).unwrap(), [7; 2]);
+        pixel(&mut station, 0xFFFFFF, &mut history);
+        station.set_enabled(Kind::Persistence, false).unwrap();
+        assert_eq!(station.enabled(Kind::Persistence), Ok(false));
+        assert_eq!(station.as_bytes()[84..96], [0, 0, 0, 0, 0, 1, 0, 1, 0, 0, 0, 0]);
+        assert_eq!(pixel(&mut station, 0, &mut history), 0x555555);
+        assert_eq!(history, [0xFFFFFF, 0]);
+        station.set_enabled(Kind::Persistence, true).unwrap();
+        assert_eq!(pixel(&mut station, 0xFFFFFF, &mut history), 0xAAAAAA);
+        assert_eq!(history, [0xFFFFFF; 2]);
+    }
+
+    /// The first glow gets the new depth. Where it is another one, the second forgets: its history begins elsewhere.
+    #[test]
+    fn a_new_depth_is_that_of_the_first_glow() {
+        let (mut before, mut words) = (Station::open(&TWO_GLOWS).unwrap(), [7; 5]);
+        pixel(&mut before, 0xFFFFFF, &mut words);
+        for (depth, sum, second) in [(1, 2, 1), (2, 3, 0), (4, 5, 0)] {
+            let (mut station, mut history) = (before.clone(), words);
+            assert_eq!(station.set_depth(&mut history[..depth - 1], depth), Err(ShortHistory));
+            assert_eq!(station.set_depth(&mut history[..depth], depth), Ok(()));
+            assert_eq!(station.depth(), Ok(sum));
+            assert_eq!(station.as_bytes()[84..96], [0, 1, 0, 1, 0, second, 0, second, 0, 0, 0, 0]);
+            let mut asked = words;
+            asked[..depth].fill(0xFFFFFF);
+            assert_eq!(history, asked);
+        }
+    }
+
+    /// Remembered sizes that differ, one of a glow that is off, and one where there is no pass.
+    #[test]
+    fn glows_remember_one_size() {
+        let read = |card: &[u8], held: [u8; 12]| {
+            let mut bytes = *Station::open(card).unwrap().as_bytes();
+            bytes[84..96].copy_from_slice(&held);
+            Station::from_bytes(bytes).map(|station| *station.as_bytes() == bytes)
+        };
+        let (one, other, none) = ([0, 1, 0, 2], [0, 2, 0, 1], [0; 4]);
+        let held = |sizes: [[u8; 4]; 3]| -> [u8; 12] { sizes.concat().try_into().unwrap() };
+        for (sizes, good) in [
+            ([none, none, none], true),
+            ([one, one, none], true),
+            ([one, none, none], true),
+            ([none, one, none], true),
+            ([one, other, none], false),
+            ([one, one, one], false),
+            ([none, none, one], false),
+        ] {
+            assert_eq!(read(&TWO_GLOWS, held(sizes)), if good { Ok(true) } else { Err(BadStation) });
+        }
+        assert_eq!(read(&THREE_GLOWS, held([one, none, one])), Ok(true));
+        assert_eq!(read(&THREE_GLOWS, held([one, none, other])), Err(BadStation));
+        assert_eq!(read(&THREE_GLOWS, held([one, one, one])), Err(BadStation));
+    }
+
+    /// A fourth glow; LUT between two glows; LUT twice; twelve passes, which are torn, and thirteen.
+    #[test]
+    fn three_glows_may_stand_in_a_row() {
+        let four = [0x14, 0x49, 0xF8, 0, 0, 0, 0x0A, 0x4F, 0xC0, 0, 0, 0, 0x52, 0x7E, 0, 0, 0, 0x02, 0x93, 0xF0, 0, 0, 0, 0x10];
+        let split = [0x13, 0x49, 0xF8, 0, 0, 0, 0x0A, 0x80, 0, 0, 0, 0x02, 0x4F, 0xC0, 0, 0, 0, 0x40];
+        assert_eq!(Station::open(&four), Err(DoubledPass));
+        assert_eq!(Station::open(&split), Err(PassOutOfOrder));
+        assert_eq!(Station::open(&[0x12, 0x58, 0, 0, 0, 0, 0x58, 0, 0, 0, 0]), Err(DoubledPass));
+        assert_eq!(Station::open(&[0x1C]), Err(TornCard));
+        assert_eq!(Station::open(&[0x1D]), Err(OverfullCard));
+    }
+
     #[test]
     fn areas_are_added_up_in_the_order_given() {
         let (picture, mut result) = ([0xFF010203, 0x040506, 0x070809, 0x0A0B0C], [9; 7]);
@@ -1030,20 +1163,20 @@ mod tests {
     #[test]
     fn damaged_states_are_refused_and_stay() {
         let (good, mut refused) = (*opened().as_bytes(), 0);
-        for place in 0..80 {
+        for place in 0..134 {
             for change in 1..=255 {
                 let mut bytes = good;
                 bytes[place] ^= change;
                 match Station::from_bytes(bytes) {
                     Ok(station) => {
-                        let mut card = [0; 72];
+                        let mut card = [0; 83];
                         let length = station.write(&mut card).unwrap();
-                        assert_eq!((length, &card[..]), (bytes[0] as usize, &bytes[1..73]));
+                        assert_eq!((length, &card[..]), (bytes[0] as usize, &bytes[1..84]));
                     }
                     Err(refusal) => {
                         let mut station = Station { state: bytes };
                         assert_eq!(refusal, BadStation);
-                        assert_eq!(station.write(&mut [0; 72]), Err(BadStation));
+                        assert_eq!(station.write(&mut [0; 83]), Err(BadStation));
                         assert_eq!(station.reset(), Err(BadStation));
                         assert_eq!(station.set_enabled(Kind::Scanlines, false), Err(BadStation));
                         assert_eq!(station.ask(Kind::Scanlines, false), Err(BadStation));

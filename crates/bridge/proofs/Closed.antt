@@ -1,11 +1,13 @@
 -- A host that passes on what it got has a state: the exports keep states. Assumes nothing.
 use Prim.Native.Nat.{ℕ}
+use native.Mathlib.Omega.{arith}
 use mathlib.Core.Path.{_≡_, refl, ap, sym, subst, _∙_}
 use mathlib.Core.Bool.{Bool, true, false}
 use mathlib.Core.List.{List, []}
 use lib.Ieee.{Float}
-use lib.ListN.{length, replicate}
-use lib.Seq.{take-length}
+use lib.ListN.{length, drop, replicate, length-append, length-drop}
+use lib.Seq.{length-take-le, take-length, take-at, drop-at}
+use Rattle.cards.specs.Alike.{chainOf}
 use Rattle.cards.specs.Bits.{valueAt, fieldAt}
 use Rattle.cards.specs.Answers.{Report, refusal, acceptance, ok, Reply, left}
 use Rattle.chain.specs.Calls.{resetReply, switchReply, askReply, commitReply, stepReply, Framed, frameReply, depthReply}
@@ -13,14 +15,18 @@ use Rattle.cards.specs.Card.{headerAt, stationAt, accepted, openedOf, openOf}
 use Rattle.chain.specs.Machine.{frame, reset, switch, ask, commit, step, newDepth, State, call, after}
 use Rattle.cards.specs.Normal.{goodStation}
 use Rattle.cards.specs.Step.{Step, took, refused, refuseIf}
+use Rattle.cards.specs.Typed.{TypedChain}
+use Rattle.cards.specs.declared.station.Record.{Record}
 use Rattle.cards.specs.declared.station.Station.{Station}
+use Rattle.cards.specs.Laws.Good.{good}
 use Rattle.num.specs.Laws.Bools.{both, false-true}
 use Rattle.bridge.specs.Claims.{Whole, Closed}
 use Rattle.bridge.specs.Outcomes.{opening, onState, depthSet, frameShown}
-use Rattle.bridge.specs.State.{cardIn, stationIn, encoded, sameBytes, isState}
+use Rattle.bridge.specs.State.{cardIn, holdIn, stationIn, encoded, sameBytes, isState}
 use Rattle.bridge.proofs.Bytes.{same-equal}
 use Rattle.bridge.proofs.Lasting.{opened-whole, call-whole}
 use Rattle.bridge.proofs.RoundTrip.{round-trip}
+use Rattle.bridge.proofs.Sizes.{hold-long, hold-typed}
 
 accepted-is : (card : List ℕ) → ok (openOf card .answer) ≡ true → openOf card ≡ accepted (openOf card .station)
 unfolding openOf
@@ -46,13 +52,25 @@ module _ (b : List ℕ) (card : ok (openOf (cardIn b) .answer) ≡ true) (same :
       go : (t : Bool) → goodStation (stationIn b) ≡ t → t ≡ true
       go true e = refl
       go false e =
-          let zeros : replicate 80 0 ≡ b = same-equal (replicate 80 0) b (rw e at same) in
+          let zeros : replicate 134 0 ≡ b = same-equal (replicate 134 0) b (rw e at same) in
           false-true (sym no-card ∙ ap (λ (l : List ℕ). ok (openOf (cardIn l) .answer)) zeros ∙ card)
 
+  -- the card's station is whole, and so it is with what the bytes say that it holds
   whole-in : Whole (stationIn b)
   whole-in =
-      let w = opened-whole (cardIn b) (openOf (cardIn b) .station) (accepted-is (cardIn b) card) in
-      record { good = good-in; typed = w .typed; ten = w .ten; rest = w .rest }
+      let s : Station = openOf (cardIn b) .station in
+      let w = opened-whole (cardIn b) s (accepted-is (cardIn b) card) in
+      let few = good s (w .good) .few in
+      let chain : List Record = holdIn 84 b (chainOf s) in
+      let long : length chain ≡ s .n =
+      hold-long 84 b (chainOf s) ∙ length-take-le (s .n) (s .records) (omega (arith, w .twelve, few)) in
+      record {
+        good = good-in;
+        typed = subst TypedChain (sym (take-at chain _ (s .n) long)) (hold-typed 84 b (chainOf s) (w .typed));
+        twelve =
+            length-append chain (drop (s .n) (s .records)) ∙ omega (arith, long, length-drop (s .n) (s .records), w .twelve, few);
+        rest = drop-at chain _ (s .n) long ∙ w .rest;
+      }
 
 state-whole : (b : List ℕ) → isState b ≡ true → Whole (stationIn b)
 unfolding isState
@@ -117,7 +135,8 @@ frame-state : (w h : ℕ) (b words past : List ℕ) (floats ints : ℕ) (curve :
 unfolding frameShown
 frame-state w h b words past floats ints curve old e =
     let r : Framed = frameReply w h (stationIn b) words past floats ints curve in
-    rw e (left-state (r .answer) b (encoded (r .station)) e (encoded-state (r .station) (frame-whole w h words past floats ints curve (stationIn b) (state-whole b e))))
+    let t : Whole (r .station) = frame-whole w h words past floats ints curve (stationIn b) (state-whole b e) in
+    rw e (left-state (r .answer) b (encoded (r .station)) e (encoded-state (r .station) t))
 
 depth-whole : (d : ℕ) (past : List ℕ) (s : Station) → Whole s → Whole (depthReply d s past .station)
 unfolding after call

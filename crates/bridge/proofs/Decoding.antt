@@ -7,42 +7,42 @@ use mathlib.Core.Bool.{Bool, true, false, _&&_}
 use mathlib.Core.List.{List}
 use lib.ListN.{length, getD, take, drop, length-drop}
 use lib.Seq.{take-all}
-use Rattle.num.specs.Held.{Held}
 use Rattle.cards.specs.Answers.{Report, ok, Reply, refusing, reported, opened}
-use Rattle.chain.specs.Calls.{hold, pend}
+use Rattle.chain.specs.Calls.{pend}
 use Rattle.cards.specs.Card.{accepted, openOf}
 use Rattle.cards.specs.declared.reader.Opened.{Opened}
 use Rattle.cards.specs.declared.station.Answer.{Answer}
 use Rattle.cards.specs.declared.station.Answer.the-variants.{Accepted, Refused}
 use Rattle.cards.specs.declared.station.Pending.{Pending}
+use Rattle.cards.specs.declared.station.Record.{Record}
 use Rattle.cards.specs.declared.station.Station.{Station}
-use Rattle.bridge.specs.State.{cardIn, heldIn, pendingIn, stationIn, encoded, sameBytes, isState, decoded}
+use Rattle.bridge.specs.State.{cardIn, holdOn, pendingIn, stationIn, encoded, sameBytes, isState, decoded}
 
 -- a length past the end takes no more than there is
-pub card-part : (b : List ℕ) (e : ℕ) → length b ≡ 80 → e ≡ 1 + min (getD b 0 0) 79 → take (e - 1) (drop 1 b) ≡ cardIn b
-card-part b e long end = go (decLt (getD b 0 0) 79)
+pub card-part : (b : List ℕ) (e : ℕ) → length b ≡ 134 → e ≡ 1 + min (getD b 0 0) 133 → take (e - 1) (drop 1 b) ≡ cardIn b
+card-part b e long end = go (decLt (getD b 0 0) 133)
   where
-    size : length (drop 1 b) ≡ 79
+    size : length (drop 1 b) ≡ 133
     size = length-drop 1 b ∙ omega (arith, long)
 
-    go : Dec (getD b 0 0 < 79) → take (e - 1) (drop 1 b) ≡ cardIn b
+    go : Dec (getD b 0 0 < 133) → take (e - 1) (drop 1 b) ≡ cardIn b
     go (yes h) = let k : e - 1 ≡ getD b 0 0 = omega arith in ap (λ (j : ℕ). take j (drop 1 b)) k
     go (no h) = take-all (e - 1) (drop 1 b) (omega (arith, size)) ∙ sym (take-all (getD b 0 0) (drop 1 b) (omega (arith, size)))
 
 module _
-    (b card : List ℕ) (o : Opened) (held : Held) (pending : Pending) (part : card ≡ cardIn b) (opens : opened o ≡ openOf card) (holds : held ≡ heldIn b)
-    (asks : pending ≡ pendingIn b)
+    (b card : List ℕ) (o : Opened) (records : List Record) (pending : Pending) (part : card ≡ cardIn b) (opens : opened o ≡ openOf card)
+    (holds : records ≡ holdOn b (o .station) .records) (asks : pending ≡ pendingIn b)
   where
     abbrev s : Station
-    s = pend pending (hold held (o .station))
+    s = record { records = records; n = o .station .n; pending = pending }
 
     opened-is : opened o ≡ openOf (cardIn b)
     opened-is = opens ∙ ap openOf part
 
     station-is : s ≡ stationIn b
     station-is =
-        ap₂ (λ (p : Reply) (h : Held). pend pending (hold h (p .station))) opened-is holds
-        ∙ ap (λ (q : Pending). pend q (hold (heldIn b) (openOf (cardIn b) .station))) asks
+        ap₂ (λ (rs : List Record) (q : Pending). record { records = rs; n = o .station .n; pending = q }) holds asks
+        ∙ ap (λ (p : Reply). pend (pendingIn b) (holdOn b (p .station))) opened-is
 
     test-is : (x : Answer) (t : Bool) → o .answer ≡ x → sameBytes (encoded s) b ≡ t → isState b ≡ (ok (reported x) && t)
     unfolding isState

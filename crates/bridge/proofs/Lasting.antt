@@ -38,22 +38,22 @@ normal-typed (Scanlines a) n = n .held
 
 chain-typed : (rs done : List Record) → NormalChain done rs → TypedChain rs
 chain-typed [] done n = tt
-chain-typed (r ∷ rs) done n = (normal-typed (r .pass) (n .0), chain-typed rs (done ++ r ∷ []) (n .3))
+chain-typed (r ∷ rs) done n = (normal-typed (r .pass) (n .0), chain-typed rs (done ++ r ∷ []) (n .4))
 
 pub opened-whole : (card : List ℕ) (s : Station) → openOf card ≡ accepted s → Whole s
 opened-whole card s e =
     let o = accepted-opens card s e in
-    let filled : List Record = replicate (10 - length (o .chain)) unused in
+    let filled : List Record = replicate (12 - length (o .chain)) unused in
     record {
       good = opened-fit card s e .sound;
       typed =
           subst (λ (t : Station). TypedChain (chainOf t)) (sym (o .whole))
           (subst TypedChain (sym (take-append-seam (o .chain) filled)) (chain-typed (o .chain) [] (o .normal)));
-      ten =
+      twelve =
           ap (λ (t : Station). length (t .records)) (o .whole)
-          ∙ omega (arith, o .few, length-append (o .chain) filled, length-replicate (10 - length (o .chain)) unused);
+          ∙ omega (arith, o .few, length-append (o .chain) filled, length-replicate (12 - length (o .chain)) unused);
       rest =
-          subst (λ (t : Station). drop (t .n) (t .records) ≡ replicate (10 - t .n) unused) (sym (o .whole)) (drop-append-seam (o .chain) filled);
+          subst (λ (t : Station). drop (t .n) (t .records) ≡ replicate (12 - t .n) unused) (sym (o .whole)) (drop-append-seam (o .chain) filled);
     }
 
 -- ## Each call
@@ -78,25 +78,25 @@ shapes-typed [] t = tt
 shapes-typed (r ∷ rs) t = (blank-typed (r .pass) (t .0), shapes-typed rs (t .1))
 
 whole-fit : (s : Station) → Whole s → Fit s
-whole-fit s w = record { sound = w .good; room = length-take-le (s .n) (s .records) (omega (arith, w .ten, good s (w .good) .few)) }
+whole-fit s w = record { sound = w .good; room = length-take-le (s .n) (s .records) (omega (arith, w .twelve, good s (w .good) .few)) }
 
--- what a call leaves: switches, preset and depth apart, the station that it got
+-- what a call leaves: switches, preset, depth and what is held apart, the station that it got
 after-whole : (s t : Station) → Whole s → After s t → Fit t → Whole t
 after-whole s t w a f =
     let same-n : t .n ≡ s .n = ap (λ (x : Fixed). x .1) (a .same) in
-    let rest : drop (t .n) (t .records) ≡ replicate (10 - t .n) unused =
-    ap (λ (x : Fixed). x .2) (a .same) ∙ w .rest ∙ ap (λ (k : ℕ). replicate (10 - k) unused) (sym same-n) in
+    let rest : drop (t .n) (t .records) ≡ replicate (12 - t .n) unused =
+    ap (λ (x : Fixed). x .2) (a .same) ∙ w .rest ∙ ap (λ (k : ℕ). replicate (12 - k) unused) (sym same-n) in
     record {
       good = a .sound;
       typed = shapes-typed (chainOf t) (subst TypedShapes (sym (ap (λ (x : Fixed). x .0) (a .same))) (typed-shapes (chainOf s) (w .typed)));
-      ten =
+      twelve =
           ap length (sym (take-append-drop (t .n) (t .records)))
           ∙ omega (
             arith,
             length-append (chainOf t) (drop (t .n) (t .records)),
             f .room,
             ap length rest,
-            length-replicate (10 - t .n) unused,
+            length-replicate (12 - t .n) unused,
             good t (a .sound) .few,
           );
       rest = rest;

@@ -25,8 +25,8 @@ use Rattle.cards.specs.declared.station.Answer.{Answer}
 use Rattle.cards.specs.declared.station.Answer.the-variants.{Accepted, Refused}
 use Rattle.cards.specs.declared.station.Station.{Station}
 use Rattle.cards.specs.declared.writer.Written.{Written}
-use Rattle.bridge.specs.Outcomes.{Outcome, outcome, answered, damaged, opening, onState, answeredWith, depthSet, questionOf, writeTold, writeLeft, Shown, shown, framedNumber}
-use Rattle.bridge.specs.Outcomes.{framedShown, frameShown, freed, Frames}
+use Rattle.bridge.specs.Outcomes.{Outcome, outcome, answered, damaged, opening, onState, answeredWith, depthSet, questionOf, writeTold, writeLeft}
+use Rattle.bridge.specs.Outcomes.{Shown, shown, framedNumber, framedShown, frameShown, freed, Frames}
 use Rattle.bridge.specs.State.{encoded, stationIn, isState, decoded}
 
 pub opens : (card b : List ℕ) (o : Opened) (x : Outcome) → opened o ≡ openOf card → x ≡ answered b (opened o) → x ≡ opening card b
@@ -129,8 +129,8 @@ pub write-none : (b buf : List ℕ) (k n : ℕ) → Unread b k → n ≡ 256 + k
 unfolding writeTold writeLeft
 write-none b buf k n u e = (rw (u .broken) (e ∙ u .by-13), rw (u .broken) refl)
 
-pub write-some : (b buf new : List ℕ) (s : Station) (x : Written) (n : ℕ) → Read b s → written x ≡ writeReply s buf → new ≡ writeInto s buf → n ≡ told (reportedWriting (x .answer))
-    → (n ≡ writeTold b buf) × (new ≡ writeLeft b buf)
+pub write-some : (b buf new : List ℕ) (s : Station) (x : Written) (n : ℕ) → Read b s → written x ≡ writeReply s buf → new ≡ writeInto s buf
+    → n ≡ told (reportedWriting (x .answer)) → (n ≡ writeTold b buf) × (new ≡ writeLeft b buf)
 unfolding writeTold writeLeft
 write-some b buf new s x n t e f h = (
   rw (t .sound) (h ∙ ap (λ (q : Reply). told (q .answer)) (e ∙ ap (λ (q : Station). writeReply q buf) (t .station))),

@@ -17,12 +17,12 @@ use Rattle.cards.specs.declared.station.Station.{Station}
 use Rattle.bridge.specs.Outcomes.{opening, onState, depthSet, frameShown}
 use Rattle.bridge.specs.State.{encoded, stationIn, isState}
 
--- a good station of ten typed records, whose places past n are filled as at every opening
+-- a good station of twelve typed records, whose places past n are filled as at every opening: they hold nothing
 pub record Whole (s : Station) : Type 0 where
   pub good : goodStation s ≡ true
   pub typed : TypedChain (chainOf s)
-  pub ten : length (s .records) ≡ 10
-  pub rest : drop (s .n) (s .records) ≡ replicate (10 - s .n) unused
+  pub twelve : length (s .records) ≡ 12
+  pub rest : drop (s .n) (s .records) ≡ replicate (12 - s .n) unused
 
 -- such a station is read back from its bytes
 abbrev pub RoundTrip : Type 0

@@ -30,7 +30,7 @@ fn refusal(k: u8) -> u32
 }
 
 // Tells the answer, and keeps the station where it is no refusal.
-fn keep(answer: Answer, station: Station, state: &mut [u8; 80]) -> u32
+fn keep(answer: Answer, station: Station, state: &mut [u8; 134]) -> u32
     ensures { λ r. ⌜ outcome r (now (state .exit)) ≡ answered (now (state .entry)) (reply (reported answer) station) ⌝ }
 {
     if let Answer::Refused(k) = answer {
@@ -52,7 +52,7 @@ fn tell(answer: Question) -> u32
 
 // The station of a card, written as the state.
 #[no_mangle]
-pub extern "C" fn hedgemallow_open(card: &[u8], state: &mut [u8; 80]) -> u32
+pub extern "C" fn hedgemallow_open(card: &[u8], state: &mut [u8; 134]) -> u32
     ensures { λ r. ⌜ outcome r (now (state .exit)) ≡ opening (now (card .entry)) (now (state .entry)) ⌝ }
 {
     let opened = reader::open(card);
@@ -63,7 +63,7 @@ pub extern "C" fn hedgemallow_open(card: &[u8], state: &mut [u8; 80]) -> u32
 
 // The station's card at the start of the buffer, and its length.
 #[no_mangle]
-pub extern "C" fn hedgemallow_write(state: &[u8; 80], buffer: &mut [u8]) -> u32
+pub extern "C" fn hedgemallow_write(state: &[u8; 134], buffer: &mut [u8]) -> u32
     ensures { λ r. ⌜ (r ≡ writeTold (now (state .entry)) (now (buffer .entry)))
         × (now (buffer .exit) ≡ writeLeft (now (state .entry)) (now (buffer .entry))) ⌝ }
 {
@@ -84,7 +84,7 @@ pub extern "C" fn hedgemallow_write(state: &[u8; 80], buffer: &mut [u8]) -> u32
 // A frame; and what it reports: how many channels were clipped, and how many samples were taken.
 #[no_mangle]
 pub extern "C" fn hedgemallow_apply(
-    state: &mut [u8; 80],
+    state: &mut [u8; 134],
     framebuffer: &mut [u32],
     width: usize,
     height: usize,
@@ -126,9 +126,9 @@ pub extern "C" fn hedgemallow_apply(
     }
 }
 
-// Forgets what the history holds.
+// Forgets what the histories hold.
 #[no_mangle]
-pub extern "C" fn hedgemallow_reset(state: &mut [u8; 80]) -> u32
+pub extern "C" fn hedgemallow_reset(state: &mut [u8; 134]) -> u32
     ensures { λ r. ⌜ outcome r (now (state .exit)) ≡ onState resetReply (now (state .entry)) ⌝ }
 {
     let opened = decode(*state);
@@ -143,9 +143,9 @@ pub extern "C" fn hedgemallow_reset(state: &mut [u8; 80]) -> u32
     keep(told, after, state)
 }
 
-// Switches the pass of that kind: 0 is off, any other number on.
+// Switches the first pass of that kind: 0 is off, any other number on.
 #[no_mangle]
-pub extern "C" fn hedgemallow_set_enabled(state: &mut [u8; 80], kind: u8, on: u8) -> u32
+pub extern "C" fn hedgemallow_set_enabled(state: &mut [u8; 134], kind: u8, on: u8) -> u32
     ensures { λ r. ⌜ outcome r (now (state .exit)) ≡ onState (switchReply kind (not (eqb on 0))) (now (state .entry)) ⌝ }
 {
     let opened = decode(*state);
@@ -160,9 +160,9 @@ pub extern "C" fn hedgemallow_set_enabled(state: &mut [u8; 80], kind: u8, on: u8
     keep(told, after, state)
 }
 
-// Asks for a switch of the pass of that kind: 0 is off, any other number on.
+// Asks for a switch of the first pass of that kind: 0 is off, any other number on.
 #[no_mangle]
-pub extern "C" fn hedgemallow_ask(state: &mut [u8; 80], kind: u8, on: u8) -> u32
+pub extern "C" fn hedgemallow_ask(state: &mut [u8; 134], kind: u8, on: u8) -> u32
     ensures { λ r. ⌜ outcome r (now (state .exit)) ≡ onState (askReply kind (not (eqb on 0))) (now (state .entry)) ⌝ }
 {
     let opened = decode(*state);
@@ -179,7 +179,7 @@ pub extern "C" fn hedgemallow_ask(state: &mut [u8; 80], kind: u8, on: u8) -> u32
 
 // Makes the switch that was asked for.
 #[no_mangle]
-pub extern "C" fn hedgemallow_commit(state: &mut [u8; 80]) -> u32
+pub extern "C" fn hedgemallow_commit(state: &mut [u8; 134]) -> u32
     ensures { λ r. ⌜ outcome r (now (state .exit)) ≡ onState commitReply (now (state .entry)) ⌝ }
 {
     let opened = decode(*state);
@@ -196,7 +196,7 @@ pub extern "C" fn hedgemallow_commit(state: &mut [u8; 80]) -> u32
 
 // Steps the LUT to its next preset, and reports it.
 #[no_mangle]
-pub extern "C" fn hedgemallow_cycle_lut(state: &mut [u8; 80]) -> u32
+pub extern "C" fn hedgemallow_cycle_lut(state: &mut [u8; 134]) -> u32
     ensures { λ r. ⌜ outcome r (now (state .exit)) ≡ onState stepReply (now (state .entry)) ⌝ }
 {
     let opened = decode(*state);
@@ -217,9 +217,13 @@ pub extern "C" fn hedgemallow_cycle_lut(state: &mut [u8; 80]) -> u32
     }
 }
 
-// Gives persistence a new depth, and its history with it.
+// Gives the first persistence a new depth, and its history with it.
 #[no_mangle]
-pub extern "C" fn hedgemallow_set_depth(state: &mut [u8; 80], history: &mut [u32], depth: u8) -> u32
+pub extern "C" fn hedgemallow_set_depth(
+    state: &mut [u8; 134],
+    history: &mut [u32],
+    depth: u8,
+) -> u32
     ensures { λ r. ⌜ (outcome r (now (state .exit)), now (history .exit)) ≡ depthSet depth (now (state .entry)) (now (history .entry)) ⌝ }
 {
     let opened = decode(*state);
@@ -234,9 +238,9 @@ pub extern "C" fn hedgemallow_set_depth(state: &mut [u8; 80], history: &mut [u32
     keep(told, after, state)
 }
 
-// Document 01's K, for sizing the history.
+// Document 01's K, the sum of the depths in the chain, for sizing the history.
 #[no_mangle]
-pub extern "C" fn hedgemallow_depth(state: &[u8; 80]) -> u32
+pub extern "C" fn hedgemallow_depth(state: &[u8; 134]) -> u32
     ensures { λ r. ⌜ r ≡ depthTold (now (state .entry)) ⌝ }
 {
     let opened = decode(*state);
@@ -248,9 +252,9 @@ pub extern "C" fn hedgemallow_depth(state: &[u8; 80]) -> u32
     pipeline::places(station) as u32
 }
 
-// Whether the pass of that kind is on: 1, or 0 where it is off.
+// Whether the first pass of that kind is on: 1, or 0 where it is off.
 #[no_mangle]
-pub extern "C" fn hedgemallow_enabled(state: &[u8; 80], kind: u8) -> u32
+pub extern "C" fn hedgemallow_enabled(state: &[u8; 134], kind: u8) -> u32
     ensures { λ r. ⌜ r ≡ enabledTold kind (now (state .entry)) ⌝ }
 {
     let opened = decode(*state);
@@ -264,7 +268,7 @@ pub extern "C" fn hedgemallow_enabled(state: &[u8; 80], kind: u8) -> u32
 
 // The LUT's preset.
 #[no_mangle]
-pub extern "C" fn hedgemallow_preset(state: &[u8; 80]) -> u32
+pub extern "C" fn hedgemallow_preset(state: &[u8; 134]) -> u32
     ensures { λ r. ⌜ r ≡ presetTold (now (state .entry)) ⌝ }
 {
     let opened = decode(*state);

@@ -1,4 +1,5 @@
 // Two cards: whether they are alike, and where they differ first.
+ghost use Prim.Native.Nat.{_≤_};
 use crate::names;
 use crate::names::text;
 use crate::numbers;
@@ -19,7 +20,7 @@ use libc::STDOUT_FILENO;
 // The record at place i.
 fn record(station: Station, i: usize) -> Record {
     let records = station.records;
-    if i < 10 { records[i] } else { records[9] }
+    if i < 12 { records[i] } else { records[11] }
 }
 
 fn kind(r: Record) -> u8 {
@@ -35,7 +36,7 @@ fn setting(r: Record, j: usize) {
 // Place i, counted from 1.
 fn place(i: usize) {
     text(b"not alike: pass ");
-    if i < 10 {
+    if i < 12 {
         numbers::whole(i + 1);
     }
 }
@@ -86,21 +87,29 @@ fn settings(i: usize, j: usize, a: Station, b: Station) -> bool {
     end(b"\n")
 }
 
-// How many older frames are mixed into a picture: none where persistence is off or not in the chain.
-fn mixed(station: Station) -> usize {
-    let n = station.n;
-    let mut i: usize = 0;
-    while i < 10 {
-        let r = record(station, i);
-        let pass = r.pass;
-        if i < n && r.on {
-            if let Pass::Persistence { amount: _, depth } = pass {
-                return depth as usize;
-            }
+// The depth of the pass at place i, where it is persistence that is on.
+fn depth_at(station: Station, i: usize) -> usize
+    ensures { λ r. ⌜ r ≤ 255 ⌝ }
+{
+    let r = record(station, i);
+    let pass = r.pass;
+    if i < station.n && r.on {
+        if let Pass::Persistence { amount: _, depth } = pass {
+            return depth as usize;
         }
-        i += 1;
     }
     0
+}
+
+// How many older frames a picture depends on: the depths of the persistence passes that are on, added up.
+fn mixed(station: Station) -> usize {
+    let mut depths: usize = 0;
+    let mut i: usize = 0;
+    while i < 12 {
+        depths += depth_at(station, i);
+        i += 1;
+    }
+    depths
 }
 
 // Whether a picture depends on the curve that is lent with its frame: colour is in the chain with a gamma other than 1. (Where it is off, the curve decides
@@ -108,7 +117,7 @@ fn mixed(station: Station) -> usize {
 fn is_curved(station: Station) -> bool {
     let n = station.n;
     let mut i: usize = 0;
-    while i < 10 {
+    while i < 12 {
         let r = record(station, i);
         let pass = r.pass;
         if i < n {

@@ -85,7 +85,7 @@ fn passes(station: Station) -> bool {
         return end(b"  no pass: the picture is the frame\n");
     }
     let mut i = 0;
-    while i < 10 {
+    while i < 12 {
         if i < n {
             let r = records[i];
             if !record(r, i + 1) {
@@ -123,7 +123,7 @@ fn asked(station: Station, extent: Extent) -> bool {
 
 // The card as every card of this station is written.
 fn normalised(station: Station) -> bool {
-    let mut card = [0u8; 72];
+    let mut card = [0u8; 83];
     let written = writer::write(station, &mut card);
     let answer = written.answer;
     match answer {

@@ -1,7 +1,7 @@
 -- A chain of normalised records, written as a card, is read back. Assumes nothing.
 use Prim.Native.Nat.{ℕ, zero, suc, _+_, _-_, _*_, _/_, _^_, _≤_, _<_}
 use native.Mathlib.Omega.{arith}
-use mathlib.Core.Path.{_≡_, refl, ap, sym, subst, _∙_}
+use mathlib.Core.Path.{_≡_, refl, ap, ap₂, sym, subst, _∙_}
 use mathlib.Core.Bool.{Bool, true, false, cond, _||_}
 use mathlib.Core.List.{List, [], _∷_, _++_, append-nil, append-assoc}
 use lib.ListN.{length, getD, length-append, List·getD-eq-default}
@@ -13,7 +13,9 @@ use Rattle.cards.specs.Bits.{bitAt, valueAt}
 use Rattle.num.specs.Const.{c0·0, c0·01, c0·5, c0·95, c1·0, c4·0}
 use Rattle.cards.specs.Passes.{ntscAt, bloomAt, autoGradientAt, persistenceAt, lutAt, curvatureAt, colorCorrectionAt, crtAt, vignetteAt, scanlinesAt}
 use Rattle.cards.specs.Passes.{passAt, kindOf}
-use Rattle.cards.specs.Records.{kinds, among, lastOf, recordAt}
+use Rattle.cards.specs.Records.{kinds, lastOf, full, recordAt}
+use Rattle.cards.specs.Typed.{Unheld}
+use Rattle.num.specs.Held.{Held, nothing}
 use Rattle.cards.specs.Card.{stationOf, recordsAt, endsAt, stationAt}
 use Rattle.cards.specs.Written.{bits, passBits, recordBits, recordsBits, chainBits, chainCard}
 use Rattle.cards.specs.declared.station.Pass.{Pass}
@@ -38,12 +40,16 @@ NormalPass (Crt s) = Settled c0·0 c1·0 s
 NormalPass (Vignette s) = Settled c0·0 c1·0 s
 NormalPass (Scanlines s) = Settled c0·0 c1·0 s
 
--- normalised records after those that are done, no kind twice, and none below the one before it
+-- normalised records after those that are done, no kind more often than it may, none below the one before it, and none that holds frames
 abbrev pub NormalChain : List Record → List Record → Type 0
 NormalChain done [] = Unit {0}
 NormalChain done (r ∷ rs) =
-    NormalPass (r .pass) × (among (kindOf (r .pass)) (kinds done) ≡ false) × (ltb (kindOf (r .pass)) (lastOf 0 (kinds done)) ≡ false)
-    × NormalChain (done ++ r ∷ []) rs
+    NormalPass (r .pass) × (full (kindOf (r .pass)) (kinds done) ≡ false) × (ltb (kindOf (r .pass)) (lastOf 0 (kinds done)) ≡ false)
+    × (r .held ≡ nothing) × NormalChain (done ++ r ∷ []) rs
+
+pub normal-unheld : (rs done : List Record) → NormalChain done rs → Unheld rs
+normal-unheld [] done n = tt
+normal-unheld (r ∷ rs) done n = (n .3, normal-unheld rs (done ++ r ∷ []) (n .4))
 
 reads-pass : (p : Pass) → NormalPass p → Reads (passAt (kindOf p)) (passBits p) p
 unfolding passAt passBits ntscAt bloomAt autoGradientAt persistenceAt lutAt curvatureAt colorCorrectionAt crtAt vignetteAt scanlinesAt
@@ -94,10 +100,10 @@ switch-back : (on : Bool) → eqb (cond on 1 0) 1 ≡ on
 switch-back true = refl
 switch-back false = refl
 
-reads-record : (seen : List ℕ) (r : Record) → NormalPass (r .pass) → among (kindOf (r .pass)) seen ≡ false
-    → ltb (kindOf (r .pass)) (lastOf 0 seen) ≡ false → Reads (recordAt seen) (recordBits r) r
+reads-record : (seen : List ℕ) (r : Record) → NormalPass (r .pass) → full (kindOf (r .pass)) seen ≡ false
+    → ltb (kindOf (r .pass)) (lastOf 0 seen) ≡ false → r .held ≡ nothing → Reads (recordAt seen) (recordBits r) r
 unfolding recordAt recordBits
-reads-record seen r n new rises =
+reads-record seen r n new rises unheld =
     reads-here
     (λ p. reads-then _ (reads-field 4 (kindOf (r .pass)) (small (r .pass)))
     (reads-after _ (reads-guard 4 p _ (known (r .pass)))
@@ -105,15 +111,16 @@ reads-record seen r n new rises =
     (reads-after _ (reads-guard 15 p _ rises)
     (reads-then _ (reads-field 1 (cond (r .on) 1 0) (switch-small (r .on)))
     (reads-last _ (reads-pass (r .pass) n)
-    (reads-as (record { on = eqb (cond (r .on) 1 0) 1; pass = r .pass }) r (ap (λ (on : Bool). record { on = on; pass = r .pass }) (switch-back (r .on))))))))))
+    (reads-as (record { on = eqb (cond (r .on) 1 0) 1; pass = r .pass; held = nothing }) r
+    (ap₂ (λ (on : Bool) (held : Held). record { on = on; pass = r .pass; held = held }) (switch-back (r .on)) (sym unheld)))))))))
 
 reads-records : (rs done : List Record) → NormalChain done rs → Reads (recordsAt (length rs) done) (recordsBits rs) (done ++ rs)
 unfolding recordsAt recordsBits
 reads-records [] done n = reads-as done (done ++ []) (sym (append-nil done))
 reads-records (r ∷ rs) done n =
-    reads-then _ (reads-record (kinds done) r (n .0) (n .1) (n .2))
+    reads-then _ (reads-record (kinds done) r (n .0) (n .1) (n .2) (n .3))
     (subst (λ (l : List Record). Reads (recordsAt (length rs) (done ++ r ∷ [])) (recordsBits rs) l) (append-assoc done (r ∷ []) rs)
-    (reads-records rs (done ++ r ∷ []) (n .3)))
+    (reads-records rs (done ++ r ∷ []) (n .4)))
 
 -- only bits are written
 pass-bits : (p : Pass) → IsBits (passBits p)
@@ -186,7 +193,7 @@ module _ (rs : List Record) where
       )
 
   -- a card that was written is read as the chain that it was written from
-  pub chain-back : length rs ≤ 10 → NormalChain [] rs → stationAt (chainCard rs) 0 ≡ took (stationOf rs) far
+  pub chain-back : length rs ≤ 12 → NormalChain [] rs → stationAt (chainCard rs) 0 ≡ took (stationOf rs) far
   unfolding chainBits bits
   chain-back few n =
       let all = chain-holds in

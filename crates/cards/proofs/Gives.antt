@@ -16,7 +16,8 @@ use Rattle.num.specs.Steps.{clampOf, plusZeroOf, limitOf}
 use Rattle.num.specs.Const.{c0·0, c0·01, c0·5, c0·95, c1·0, c4·0}
 use Rattle.cards.specs.Passes.{ntscAt, bloomAt, autoGradientAt, persistenceAt, lutAt, curvatureAt, colorCorrectionAt, crtAt, vignetteAt, scanlinesAt}
 use Rattle.cards.specs.Passes.{passAt, kindOf}
-use Rattle.cards.specs.Records.{kinds, among, lastOf, recordAt}
+use Rattle.cards.specs.Records.{kinds, lastOf, full, recordAt}
+use Rattle.num.specs.Held.{nothing}
 use Rattle.cards.specs.Card.{stationOf, recordsAt, endAt, stationAt}
 use Rattle.cards.specs.Normal.{negZero}
 use Rattle.cards.specs.declared.station.Pass.{Pass}
@@ -150,9 +151,9 @@ gives-pass (suc (suc (suc (suc (suc (suc (suc (suc (suc zero))))))))) = gives-th
 gives-pass (suc (suc (suc (suc (suc (suc (suc (suc (suc (suc zero)))))))))) = gives-then _ (gives-1) (λ x0 h0. gives-ret (Of 10) _ (h0, refl))
 gives-pass (suc (suc (suc (suc (suc (suc (suc (suc (suc (suc (suc k))))))))))) = gives-refuse (Of _) 4
 
--- a normalised record of a kind not seen before, and not below the last
+-- a normalised record of a kind that may come once more, not below the last, that holds nothing
 abbrev New : List ℕ → Record → Type 0
-New seen r = NormalPass (r .pass) × (among (kindOf (r .pass)) seen ≡ false) × (ltb (kindOf (r .pass)) (lastOf 0 seen) ≡ false)
+New seen r = NormalPass (r .pass) × (full (kindOf (r .pass)) seen ≡ false) × (ltb (kindOf (r .pass)) (lastOf 0 seen) ≡ false) × (r .held ≡ nothing)
 
 gives-record : (seen : List ℕ) → Gives (recordAt seen) (New seen)
 unfolding recordAt
@@ -165,7 +166,7 @@ gives-record seen =
     (λ u g₁₅. gives-then _ (gives-field 1)
     (λ on ho. gives-then _ (gives-pass k)
     (λ p hp. gives-ret (New seen) _
-    (hp .0, ap (λ (j : ℕ). among j seen) (hp .1) ∙ g₅, ap (λ (j : ℕ). ltb j (lastOf 0 seen)) (hp .1) ∙ g₁₅))))))))
+    (hp .0, ap (λ (j : ℕ). full j seen) (hp .1) ∙ g₅, ap (λ (j : ℕ). ltb j (lastOf 0 seen)) (hp .1) ∙ g₁₅, refl))))))))
 
 -- n normalised records after those that are done
 record More (n : ℕ) (done rs : List Record) : Type 0 where
@@ -186,7 +187,7 @@ gives-records (suc n) done =
         record {
           more = r ∷ m .more;
           joined = m .joined ∙ append-assoc done (r ∷ []) (m .more);
-          normal = (hr .0, hr .1, hr .2, m .normal);
+          normal = (hr .0, hr .1, hr .2, hr .3, m .normal);
           long = ap suc (m .long);
         }
 
@@ -195,7 +196,7 @@ pub record Opens (s : Station) : Type 0 where
   pub chain : List Record
   pub whole : s ≡ stationOf chain
   pub normal : NormalChain [] chain
-  pub few : length chain ≤ 10
+  pub few : length chain ≤ 12
 
 gives-end : Gives endAt (λ u. Unit {0})
 gives-end = record { gives = λ card p u q e. tt }
@@ -211,5 +212,5 @@ gives-station =
       chain = rs;
       whole = refl;
       normal = subst (λ (l : List Record). NormalChain [] l) (sym (h .joined)) (h .normal);
-      few = subst (λ (l : List Record). length l ≤ 10) (sym (h .joined)) (omega (arith, h .long));
+      few = subst (λ (l : List Record). length l ≤ 12) (sym (h .joined)) (omega (arith, h .long));
     }))))

@@ -1,4 +1,5 @@
--- The longest card is 72 bytes: each kind stands once, so a chain's records take at most what the ten kinds take together, 565 bits. Assumes nothing.
+-- The longest card is 83 bytes: persistence stands three times at most and any other kind once, so a chain's records take at most what the ten kinds take
+-- together, 655 bits. Assumes nothing.
 use Prim.Native.Nat.{_+_, _/_, _≤_}
 use native.Mathlib.Omega.{arith}
 use mathlib.Core.List.{List, [], _++_}
@@ -8,7 +9,7 @@ use Rattle.cards.specs.Normal.{normalChain}
 use Rattle.cards.specs.Claims.{Longest}
 use Rattle.cards.specs.Written.{bits, recordBits, recordsBits, chainBits, chainCard, cardOf}
 use Rattle.cards.specs.declared.station.Record.{Record}
-use Rattle.cards.specs.Laws.Kinds.{kinds, together, each-once}
+use Rattle.cards.specs.Laws.Kinds.{kinds, together, as-often}
 use Rattle.cards.proofs.Packed.{length-bits, length-pack}
 use Rattle.cards.proofs.Records.{width, record-long}
 use Rattle.num.specs.Laws.Bools.{is-true}
@@ -17,11 +18,11 @@ use Rattle.cards.proofs.Writing.{good-parts}
 records-long : (rs : List Record) → T (normalChain [] rs) → length (recordsBits rs) ≤ together width kinds []
 unfolding recordsBits
 records-long rs h =
-    each-once width (λ rs. length (recordsBits rs)) (omega arith)
+    as-often width (λ rs. length (recordsBits rs)) (omega arith)
     (λ r rs q. omega (arith, length-append (recordBits r) (recordsBits rs), record-long r)) rs [] (is-true (normalChain [] rs) h)
 
--- no chain's card is longer than 72 bytes
-pub longest : (rs : List Record) → T (normalChain [] rs) → length (chainCard rs) ≤ 72
+-- no chain's card is longer than 83 bytes
+pub longest : (rs : List Record) → T (normalChain [] rs) → length (chainCard rs) ≤ 83
 unfolding chainCard chainBits
 longest rs h =
     omega (

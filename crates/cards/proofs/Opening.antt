@@ -7,7 +7,6 @@ use mathlib.Core.Bool.{true, false}
 use mathlib.Core.List.{List, [], _∷_, _++_}
 use lib.ListN.{length, take, drop, set, replicate, length-set, take-append-drop}
 use lib.Seq.{take-suc-set, drop-set-lt, drop-drop, length-take-le}
-use Rattle.num.specs.Held.{nothing}
 use Rattle.cards.specs.Step.{Step, took, refused, andThen, stop, refuseIf}
 use Rattle.cards.specs.Bits.{fieldAt}
 use Rattle.cards.specs.Records.{kinds, recordAt}
@@ -20,22 +19,22 @@ use borrow.Author.Tests.{ltb-false, le-ltb}
 use Rattle.cards.proofs.Steps.{Wide, field-wide, ret-wide, here-wide, refuseIf-wide, then-wide}
 use Rattle.cards.proofs.Taken.{Gives, gives-then, gives-ret, gives-here, gives-guard, gives-field}
 
--- the header is 8 bits, and takes at most ten passes
+-- the header is 8 bits, and takes at most twelve passes
 header-wide : Wide 8 headerAt
 unfolding headerAt
 header-wide =
     here-wide (λ p. then-wide 4 4 (field-wide 4) (λ v. then-wide 0 4 (refuseIf-wide 2 p _)
     (λ u. here-wide (λ q. then-wide 4 0 (field-wide 4) (λ n. then-wide 0 0 (refuseIf-wide 3 q _) (λ u. ret-wide))))))
 
-pub gives-header : Gives headerAt (λ n. n ≤ 10)
+pub gives-header : Gives headerAt (λ n. n ≤ 12)
 unfolding headerAt
 gives-header =
     gives-here (λ p. gives-then _ (gives-field 4) (λ v hv. gives-then _ (gives-guard 2 p _)
-    (λ u g. gives-here (λ q. gives-then _ (gives-field 4) (λ n hn. gives-then _ (gives-guard 3 q _) (λ u g. gives-ret (λ m. m ≤ 10) n (ltb-false 10 n g)))))))
+    (λ u g. gives-here (λ q. gives-then _ (gives-field 4) (λ n hn. gives-then _ (gives-guard 3 q _) (λ u g. gives-ret (λ m. m ≤ 12) n (ltb-false 12 n g)))))))
 
-pub header-took : (card : List ℕ) (n : ℕ) → fieldAt 4 card 0 ≡ took 1 4 → fieldAt 4 card 4 ≡ took n 8 → n ≤ 10 → headerAt card 0 ≡ took n 8
+pub header-took : (card : List ℕ) (n : ℕ) → fieldAt 4 card 0 ≡ took 1 4 → fieldAt 4 card 4 ≡ took n 8 → n ≤ 12 → headerAt card 0 ≡ took n 8
 unfolding headerAt refuseIf
-header-took card n e₁ e₂ few = simp (e₁, e₂, le-ltb 10 n few)
+header-took card n e₁ e₂ few = simp (e₁, e₂, le-ltb 12 n few)
 
 pub no-header : (card : List ℕ) (k : Refusal) → headerAt card 0 ≡ refused k → stationAt card 0 ≡ refused k
 unfolding stationAt
@@ -57,13 +56,13 @@ module _ (card : List ℕ) (n b : ℕ) (e₁ : headerAt card 0 ≡ took n b) whe
 -- where the loop stands after i records: those done are at the front, the places past them are unused
 pub record Done (card : List ℕ) (n start : ℕ) (rs : List Record) (next i : ℕ) : Type 0 where
   pub within : i ≤ n
-  pub few : n ≤ 10
+  pub few : n ≤ 12
   pub near : next ≤ 8 + 133 * i
-  pub long : length rs ≡ 10
-  pub rest : drop i rs ≡ replicate (10 - i) unused
+  pub long : length rs ≡ 12
+  pub rest : drop i rs ≡ replicate (12 - i) unused
   pub same : recordsAt n [] card start ≡ recordsAt (n - i) (take i rs) card next
 
-pub done-none : (card : List ℕ) (n start : ℕ) → headerAt card 0 ≡ took n start → Done card n start (replicate 10 unused) start 0
+pub done-none : (card : List ℕ) (n start : ℕ) → headerAt card 0 ≡ took n start → Done card n start (replicate 12 unused) start 0
 done-none card n start e =
     record {
       within = omega arith;
@@ -87,7 +86,7 @@ module _ (card : List ℕ) (n start : ℕ) (rs : List Record) (next i : ℕ) (d 
   pub done-more : (r : Record) (after : ℕ) → recordAt (kinds (take i rs)) card next ≡ took r after → after ≤ next + 133 → Done card n start (set rs i r) after (i + 1)
   done-more r after e h =
       let inside : i < length rs = omega (arith, d .long, d .few) in
-      let places : 10 - i ≡ suc (10 - (i + 1)) = omega arith in
+      let places : 12 - i ≡ suc (12 - (i + 1)) = omega arith in
       record {
         within = omega arith;
         few = d .few;
@@ -102,7 +101,7 @@ module _ (card : List ℕ) (n start : ℕ) (rs : List Record) (next i : ℕ) (d 
       }
 
 abbrev stationWith : List Record → ℕ → Station
-stationWith xs n = record { records = xs; n = n; held = nothing; pending = Nothing }
+stationWith xs n = record { records = xs; n = n; pending = Nothing }
 
 -- at the end the station is what the loop filled
 pub done-all : (card : List ℕ) (n start : ℕ) (rs : List Record) (next : ℕ) → Done card n start rs next n

@@ -11,8 +11,10 @@ use Rattle.num.specs.Const.{c0·0, c0·01, c0·5, c0·95, c1·0, c4·0}
 use Rattle.cards.specs.Alike.{chainOf}
 use Rattle.cards.specs.Card.{stationOf}
 use Rattle.cards.specs.Claims.{OpensGood}
-use Rattle.cards.specs.Laws.Good.{is-good, nothing-fine, nothing-idle, is-headed}
-use Rattle.cards.specs.Normal.{settled, counted, normalPass, normalChain, persists, goodStation}
+use Rattle.cards.specs.Laws.Good.{is-good, nothing-fine, unheld, is-headed}
+use Rattle.cards.specs.Typed.{Unheld}
+use Rattle.num.specs.Held.{fineHeld}
+use Rattle.cards.specs.Normal.{settled, counted, normalPass, normalChain, goodStation}
 use Rattle.cards.specs.Passes.{kindOf}
 use Rattle.cards.specs.Records.{kinds}
 use Rattle.cards.specs.declared.station.Pass.{Pass}
@@ -21,7 +23,7 @@ use Rattle.cards.specs.declared.station.Pass.the-variants.{Scanlines}
 use Rattle.cards.specs.declared.station.Record.{Record}
 use Rattle.cards.specs.declared.station.Station.{Station}
 use Rattle.cards.proofs.Back.{Settled, Counted}
-use Rattle.cards.proofs.Chain.{NormalPass, NormalChain}
+use Rattle.cards.proofs.Chain.{NormalPass, NormalChain, normal-unheld}
 use Rattle.cards.proofs.Theorems.{accepted-opens}
 
 settled-is : (low high x : Float) → Settled low high x → settled low high x ≡ true
@@ -55,7 +57,7 @@ chain-is done (r ∷ rs) t =
       new = t .1;
       rises = t .2;
       others =
-          subst (λ (ks : List ℕ). normalChain ks rs ≡ true) (map-append (λ (r : Record). kindOf (r .pass)) done (r ∷ [])) (chain-is (done ++ r ∷ []) rs (t .3));
+          subst (λ (ks : List ℕ). normalChain ks rs ≡ true) (map-append (λ (r : Record). kindOf (r .pass)) done (r ∷ [])) (chain-is (done ++ r ∷ []) rs (t .4));
     })
 
 -- of a station that is opened
@@ -63,13 +65,14 @@ pub opens-good : OpensGood
 opens-good card s e =
     let o = accepted-opens card s e in
     let chain-of : chainOf (stationOf (o .chain)) ≡ o .chain = take-append-seam (o .chain) _ in
+    let u = unheld (chainOf (stationOf (o .chain))) (subst Unheld (sym chain-of) (normal-unheld (o .chain) [] (o .normal))) in
     subst (λ (t : Station). (goodStation t ≡ true) × (length (chainOf t) ≡ t .n)) (sym (o .whole)) (
       is-good (stationOf (o .chain))
           (record {
             few = o .few;
             normal = ap (normalChain []) chain-of ∙ chain-is [] (o .chain) (o .normal);
-            fine = nothing-fine;
-            idle = nothing-idle (persists (chainOf (stationOf (o .chain))));
+            fine = ap fineHeld (u .0) ∙ nothing-fine;
+            holds = u .1 _;
             asks = refl;
           }),
       ap length chain-of,

@@ -3,6 +3,8 @@ use Prim.Native.Nat.{ℕ}
 use mathlib.Core.Bool.{Bool}
 use mathlib.Core.List.{List, [], _∷_, map}
 use mathlib.Core.Path.{_≡_, refl, ap, ap₂, sym, _∙_}
+use Rattle.num.specs.Held.{nothing}
+use Rattle.cards.specs.Typed.{Unheld}
 use lib.ListN.{getD}
 use lib.Ieee.{Float, nan}
 use Rattle.cards.specs.Alike.{floats, wholes, chainOf, order, switches, settings, Alike}
@@ -35,20 +37,20 @@ pass-is (Crt a) = refl
 pass-is (Vignette a) = refl
 pass-is (Scanlines a) = refl
 
--- the records with these kinds, switches and settings
+-- the records with these kinds, switches and settings, which hold nothing
 abbrev recordsOf : List ℕ → List Bool → List (List Float × List ℕ) → List Record
 recordsOf [] os ss = []
 recordsOf (k ∷ ks) [] ss = []
 recordsOf (k ∷ ks) (o ∷ os) [] = []
-recordsOf (k ∷ ks) (o ∷ os) (s ∷ ss) = record { on = o; pass = passOf k s } ∷ recordsOf ks os ss
+recordsOf (k ∷ ks) (o ∷ os) (s ∷ ss) = record { on = o; pass = passOf k s; held = nothing } ∷ recordsOf ks os ss
 
-records-are : (rs : List Record) → recordsOf (map (λ r. kindOf (r .pass)) rs) (map (λ r. r .on) rs) (map (λ r. (floats (r .pass), wholes (r .pass))) rs) ≡ rs
-records-are [] = refl
-records-are (r ∷ rs) = ap₂ (λ (p : Pass) (l : List Record). record { on = r .on; pass = p } ∷ l) (pass-is (r .pass)) (records-are rs)
+records-are : (rs : List Record) → Unheld rs → recordsOf (map (λ r. kindOf (r .pass)) rs) (map (λ r. r .on) rs) (map (λ r. (floats (r .pass), wholes (r .pass))) rs) ≡ rs
+records-are [] u = refl
+records-are (r ∷ rs) u = λ i. record { on = r .on; pass = pass-is (r .pass) i; held = sym (u .0) i } ∷ records-are rs (u .1) i
 
-pub chains-same : (s t : Station) → Alike s t → chainOf s ≡ chainOf t
-chains-same s t a =
-    sym (records-are (chainOf s))
+pub chains-same : (s t : Station) → Unheld (chainOf s) → Unheld (chainOf t) → Alike s t → chainOf s ≡ chainOf t
+chains-same s t u v a =
+    sym (records-are (chainOf s) u)
     ∙ ap (λ (ks : List ℕ). recordsOf ks (switches s) (settings s)) (a .same-order)
     ∙ ap₂ (recordsOf (order t)) (a .same-switches) (a .same-settings)
-    ∙ records-are (chainOf t)
+    ∙ records-are (chainOf t) v

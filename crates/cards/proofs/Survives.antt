@@ -1,7 +1,7 @@
 -- Any good station survives writing and opening: refusal 13's test is what the round trip needs. Assumes nothing.
 use Prim.Native.Nat.{ℕ, _-_}
 use native.Mathlib.Omega.{arith}
-use mathlib.Core.Path.{_≡_, ap, ap₂, sym, subst, _∙_}
+use mathlib.Core.Path.{_≡_, ap, sym, subst, _∙_}
 use mathlib.Core.Bool.{not, _&&_}
 use mathlib.Core.List.{List, [], _∷_, _++_, map-append}
 use lib.ListN.{length, take, replicate, take-append-drop}
@@ -16,7 +16,7 @@ use Rattle.cards.specs.Passes.{kindOf}
 use Rattle.cards.specs.Records.{kinds}
 use Rattle.cards.specs.Normal.{negZero, settled, counted, normalPass, normalChain}
 use Rattle.cards.specs.Card.{unused, stationOf, accepted, openOf}
-use Rattle.cards.specs.Typed.{Typed, TypedChain}
+use Rattle.cards.specs.Typed.{Typed, TypedChain, Unheld}
 use Rattle.cards.specs.Claims.{Survives}
 use Rattle.cards.specs.Written.{cardOf}
 use Rattle.cards.specs.declared.station.Pass.{Pass}
@@ -30,7 +30,6 @@ use Rattle.cards.specs.Laws.Good.{headed}
 use Rattle.cards.proofs.Back.{Settled, Counted}
 use Rattle.cards.proofs.Chain.{NormalPass, NormalChain}
 use Rattle.cards.proofs.Writing.{good-parts}
-use Rattle.num.specs.Held.{Held, nothing}
 use Rattle.num.specs.Laws.Bools.{is-true}
 use Rattle.cards.proofs.Tests.{held-not}
 use Rattle.cards.proofs.Theorems.{chain-opens}
@@ -73,28 +72,29 @@ normal-of (Crt a) t h = settled-of c0·0 c1·0 a t h
 normal-of (Vignette a) t h = settled-of c0·0 c1·0 a t h
 normal-of (Scanlines a) t h = settled-of c0·0 c1·0 a t h
 
-chain-of : (rs done : List Record) → TypedChain rs → T (normalChain (kinds done) rs) → NormalChain done rs
+chain-of : (rs done : List Record) → TypedChain rs → Unheld rs → T (normalChain (kinds done) rs) → NormalChain done rs
 unfolding normalChain
-chain-of [] done t h = tt
-chain-of (r ∷ rs) done t h =
+chain-of [] done t u h = tt
+chain-of (r ∷ rs) done t u h =
     let q = headed (kinds done) r rs (is-true (normalChain (kinds done) (r ∷ rs)) h) in (
       normal-of (r .pass) (t .0) (subst T (sym (q .normal)) tt),
       q .new,
       q .rises,
-      chain-of rs (done ++ r ∷ []) (t .1)
+      u .0,
+      chain-of rs (done ++ r ∷ []) (t .1) (u .1)
           (subst T (sym (q .others) ∙ ap (λ (ks : List ℕ). normalChain ks rs) (sym (map-append (λ (r : Record). kindOf (r .pass)) done (r ∷ [])))) tt),
     )
 
-abbrev stationWith : List Record → ℕ → Held → Pending → Station
-stationWith rs n held pending = record { records = rs; n = n; held = held; pending = pending }
+abbrev stationWith : List Record → ℕ → Pending → Station
+stationWith rs n pending = record { records = rs; n = n; pending = pending }
 
 pub survives : Survives
-survives s good typed none unasked ten rest =
+survives s good typed none unasked twelve rest =
     let chain = take (s .n) (s .records) in
     let parts = good-parts s good in
     let long : length chain ≡ s .n = length-take-le (s .n) (s .records) (omega (arith, parts .0)) in
     let whole : stationOf chain ≡ s =
-    ap (λ (k : ℕ). stationWith (chain ++ replicate (10 - k) unused) k nothing Nothing) long
-    ∙ ap (λ (xs : List Record). stationWith xs (s .n) nothing Nothing) (ap (λ (xs : List Record). chain ++ xs) (sym rest) ∙ take-append-drop (s .n) (s .records))
-    ∙ ap₂ (λ (h : Held) (q : Pending). stationWith (s .records) (s .n) h q) (sym none) (sym unasked) in
-    subst (λ (t : Station). openOf (cardOf t) ≡ accepted t) whole (chain-opens chain (omega (arith, parts .0)) (chain-of chain [] typed (parts .1)))
+    ap (λ (k : ℕ). stationWith (chain ++ replicate (12 - k) unused) k Nothing) long
+    ∙ ap (λ (xs : List Record). stationWith xs (s .n) Nothing) (ap (λ (xs : List Record). chain ++ xs) (sym rest) ∙ take-append-drop (s .n) (s .records))
+    ∙ ap (stationWith (s .records) (s .n)) (sym unasked) in
+    subst (λ (t : Station). openOf (cardOf t) ≡ accepted t) whole (chain-opens chain (omega (arith, parts .0)) (chain-of chain [] typed none (parts .1)))

@@ -1,14 +1,14 @@
 -- Tests in the code, one after another, decide as the definition's `&&`: `search tests` closes each return. Assumes nothing.
 use Prim.Native.Nat.{ℕ}
 use mathlib.Core.Path.{_≡_, refl, sym, _∙_}
-use mathlib.Core.Bool.{Bool, true, false, not, _&&_, _||_}
+use mathlib.Core.Bool.{Bool, true, false, not, _&&_}
 pub use Rattle.num.specs.Laws.Bools.{and-last, or-held, or-last}
 pub use borrow.Author.Tests.{eq-eqb, ne-eqb, le-leb, lt-leb, lt-ltb, le-ltb, not-true, not-false}
 use mathlib.Core.List.{List}
 use lib.Dec.{T}
 use lib.Ieee.{Float}
-use Rattle.num.specs.Held.{Held, nothing, fineHeld, sameHeld}
-use Rattle.cards.specs.Normal.{settled, normalPass, normalChain, persists}
+use Rattle.num.specs.Held.{Held, fineHeld, sameHeld}
+use Rattle.cards.specs.Normal.{settled, normalPass, normalChain, holding}
 use Rattle.cards.specs.declared.station.Pass.{Pass}
 use Rattle.cards.specs.declared.station.Record.{Record}
 
@@ -25,9 +25,8 @@ asked-fine held b c e h = sym e ∙ h
 pub asked-same : (held other : Held) (b c : Bool) → b ≡ sameHeld held other → b ≡ c → sameHeld held other ≡ c
 asked-same held other b c e h = sym e ∙ h
 
-pub asked-held : (held : Held) (rs : List Record) (b c : Bool) → b ≡ (sameHeld held nothing || persists rs) → b ≡ c
-    → (sameHeld held nothing || persists rs) ≡ c
-asked-held held rs b c e h = sym e ∙ h
+pub asked-holds : (size : Held) (rs : List Record) (b c : Bool) → b ≡ holding size rs → b ≡ c → holding size rs ≡ c
+asked-holds size rs b c e h = sym e ∙ h
 
 -- a test whose opposite holds
 pub held-not : (b : Bool) → T (not b) → b ≡ false
@@ -56,4 +55,4 @@ pass-is p q b e h = rw e h
 
 pub ruleset tests = (asked, and-both, and-no, and-not, and-last, failed, failed-first, pass-is, lt-ltb, le-ltb, not-true, not-false)
 
-pub ruleset goods = (asked-chain, asked-fine, asked-same, asked-held, and-both, and-no, and-not, and-last, failed, or-held, or-last, le-leb, lt-leb, eq-eqb, ne-eqb, not-true, not-false)
+pub ruleset goods = (asked-chain, asked-fine, asked-same, asked-holds, and-both, and-no, and-not, and-last, failed, or-held, or-last, le-leb, lt-leb, eq-eqb, ne-eqb, not-true, not-false)

@@ -6,6 +6,7 @@ use lib.ListN.{length}
 use lib.Seq.{take-append-seam}
 use Rattle.cards.specs.Answers.{Reply}
 use Rattle.cards.specs.Laws.Answers.{accepted-not}
+use Rattle.cards.specs.Typed.{Unheld}
 use Rattle.cards.specs.Step.{Step, took, refused}
 use Rattle.cards.specs.Card.{stationOf, stationAt, openedOf, accepted, openOf}
 use Rattle.cards.specs.Alike.{Alike, chainOf}
@@ -13,7 +14,7 @@ use Rattle.cards.specs.Claims.{WrittenBack, WrittenAlike, NormalTwice}
 use Rattle.cards.specs.Written.{chainCard, cardOf}
 use Rattle.cards.specs.declared.station.Record.{Record}
 use Rattle.cards.specs.declared.station.Station.{Station}
-use Rattle.cards.proofs.Chain.{NormalChain, chain-back}
+use Rattle.cards.proofs.Chain.{NormalChain, normal-unheld, chain-back}
 use Rattle.cards.proofs.Gives.{Opens, gives-station}
 use Rattle.cards.proofs.Same.{chains-same}
 
@@ -26,7 +27,7 @@ accepted-opens card s e = go (stationAt card 0) refl e
     go (took s′ n) h e = subst Opens (ap (λ (o : Reply). o .station) e) (gives-station .gives card 0 s′ n h)
     go (refused k) h e = accepted-not [] (k .number) (sym (ap (λ (o : Reply). o .answer) e))
 
-pub chain-opens : (rs : List Record) → length rs ≤ 10 → NormalChain [] rs → openOf (cardOf (stationOf rs)) ≡ accepted (stationOf rs)
+pub chain-opens : (rs : List Record) → length rs ≤ 12 → NormalChain [] rs → openOf (cardOf (stationOf rs)) ≡ accepted (stationOf rs)
 unfolding openOf cardOf
 chain-opens rs few n =
     ap (λ (l : List Record). openedOf (stationAt (chainCard l) 0)) (take-append-seam rs _) ∙ ap openedOf (chain-back rs few n)
@@ -41,12 +42,15 @@ written-back card s e =
 station-is : (s : Station) → Opens s → s ≡ stationOf (chainOf s)
 station-is s o = o .whole ∙ ap stationOf (sym (take-append-seam (o .chain) _) ∙ ap chainOf (sym (o .whole)))
 
+chain-unheld : (s : Station) → Opens s → Unheld (chainOf s)
+chain-unheld s o = subst Unheld (sym (ap chainOf (o .whole) ∙ take-append-seam (o .chain) _)) (normal-unheld (o .chain) [] (o .normal))
+
 pub written-alike : WrittenAlike
 written-alike card other s t e f = (
   (λ same. ap (λ (o : Reply). o .station) (sym (written-back card s e) ∙ ap openOf same ∙ written-back other t f), λ same. ap cardOf same),
   (
     λ same. subst (λ (u : Station). Alike s u) same (record { same-order = refl; same-switches = refl; same-settings = refl }),
-    λ alike. station-is s (accepted-opens card s e) ∙ ap stationOf (chains-same s t alike) ∙ sym (station-is t (accepted-opens other t f)),
+    λ alike. station-is s (accepted-opens card s e) ∙ ap stationOf (chains-same s t (chain-unheld s (accepted-opens card s e)) (chain-unheld t (accepted-opens other t f)) alike) ∙ sym (station-is t (accepted-opens other t f)),
   ),
 )
 

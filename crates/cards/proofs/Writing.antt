@@ -16,7 +16,7 @@ use Rattle.cards.proofs.Packed.{length-bits, length-pack, pack-same, bl
 use Rattle.cards.proofs.Chain.{chain-bits}
 use Rattle.cards.proofs.Laying.{records-short}
 
-pub good-parts : (s : Station) → goodStation s ≡ true → (s .n ≤ 10) × T (normalChain [] (take (s .n) (s .records)))
+pub good-parts : (s : Station) → goodStation s ≡ true → (s .n ≤ 12) × T (normalChain [] (take (s .n) (s .records)))
 good-parts s e =
     let g = good s e in
     (g .few, subst T (sym (g .normal)) tt)
@@ -28,7 +28,7 @@ module _ (s : Station) (t : Sheet) (e : t ≡ lay blank (chainBits (take (s .n) 
 
   same : (i : ℕ) → getD (t .bits) i 0 ≡ getD (chainBits (take (s .n) (s .records))) i 0
   unfolding lay
-  same i = ap (λ (u : Sheet). getD (u .bits) i 0) e ∙ blank-bits 1344 (chainBits (take (s .n) (s .records))) i
+  same i = ap (λ (u : Sheet). getD (u .bits) i 0) e ∙ blank-bits 1608 (chainBits (take (s .n) (s .records))) i
 
   pub sheet-bits : (i : ℕ) → getD (t .bits) i 0 < 2
   sheet-bits i = rw (same i) (chain-bits (take (s .n) (s .records)) .at i)
@@ -42,7 +42,7 @@ module _ (s : Station) (t : Sheet) (e : t ≡ lay blank (chainBits (take (s .n) 
   pub card-long : length (cardOf s) ≡ (t .at + 7) / 8
   card-long = ap length (sym card-is) ∙ length-pack ((t .at + 7) / 8) (t .bits)
 
-  pub sheet-short : s .n ≤ 10 → t .at ≤ 1338
+  pub sheet-short : s .n ≤ 12 → t .at ≤ 1604
   unfolding chainBits
   sheet-short few =
       let chain = take (s .n) (s .records) in

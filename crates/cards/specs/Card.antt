@@ -9,8 +9,7 @@ use Rattle.cards.specs.Answers.{refusal, acceptance, Reply, reply, repor
 use Rattle.cards.specs.Step.{Step, took, refused, Reader, _>>=_, _>>_, ret, here, refuseIf}
 use Rattle.cards.specs.Bits.{valueAt, fieldAt}
 use Rattle.num.specs.Const.{c0·0}
-use Rattle.num.specs.Held.{nothing}
-use Rattle.cards.specs.Records.{kinds, recordAt}
+use Rattle.cards.specs.Records.{kinds, carded, recordAt}
 use Rattle.cards.specs.declared.station.Pass.the-variants.{Scanlines}
 use Rattle.cards.specs.declared.station.Pending.the-variants.{Nothing}
 use Rattle.cards.specs.declared.station.Record.{Record}
@@ -19,12 +18,12 @@ use Rattle.cards.specs.declared.reader.Reading.{Reading}
 
 -- what stands in a place past n
 abbrev pub unused : Record
-unused = record { on = false; pass = Scanlines c0·0 }
+unused = carded false (Scanlines c0·0)
 
 abbrev pub stationOf : List Record → Station
-stationOf rs = record { records = rs ++ replicate (10 - length rs) unused; n = length rs; held = nothing; pending = Nothing }
+stationOf rs = record { records = rs ++ replicate (12 - length rs) unused; n = length rs; pending = Nothing }
 
--- n records after those that are done, each of a kind not read before
+-- n records after those that are done, each of a kind that may come once more
 unfoldable pub recordsAt : ℕ → List Record → Reader (List Record)
 recordsAt zero done = ret done
 recordsAt (suc n) done = do
@@ -46,7 +45,7 @@ headerAt = do
   refuseIf 2 p (not (eqb version 1))
   q ← here
   n ← fieldAt 4
-  refuseIf 3 q (ltb 10 n)
+  refuseIf 3 q (ltb 12 n)
   ret n
 
 unfoldable pub stationAt : Reader Station

@@ -14,7 +14,7 @@ use Rattle.cards.specs.Bits.{valueAt, fieldAt}
 use Rattle.cards.specs.Settings.{finiteAt, limitedAt, withinAt, raisedAt, countAt, presetAt}
 use Rattle.cards.specs.Passes.{passAt, bloomAt, autoGradientAt, persistenceAt, lutAt, curvatureAt, colorCorrectionAt, crtAt}
 use Rattle.cards.specs.Passes.{vignetteAt, scanlinesAt}
-use Rattle.cards.specs.Records.{recordAt}
+use Rattle.cards.specs.Records.{carded, recordAt}
 use Rattle.cards.specs.Card.{stationOf, headerAt, recordsAt, endsAt, endAt, stationAt, accepted, openOf, stoppedOf}
 use Rattle.cards.specs.Written.{bits, passBits, recordBits, recordsBits, chainBits, valueOf, pack, chainCard, cardOf}
 use Rattle.cards.specs.declared.station.Pass.the-variants.{Persistence, Curvature, Scanlines}
@@ -31,15 +31,17 @@ ofGamma g =
 -- ● Card 10: the empty chain. Depth 8 taken (11 48 00 00 00 00 40), 9 refused with 6.
 -- Then a torn card, a foreign one, an overfull one, an unknown pass, scanlines twice, a byte left over, a padding bit set.
 -- Order: bloom, NTSC (15); gradient, LUT, gradient (5, though it is below the last too); a kind out of order whose on bit is torn off
--- (15); curvature and scanlines, with gaps before and between them (taken). Gamma: one step above 4, an infinity, a NaN (6).
+-- (15); curvature and scanlines, with gaps before and between them (taken). Twelve passes are not too many, though
+-- none follows (1); persistence three times, with depths of its own each (taken), and a fourth time (5); persistence, LUT, persistence (15). Gamma: one step
+-- above 4, an infinity, a NaN (6).
 abbrev pub opened : List (Reply × Reply)
 opened =
     (openOf (0x10 ∷ []), accepted (stationOf []))
-    ∷ (openOf (0x11 ∷ 0x48 ∷ 0 ∷ 0 ∷ 0 ∷ 0 ∷ 0x40 ∷ []), accepted (stationOf (record { on = true; pass = Persistence c0·0 8 } ∷ [])))
+    ∷ (openOf (0x11 ∷ 0x48 ∷ 0 ∷ 0 ∷ 0 ∷ 0 ∷ 0x40 ∷ []), accepted (stationOf (carded true (Persistence c0·0 8) ∷ [])))
     ∷ (openOf (0x11 ∷ 0x48 ∷ 0 ∷ 0 ∷ 0 ∷ 0 ∷ 0x48 ∷ []), refusedBy 6)
     ∷ (openOf [], refusedBy 1)
     ∷ (openOf (0x20 ∷ []), refusedBy 2)
-    ∷ (openOf (0x1b ∷ []), refusedBy 3)
+    ∷ (openOf (0x1d ∷ []), refusedBy 3)
     ∷ (openOf (0x11 ∷ 0xb0 ∷ []), refusedBy 4)
     ∷ (openOf (0x12 ∷ 0xa8 ∷ 0 ∷ 0 ∷ 0 ∷ 5 ∷ 0 ∷ []), refusedBy 5)
     ∷ (openOf (0x10 ∷ 0 ∷ []), refusedBy 7)
@@ -49,8 +51,15 @@ opened =
     ∷ (openOf (0x15 ∷ 0x68 ∷ 0 ∷ 0 ∷ 0 ∷ 4 ∷ 0x40 ∷ 0 ∷ 0 ∷ 0 ∷ 0x26 ∷ 0 ∷ 0 ∷ 0 ∷ 1 ∷ 0x50 ∷ 0 ∷ 0 ∷ 0 ∷ 1 ∷ []), refusedBy 15)
     ∷ (
       openOf (0x12 ∷ 0x68 ∷ 0 ∷ 0 ∷ 0 ∷ 5 ∷ 0x40 ∷ 0 ∷ 0 ∷ 0 ∷ 0 ∷ []),
-      accepted (stationOf (record { on = true; pass = Curvature c0·0 } ∷ record { on = true; pass = Scanlines c0·0 } ∷ [])),
+      accepted (stationOf (carded true (Curvature c0·0) ∷ carded true (Scanlines c0·0) ∷ [])),
     )
+    ∷ (openOf (0x1c ∷ []), refusedBy 1)
+    ∷ (
+      openOf (0x13 ∷ 0x48 ∷ 0 ∷ 0 ∷ 0 ∷ 0 ∷ 0x0a ∷ 0x40 ∷ 0 ∷ 0 ∷ 0 ∷ 0 ∷ 0x92 ∷ 0 ∷ 0 ∷ 0 ∷ 0 ∷ 6 ∷ []),
+      accepted (stationOf (carded true (Persistence c0·0 1) ∷ carded true (Persistence c0·0 2) ∷ carded true (Persistence c0·0 3) ∷ [])),
+    )
+    ∷ (openOf (0x14 ∷ 0x48 ∷ 0 ∷ 0 ∷ 0 ∷ 0 ∷ 0x0a ∷ 0x40 ∷ 0 ∷ 0 ∷ 0 ∷ 0 ∷ 0x92 ∷ 0 ∷ 0 ∷ 0 ∷ 0 ∷ 6 ∷ 0x90 ∷ 0 ∷ 0 ∷ 0 ∷ 0 ∷ 0x40 ∷ []), refusedBy 5)
+    ∷ (openOf (0x13 ∷ 0x48 ∷ 0 ∷ 0 ∷ 0 ∷ 0 ∷ 0x0a ∷ 0xc0 ∷ 0 ∷ 0 ∷ 0 ∷ 2 ∷ 0x40 ∷ 0 ∷ 0 ∷ 0 ∷ 0 ∷ 0x80 ∷ []), refusedBy 15)
     ∷ (openOf (ofGamma 0x4080_0001), refusedBy 6)
     ∷ (openOf (ofGamma 0xff80_0000), refusedBy 6)
     ∷ (openOf (ofGamma 0x7fc0_0000), refusedBy 6)
@@ -72,7 +81,7 @@ stoppedAt =
     ∷ (stoppedOf [], 0)
     ∷ (stoppedOf (0x11 ∷ 0xa8 ∷ 0 ∷ []), 13)
     ∷ (stoppedOf (0x20 ∷ []), 0)
-    ∷ (stoppedOf (0x1b ∷ []), 4)
+    ∷ (stoppedOf (0x1d ∷ []), 4)
     ∷ (stoppedOf (0x11 ∷ 0xb0 ∷ []), 8)
     ∷ (stoppedOf (0x12 ∷ 0xa8 ∷ 0 ∷ 0 ∷ 0 ∷ 5 ∷ 0 ∷ []), 45)
     ∷ (stoppedOf (0x12 ∷ 0xa8 ∷ 0 ∷ 0 ∷ 0 ∷ 4 ∷ 0xc0 ∷ 0 ∷ 0 ∷ 0 ∷ 0 ∷ []), 45)

@@ -5,11 +5,10 @@ use mathlib.Core.List.{List}
 use mathlib.Core.Logic.{_↔_}
 use mathlib.Core.Path.{_≡_}
 use lib.ListN.{length, drop, replicate}
-use Rattle.num.specs.Held.{nothing}
 use Rattle.cards.specs.Alike.{Alike, chainOf}
 use Rattle.cards.specs.Card.{unused, accepted, openOf, stoppedOf}
 use Rattle.cards.specs.Normal.{goodStation}
-use Rattle.cards.specs.Typed.{TypedChain}
+use Rattle.cards.specs.Typed.{TypedChain, Unheld}
 use Rattle.cards.specs.Written.{cardOf}
 use Rattle.cards.specs.declared.station.Pending.the-variants.{Nothing}
 use Rattle.cards.specs.declared.station.Station.{Station}
@@ -33,16 +32,16 @@ NormalTwice = (card : List ℕ) (s t : Station) → openOf card ≡ accepted s �
 abbrev pub OpensGood : Type 0
 OpensGood = (card : List ℕ) (s : Station) → openOf card ≡ accepted s → (goodStation s ≡ true) × (length (chainOf s) ≡ s .n)
 
--- a good station that holds nothing and of which nothing is asked, whose places past n are filled as at every opening, is read back from its card
+-- a good station that holds nothing in any record and of which nothing is asked, whose places past n are filled as at every opening, is read back from its card
 abbrev pub Survives : Type 0
 Survives =
-    (s : Station) → goodStation s ≡ true → TypedChain (chainOf s) → s .held ≡ nothing → s .pending ≡ Nothing → length (s .records) ≡ 10
-    → drop (s .n) (s .records) ≡ replicate (10 - s .n) unused → openOf (cardOf s) ≡ accepted s
+    (s : Station) → goodStation s ≡ true → TypedChain (chainOf s) → Unheld (chainOf s) → s .pending ≡ Nothing → length (s .records) ≡ 12
+    → drop (s .n) (s .records) ≡ replicate (12 - s .n) unused → openOf (cardOf s) ≡ accepted s
 
 -- reading stops in the card or at its end
 abbrev pub StoppedWithin : Type 0
 StoppedWithin = (card : List ℕ) → stoppedOf card ≤ 8 * length card
 
--- no card is longer than 72 bytes
+-- no card is longer than 83 bytes
 abbrev pub Longest : Type 0
-Longest = (s : Station) → goodStation s ≡ true → length (cardOf s) ≤ 72
+Longest = (s : Station) → goodStation s ≡ true → length (cardOf s) ≤ 83

@@ -1,7 +1,7 @@
 -- Laws that proofs here and above cite; nothing in this folder has to be believed. Of answers: Answers; of good
--- stations: Good; of kinds that stand once: Kinds; of scans over the records: Scans, Ten.
+-- stations: Good; of how often kinds stand: Kinds; of scans over the records: Scans, Twelve.
 pub mod Answers
 pub mod Good
 pub mod Kinds
 pub mod Scans
-pub mod Ten
+pub mod Twelve

@@ -1,15 +1,15 @@
 -- Normalised settings, records and stations: what refusal 13 tests. Assumes nothing.
 use Prim.Native.Nat.{ℕ, zero, suc}
-use mathlib.Core.Bool.{Bool, true, false, not, _&&_, _||_}
+use mathlib.Core.Bool.{Bool, true, false, not, _&&_, _||_, cond}
 use mathlib.Core.List.{List, [], _∷_, _++_}
 use lib.ListN.{take}
 use lib.Dec.{leb, ltb, eqb}
 use lib.Ieee.{Float, nan, inf, fin, lt, neg}
 use lib.Ieee.Scale.{finite}
 use Rattle.num.specs.Const.{c0·0, c0·01, c0·5, c0·95, c1·0, c4·0}
-use Rattle.num.specs.Held.{nothing, sameHeld, fineHeld}
+use Rattle.num.specs.Held.{Held, nothing, sameHeld, fineHeld}
 use Rattle.cards.specs.Passes.{kindOf}
-use Rattle.cards.specs.Records.{kinds, among, lastOf}
+use Rattle.cards.specs.Records.{kinds, among, lastOf, full}
 use Rattle.cards.specs.declared.station.Pass.{Pass}
 use Rattle.cards.specs.declared.station.Pass.the-variants.{Ntsc, Bloom, AutoGradient, Persistence, Lut}
 use Rattle.cards.specs.declared.station.Pass.the-variants.{Curvature, ColorCorrection, Crt, Vignette, Scanlines}
@@ -45,17 +45,34 @@ normalPass (Crt strength) = settled c0·0 c1·0 strength
 normalPass (Vignette strength) = settled c0·0 c1·0 strength
 normalPass (Scanlines strength) = settled c0·0 c1·0 strength
 
--- every record normalised, no kind twice, and none below the one before it; `seen` are the kinds before
+-- every record normalised, no kind more often than it may, and none below the one before it; `seen` are the kinds before
 unfoldable pub normalChain : List ℕ → List Record → Bool
 normalChain seen [] = true
 normalChain seen (r ∷ rs) =
     let kind = kindOf (r .pass) in
-    normalPass (r .pass) && not (among kind seen) && not (ltb kind (lastOf 0 seen)) && normalChain (seen ++ kind ∷ []) rs
+    normalPass (r .pass) && not (full kind seen) && not (ltb kind (lastOf 0 seen)) && normalChain (seen ++ kind ∷ []) rs
 
--- persistence is in the chain and on
+-- persistence that is on
+abbrev pub glows : Record → Bool
+glows r = r .on && eqb (kindOf (r .pass)) 4
+
+-- one is in the chain
 unfoldable pub persists : List Record → Bool
 persists [] = false
-persists (r ∷ rs) = (eqb (kindOf (r .pass)) 4 && r .on) || persists rs
+persists (r ∷ rs) = glows r || persists rs
+
+-- the size that a chain remembers: that of the first record that holds frames
+unfoldable pub heldBy : List Record → Held
+heldBy [] = nothing
+heldBy (r ∷ rs) = cond (sameHeld (r .held) nothing) (heldBy rs) (r .held)
+
+-- a record holds nothing, or frames of that size, where it is persistence that is on
+abbrev pub mayHold : Held → Record → Bool
+mayHold size r = sameHeld (r .held) nothing || (sameHeld (r .held) size && glows r)
+
+unfoldable pub holding : Held → List Record → Bool
+holding size [] = true
+holding size (r ∷ rs) = mayHold size r && holding size rs
 
 -- nothing is asked for, or a switch of a pass that is in the chain
 abbrev pub askable : Pending → List Record → Bool
@@ -65,4 +82,4 @@ askable (Switch kind on) rs = among kind (kinds rs)
 unfoldable pub goodStation : Station → Bool
 goodStation s =
     let chain = take (s .n) (s .records) in
-    leb (s .n) 10 && normalChain [] chain && fineHeld (s .held) && (sameHeld (s .held) nothing || persists chain) && askable (s .pending) chain
+    leb (s .n) 12 && normalChain [] chain && fineHeld (heldBy chain) && holding (heldBy chain) chain && askable (s .pending) chain

@@ -8,4 +8,4 @@ unfoldable pub lay : Sheet → List ℕ → Sheet
 lay s bs = record { bits = take (s .at) (s .bits) ++ bs ++ drop (s .at + length bs) (s .bits); at = s .at + length bs }
 
 abbrev pub blank : Sheet
-blank = record { bits = replicate 1344 0; at = 0 }
+blank = record { bits = replicate 1608 0; at = 0 }

@@ -1,9 +1,8 @@
 // What refusal 13 tests: whether a station is good.
 ghost use mathlib.Core.Path.{_≡_};
-ghost use mathlib.Core.Bool.{_||_};
 ghost use Prim.Native.Nat.{_<_, _≤_};
 ghost use Rattle.num.specs.Held.{nothing, sameHeld};
-ghost use Rattle.cards.specs.Normal.{settled, counted, normalPass, normalChain, persists as persistsIn, askable, goodStation};
+ghost use Rattle.cards.specs.Normal.{settled, counted, normalPass, normalChain, glows as glowsIn, heldBy, mayHold, holding, askable, goodStation};
 ghost use mathlib.Core.List.{[]};
 ghost use lib.ListN.{take};
 use super::station::Pass;
@@ -11,6 +10,7 @@ use super::station::Pending;
 use super::station::Record;
 use super::station::Station;
 use super::station::is_among;
+use super::station::is_full;
 use super::station::kind_of;
 use super::station::last_kind;
 use num::size::Size;
@@ -96,9 +96,9 @@ pub(crate) fn is_normal(pass: Pass) -> bool
     }
 }
 
-// Whether the first n records are normalised, no kind stands twice among them, and none below the one before it.
-pub(crate) fn is_chain(records: [Record; 10], n: usize) -> bool
-    requires { ⌜ n ≤ 10 ⌝ }
+// Whether the first n records are normalised, no kind stands among them more often than it may, and none below the one before it.
+pub(crate) fn is_chain(records: [Record; 12], n: usize) -> bool
+    requires { ⌜ n ≤ 12 ⌝ }
     ensures { λ r. ⌜ r ≡ normalChain [] (take n records) ⌝ }
 {
     let mut i: usize = 0;
@@ -109,7 +109,7 @@ pub(crate) fn is_chain(records: [Record; 10], n: usize) -> bool
             return false;
         }
         let kind = kind_of(pass);
-        if is_among(records, i, kind) {
+        if is_full(records, i, kind) {
             return false;
         }
         if kind < last_kind(records, i) {
@@ -120,44 +120,80 @@ pub(crate) fn is_chain(records: [Record; 10], n: usize) -> bool
     true
 }
 
-// Whether persistence is among the first n records, and on.
-pub(crate) fn persists(records: [Record; 10], n: usize) -> bool
-    requires { ⌜ n ≤ 10 ⌝ }
-    ensures { λ r. ⌜ r ≡ persistsIn (take n records) ⌝ }
+// Whether that is persistence, and on.
+pub fn glows(r: Record) -> bool
+    ensures { λ b. ⌜ b ≡ glowsIn r ⌝ }
 {
-    let mut i: usize = 0;
-    while i < n {
-        let r = records[i];
-        let pass = r.pass;
-        let on = r.on;
-        if kind_of(pass) == 4 {
-            if on {
-                return true;
-            }
-        }
-        i += 1;
+    let pass = r.pass;
+    let on = r.on;
+    if on {
+        return kind_of(pass) == 4;
     }
     false
 }
 
-// Whether the first n records may hold that: nothing, or frames where persistence is on.
-pub(crate) fn may_hold(records: [Record; 10], n: usize, held: Size) -> bool
-    requires { ⌜ n ≤ 10 ⌝ }
-    ensures { λ r. ⌜ r ≡ (sameHeld held nothing || persistsIn (take n records)) ⌝ }
+// Whether a record holds nothing.
+pub(crate) fn is_idle(r: Record) -> bool
+    ensures { λ b. ⌜ b ≡ sameHeld (r .held) nothing ⌝ }
 {
     let nothing = Size {
         width: 0,
         height: 0,
     };
-    if same(held, nothing) {
+    same(r.held, nothing)
+}
+
+// The size that the first n records remember: that of the first one that holds frames.
+pub(crate) fn held_by(records: [Record; 12], n: usize) -> Size
+    requires { ⌜ n ≤ 12 ⌝ }
+    ensures { λ r. ⌜ r ≡ heldBy (take n records) ⌝ }
+{
+    let mut i: usize = 0;
+    while i < n {
+        let r = records[i];
+        if !is_idle(r) {
+            return r.held;
+        }
+        i += 1;
+    }
+    Size {
+        width: 0,
+        height: 0,
+    }
+}
+
+// Whether a record may hold what it does: nothing, or frames of that size, where it is persistence that is on.
+pub(crate) fn may_hold(r: Record, size: Size) -> bool
+    ensures { λ b. ⌜ b ≡ mayHold size r ⌝ }
+{
+    if is_idle(r) {
         return true;
     }
-    persists(records, n)
+    if !same(r.held, size) {
+        return false;
+    }
+    glows(r)
+}
+
+// Whether each of the first n records may.
+pub(crate) fn all_hold(records: [Record; 12], n: usize, size: Size) -> bool
+    requires { ⌜ n ≤ 12 ⌝ }
+    ensures { λ b. ⌜ b ≡ holding size (take n records) ⌝ }
+{
+    let mut i: usize = 0;
+    while i < n {
+        let r = records[i];
+        if !may_hold(r, size) {
+            return false;
+        }
+        i += 1;
+    }
+    true
 }
 
 // Whether that may be asked of the first n records: nothing, or a switch of one of them.
-pub(crate) fn may_ask(records: [Record; 10], n: usize, pending: Pending) -> bool
-    requires { ⌜ n ≤ 10 ⌝ }
+pub(crate) fn may_ask(records: [Record; 12], n: usize, pending: Pending) -> bool
+    requires { ⌜ n ≤ 12 ⌝ }
     ensures { λ r. ⌜ r ≡ askable pending (take n records) ⌝ }
 {
     if let Pending::Switch { kind, on: _ } = pending {
@@ -172,18 +208,18 @@ pub fn is_good(station: Station) -> bool
 {
     let n = station.n;
     let records = station.records;
-    let held = station.held;
     let pending = station.pending;
-    if 10 < n {
+    if 12 < n {
         return false;
     }
     if !is_chain(records, n) {
         return false;
     }
-    if !fine(held) {
+    let size = held_by(records, n);
+    if !fine(size) {
         return false;
     }
-    if !may_hold(records, n, held) {
+    if !all_hold(records, n, size) {
         return false;
     }
     may_ask(records, n, pending)

@@ -26,7 +26,7 @@ use super::station::Pass;
 use super::station::Pending;
 use super::station::Record;
 use super::station::Station;
-use super::station::is_among;
+use super::station::is_full;
 use super::station::last_kind;
 use num::size::Size;
 
@@ -251,8 +251,8 @@ pub(crate) fn record_refusal(r: RecordRead) -> Refusal
 }
 
 // A record, after the first n of `records`.
-pub(crate) fn read_record(card: &[u8], at: usize, records: [Record; 10], n: usize) -> RecordRead
-    requires { ⌜ (at < 2 ^ 30) × (n ≤ 10) ⌝ }
+pub(crate) fn read_record(card: &[u8], at: usize, records: [Record; 12], n: usize) -> RecordRead
+    requires { ⌜ (at < 2 ^ 30) × (n ≤ 12) ⌝ }
     ensures { λ r. ⌜ recordStep r ≡ recordAt (kinds (take n records)) (now (card .entry)) at ⌝ }
 {
     let r1 = byte(card, at, 4);
@@ -265,7 +265,7 @@ pub(crate) fn read_record(card: &[u8], at: usize, records: [Record; 10], n: usiz
     if 10 < kind {
         return RecordRead::Refused(Refusal { number: 4, at });
     }
-    if is_among(records, n, kind) {
+    if is_full(records, n, kind) {
         return RecordRead::Refused(Refusal { number: 5, at });
     }
     if kind < last_kind(records, n) {
@@ -279,7 +279,18 @@ pub(crate) fn read_record(card: &[u8], at: usize, records: [Record; 10], n: usiz
     let PassRead::Value(pass, at) = r3 else {
         return RecordRead::Refused(pass_refusal(r3));
     };
-    RecordRead::Value(Record { on: on == 1, pass }, at)
+    let held = Size {
+        width: 0,
+        height: 0,
+    };
+    RecordRead::Value(
+        Record {
+            on: on == 1,
+            pass,
+            held,
+        },
+        at,
+    )
 }
 
 // What opening a card answers, with the station: an empty one where the card is refused.
@@ -293,7 +304,15 @@ pub(crate) fn filler() -> Record
     ensures { λ r. ⌜ r ≡ unused ⌝ }
 {
     let pass = Pass::Scanlines { strength: 0.0 };
-    Record { on: false, pass }
+    let held = Size {
+        width: 0,
+        height: 0,
+    };
+    Record {
+        on: false,
+        pass,
+        held,
+    }
 }
 
 // What reading a whole card answers, with the station and the place where it stopped. An enum cannot hold the station, which has an array.
@@ -307,14 +326,10 @@ pub(crate) fn refused(k: Refusal) -> Reading
     ensures { λ r. ⌜ reading r ≡ readingOf (refused k) ⌝ }
 {
     let f = filler();
-    let records = [f; 10];
+    let records = [f; 12];
     let station = Station {
         records,
         n: 0,
-        held: Size {
-            width: 0,
-            height: 0,
-        },
         pending: Pending::Nothing,
     };
     Reading {
@@ -354,7 +369,7 @@ pub(crate) fn header(card: &[u8]) -> ByteRead
     let ByteRead::Value(n, _) = r2 else {
         return r2;
     };
-    if 10 < n {
+    if 12 < n {
         return ByteRead::Refused(Refusal { number: 3, at });
     }
     r2
@@ -370,7 +385,7 @@ pub(crate) fn read(card: &[u8]) -> Reading
     };
     let n = count as usize;
     let f = filler();
-    let mut records = [f; 10];
+    let mut records = [f; 12];
     let mut next = at;
     let mut i: usize = 0;
     while i < n {
@@ -391,10 +406,6 @@ pub(crate) fn read(card: &[u8]) -> Reading
     let station = Station {
         records,
         n,
-        held: Size {
-            width: 0,
-            height: 0,
-        },
         pending: Pending::Nothing,
     };
     Reading {

@@ -1,10 +1,12 @@
-// What a station is: the records in chain order, each a pass with its settings and its switch; the size that its history holds; the pending switch. And what is
-// asked of kinds.
+// What a station is: the records in chain order, each a pass with its settings, its switch and, for persistence, the size that its history holds; the pending
+// switch. And what is asked of kinds.
 ghost use mathlib.Core.Path.{_≡_};
 ghost use Prim.Native.Nat.{_<_, _≤_, min};
 ghost use Rattle.cards.specs.Alike.{chainOf};
 ghost use Rattle.cards.specs.Passes.{kindOf};
-ghost use Rattle.cards.specs.Records.{kinds, among, lastOf};
+ghost use Rattle.cards.specs.Records.{kinds, among, lastOf, often as oftenOf, times as timesOf, full};
+ghost use mathlib.Core.Bool.{cond};
+ghost use lib.Dec.{eqb};
 ghost use lib.ListN.{take};
 use num::size::Size;
 
@@ -52,10 +54,11 @@ pub enum Pass {
     },
 }
 
-// A pass of the chain, with its switch.
+// A pass of the chain, with its switch and what its history holds: nothing, but for persistence that is on.
 pub struct Record {
     pub on: bool,
     pub pass: Pass,
+    pub held: Size,
 }
 
 // A switch that was asked for and is not committed yet: a kind and a position.
@@ -65,9 +68,8 @@ pub enum Pending {
 }
 
 pub struct Station {
-    pub records: [Record; 10],
+    pub records: [Record; 12],
     pub n: usize,
-    pub held: Size,
     pub pending: Pending,
 }
 
@@ -118,8 +120,8 @@ pub fn kind_of(pass: Pass) -> u8
 }
 
 // The kind of the last of the first n records, 0 where there is none.
-pub(crate) fn last_kind(records: [Record; 10], n: usize) -> u8
-    requires { ⌜ n ≤ 10 ⌝ }
+pub(crate) fn last_kind(records: [Record; 12], n: usize) -> u8
+    requires { ⌜ n ≤ 12 ⌝ }
     ensures { λ r. ⌜ r ≡ lastOf 0 (kinds (take n records)) ⌝ }
 {
     if n == 0 {
@@ -131,8 +133,8 @@ pub(crate) fn last_kind(records: [Record; 10], n: usize) -> u8
 }
 
 // Whether a pass of that kind is among the first n records.
-pub(crate) fn is_among(records: [Record; 10], n: usize, kind: u8) -> bool
-    requires { ⌜ n ≤ 10 ⌝ }
+pub(crate) fn is_among(records: [Record; 12], n: usize, kind: u8) -> bool
+    requires { ⌜ n ≤ 12 ⌝ }
     ensures { λ r. ⌜ r ≡ among kind (kinds (take n records)) ⌝ }
 {
     let mut i: usize = 0;
@@ -147,11 +149,49 @@ pub(crate) fn is_among(records: [Record; 10], n: usize, kind: u8) -> bool
     false
 }
 
-// No more than ten records are there, whatever n says.
-pub fn few(n: usize) -> usize
-    ensures { λ r. ⌜ (r ≡ min n 10) × (r ≤ 10) ⌝ }
+// How often a pass of that kind may stand in a chain.
+pub(crate) fn often(kind: u8) -> usize
+    ensures { λ r. ⌜ r ≡ oftenOf kind ⌝ }
 {
-    if n < 10 { n } else { 10 }
+    if kind == 4 { 3 } else { 1 }
+}
+
+// 1 for two equal kinds, else 0.
+fn one_if(a: u8, b: u8) -> usize
+    ensures { λ r. ⌜ (r ≡ cond (eqb a b) 1 0) × (r ≤ 1) ⌝ }
+{
+    if a == b { 1 } else { 0 }
+}
+
+// How often it stands among the first n records.
+pub(crate) fn times(records: [Record; 12], n: usize, kind: u8) -> usize
+    requires { ⌜ n ≤ 12 ⌝ }
+    ensures { λ r. ⌜ r ≡ timesOf kind (kinds (take n records)) ⌝ }
+{
+    let mut sum: usize = 0;
+    let mut i: usize = 0;
+    while i < n {
+        let r = records[i];
+        let pass = r.pass;
+        sum += one_if(kind_of(pass), kind);
+        i += 1;
+    }
+    sum
+}
+
+// Whether it may not stand there once more.
+pub(crate) fn is_full(records: [Record; 12], n: usize, kind: u8) -> bool
+    requires { ⌜ n ≤ 12 ⌝ }
+    ensures { λ r. ⌜ r ≡ full kind (kinds (take n records)) ⌝ }
+{
+    often(kind) <= times(records, n, kind)
+}
+
+// No more than twelve records are there, whatever n says.
+pub fn few(n: usize) -> usize
+    ensures { λ r. ⌜ (r ≡ min n 12) × (r ≤ 12) ⌝ }
+{
+    if n < 12 { n } else { 12 }
 }
 
 // Whether a pass of that kind is in the station's chain.

@@ -15,14 +15,14 @@ use super::station::Record;
 use super::station::Station;
 use super::station::kind_of;
 
-// Bits laid down one after another, a bit in a byte: `at` of them so far. Ten records of at most 133 bits have room.
+// Bits laid down one after another, a bit in a byte: `at` of them so far. Twelve records of at most 133 bits have room.
 pub struct Sheet {
-    pub bits: [u8; 1344],
+    pub bits: [u8; 1608],
     pub at: usize,
 }
 
 pub(crate) fn put(s: Sheet, width: usize, v: u32) -> Sheet
-    requires { ⌜ (width ≤ 32) × (s .at + width ≤ 1344) ⌝ }
+    requires { ⌜ (width ≤ 32) × (s .at + width ≤ 1608) ⌝ }
     ensures { λ r. ⌜ r ≡ lay s (bits width v) ⌝ }
 {
     let at = s.at;
@@ -48,21 +48,21 @@ pub fn real_bits(x: f32) -> u32
 }
 
 pub(crate) fn put_real(s: Sheet, x: f32) -> Sheet
-    requires { ⌜ s .at + 32 ≤ 1344 ⌝ }
+    requires { ⌜ s .at + 32 ≤ 1608 ⌝ }
     ensures { λ r. ⌜ r ≡ lay s (real x) ⌝ }
 {
     put(s, 32, real_bits(x))
 }
 
 pub(crate) fn put_byte(s: Sheet, width: usize, v: u8) -> Sheet
-    requires { ⌜ (width ≤ 8) × (s .at + width ≤ 1344) ⌝ }
+    requires { ⌜ (width ≤ 8) × (s .at + width ≤ 1608) ⌝ }
     ensures { λ r. ⌜ r ≡ lay s (bits width v) ⌝ }
 {
     put(s, width, v as u32)
 }
 
 pub(crate) fn put_pass(s: Sheet, pass: Pass) -> Sheet
-    requires { ⌜ s .at ≤ 1216 ⌝ }
+    requires { ⌜ s .at ≤ 1480 ⌝ }
     ensures { λ r. ⌜ r ≡ lay s (passBits pass) ⌝ }
 {
     match pass {
@@ -124,7 +124,7 @@ pub(crate) fn switch_bit(on: bool) -> u8
 }
 
 pub(crate) fn put_record(s: Sheet, r: Record) -> Sheet
-    requires { ⌜ s .at ≤ 1211 ⌝ }
+    requires { ⌜ s .at ≤ 1475 ⌝ }
     ensures { λ x. ⌜ x ≡ lay s (recordBits r) ⌝ }
 {
     let pass = r.pass;
@@ -135,11 +135,11 @@ pub(crate) fn put_record(s: Sheet, r: Record) -> Sheet
 }
 
 // The card's bits of the first n records.
-pub(crate) fn put_chain(records: [Record; 10], n: usize) -> Sheet
-    requires { ⌜ n ≤ 10 ⌝ }
+pub(crate) fn put_chain(records: [Record; 12], n: usize) -> Sheet
+    requires { ⌜ n ≤ 12 ⌝ }
     ensures { λ r. ⌜ r ≡ lay blank (chainBits (take n records)) ⌝ }
 {
-    let bits = [0u8; 1344];
+    let bits = [0u8; 1608];
     let s0 = Sheet { bits, at: 0 };
     let s1 = put_byte(s0, 4, 1);
     let mut s = put_byte(s1, 4, n as u8);
@@ -153,8 +153,8 @@ pub(crate) fn put_chain(records: [Record; 10], n: usize) -> Sheet
 }
 
 // Byte j of the bits.
-pub(crate) fn byte_of(bits: [u8; 1344], j: usize) -> u8
-    requires { ⌜ (j < 168) × ((i : ℕ) → getD bits i 0 < 2) ⌝ }
+pub(crate) fn byte_of(bits: [u8; 1608], j: usize) -> u8
+    requires { ⌜ (j < 201) × ((i : ℕ) → getD bits i 0 < 2) ⌝ }
     ensures { λ r. ⌜ r ≡ valueOf (drop (8 * j) bits) 8 ⌝ }
 {
     let mut value: u8 = 0;
@@ -167,8 +167,8 @@ pub(crate) fn byte_of(bits: [u8; 1344], j: usize) -> u8
 }
 
 // The first bytes of the buffer are those of the bits.
-fn copy_bytes(buf: &mut [u8], bits: [u8; 1344], bytes: usize)
-    requires { ⌜ (bytes ≤ 168) × (bytes ≤ length (now buf)) × ((i : ℕ) → getD bits i 0 < 2) ⌝ }
+fn copy_bytes(buf: &mut [u8], bits: [u8; 1608], bytes: usize)
+    requires { ⌜ (bytes ≤ 201) × (bytes ≤ length (now buf)) × ((i : ℕ) → getD bits i 0 < 2) ⌝ }
     ensures { λ _. ⌜ now (buf .exit) ≡ pack bytes bits ++ drop bytes (now (buf .entry)) ⌝ }
 {
     let mut j: usize = 0;

@@ -9,7 +9,6 @@ use Rattle.num.specs.Laws.Bools.{or-left, or-second}
 use Rattle.num.specs.Refusals.{unless}
 use Rattle.passes.specs.Arith.{plain}
 use Rattle.passes.specs.Flow.{Flow, flow}
-use Rattle.passes.specs.Fold.{fold}
 use Rattle.passes.specs.Laws.Curves.{curve-long, same-good, color-correction-same}
 use Rattle.passes.specs.Painted.{Painted, painted}
 use Rattle.cards.specs.Alike.{chainOf}
@@ -20,8 +19,8 @@ use Rattle.cards.specs.declared.station.Pass.the-variants.{ColorCorrection, Crt
 use Rattle.cards.specs.declared.station.Record.{Record}
 use Rattle.cards.specs.declared.station.Station.{Station}
 use Rattle.chain.specs.Agree.{SameFirst}
-use Rattle.chain.specs.Calls.{hold, stops, framed, refusingFrame, incoming, shown, shownBy, frameReply, frameReplyBy}
-use Rattle.chain.specs.Chain.{wash, over, overBy, turn, turnBy, chain, depth, reads, readsCurve, samplesIn}
+use Rattle.chain.specs.Calls.{rechain, stops, framed, refusingFrame, shown, shownBy, frameReply, frameReplyBy}
+use Rattle.chain.specs.Chain.{wash, over, overBy, turn, turnBy, withHeld, Ran, ran, chain, chainBy, depthOf, reads, readsCurve, samplesIn}
 use Rattle.chain.proofs.Goes.{goes}
 
 module _ (w h : ℕ) (curve other : List Float) where
@@ -40,16 +39,24 @@ module _ (w h : ℕ) (curve other : List Float) where
   over-curve (Vignette strength) x same = refl
   over-curve (Scanlines strength) x same = refl
 
-  turn-curve : (r : Record) (x : Flow) → (reads (r .pass) ≡ true → take 256 curve ≡ take 256 other) → turn w h curve x r ≡ turn w h other x r
+  turn-curve : (r : Record) (frame : Painted) (past : List ℕ) → (reads (r .pass) ≡ true → take 256 curve ≡ take 256 other)
+      → turn w h curve r frame past ≡ turn w h other r frame past
   unfolding turnBy
-  turn-curve r x same = ap (λ (y : Flow). cond (r .on) y x) (over-curve (r .pass) x same)
+  turn-curve r frame past same =
+      let x : Flow = flow frame (r .held) past in
+      ap (λ (y : Flow). cond (r .on) y x) (over-curve (r .pass) x same)
 
-  chain-curve : (rs : List Record) (x : Flow) → (readsCurve rs ≡ true → take 256 curve ≡ take 256 other) → chain w h curve rs x ≡ chain w h other rs x
-  unfolding fold readsCurve
-  chain-curve [] x same = refl
-  chain-curve (r ∷ rs) x same =
-      ap (chain w h curve rs) (turn-curve r x (λ e. same (or-left (reads (r .pass)) (readsCurve rs) e)))
-      ∙ chain-curve rs (turn w h other x r) (λ e. same (or-second (reads (r .pass)) (readsCurve rs) e))
+  chain-curve : (rs : List Record) (frame : Painted) (past : List ℕ) → (readsCurve rs ≡ true → take 256 curve ≡ take 256 other)
+      → chain w h curve rs frame past ≡ chain w h other rs frame past
+  unfolding chainBy readsCurve
+  chain-curve [] frame past same = refl
+  chain-curve (r ∷ rs) frame past same =
+      let room = depthOf (r .pass) * (h * w) in
+      let then : Flow → Ran → Ran = λ x y. ran (y .frame) (withHeld (x .held) r ∷ y .records) (x .past ++ y .past) in
+      let x : Flow = turn w h other r frame (take room past) in
+      ap (λ (y : Flow). then y (chain w h curve rs (y .frame) (drop room past)))
+      (turn-curve r frame (take room past) (λ e. same (or-left (reads (r .pass)) (readsCurve rs) e)))
+      ∙ ap (then x) (chain-curve rs (x .frame) (drop room past) (λ e. same (or-second (reads (r .pass)) (readsCurve rs) e)))
 
 pub stops-curve : (s : Station) (w h words history floats ints : ℕ) {curve other : List Float} → SameFirst 256 curve other
     → stops s w h words history floats ints curve ≡ stops s w h words history floats ints other
@@ -67,6 +74,6 @@ reply-curve w h s words past floats ints {curve} {other} same =
         → unless k (refusingFrame s words past) (shown w h s words past curve) ≡ unless k (refusingFrame s words past) (shown w h s words past other)
     go zero e =
         let g = goes s w h (length words) (length past) floats ints curve e in
-        ap (λ (x : Flow). framed (acceptance (x .frame .clipped ∷ samplesIn w h (chainOf s) ∷ [])) (hold (x .held) s) (x .frame .words ++ drop (h * w) words) (x .past))
-        (chain-curve w h curve other (chainOf s) (incoming w h s words past) (λ r. same .same-first (curve-long curve (g .curve-good r))))
+        ap (λ (x : Ran). framed (acceptance (x .frame .clipped ∷ samplesIn w h (chainOf s) ∷ [])) (rechain (x .records) s) (x .frame .words ++ drop (h * w) words) (x .past))
+        (chain-curve w h curve other (chainOf s) (painted (take (h * w) words) 0) past (λ r. same .same-first (curve-long curve (g .curve-good r))))
     go (suc k) e = refl

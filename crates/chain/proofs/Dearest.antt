@@ -1,4 +1,4 @@
--- No accepted frame reports more samples than NTSC and bloom take at 64: each kind stands once in a good chain, and each of the two takes most at 64. And
+-- No accepted frame reports more samples than NTSC and bloom take at 64: NTSC and bloom stand at most once in a good chain, and each of the two takes most at 64. And
 -- a card of both is accepted, and reports as many at each size. Assumes nothing.
 use Prim.Native.Nat.{ℕ, zero, suc, _+_, _*_, _≤_}
 use native.Mathlib.Nat.{zero-mul}
@@ -8,27 +8,27 @@ use mathlib.Core.Bool.{true, false}
 use mathlib.Core.List.{List, [], _∷_}
 use borrow.Author.Tests.{le-ltb, ne-eqb}
 use lib.Ieee.{Float, ofBits, lt, eq}
-use lib.ListN.{length, getD}
+use lib.ListN.{length, take, getD}
 use Rattle.num.specs.Refusals.{badSide, unless}
 use Rattle.num.specs.Held.{sameHeld, fineHeld}
 use Rattle.num.specs.Steps.{clampOf, plusZeroOf, limitOf}
 use Rattle.num.specs.Laws.Bools.{false-true}
 use Rattle.passes.specs.Fold.{fold}
-use Rattle.passes.specs.Flow.{Flow}
+use Rattle.passes.specs.Painted.{painted}
 use Rattle.cards.specs.Alike.{chainOf}
 use Rattle.cards.specs.Answers.{Report, refusal, acceptance, ok}
 use Rattle.cards.specs.Bits.{valueAt, fieldAt}
 use Rattle.cards.specs.Card.{headerAt, recordsAt, endsAt, endAt, stationAt, openOf}
 use Rattle.cards.specs.Passes.{kindOf, passAt, ntscAt, bloomAt}
-use Rattle.cards.specs.Normal.{normalPass, normalChain, settled, persists, goodStation}
+use Rattle.cards.specs.Normal.{normalPass, normalChain, settled, heldBy, holding, goodStation}
 use Rattle.cards.specs.Records.{recordAt}
 use Rattle.cards.specs.Settings.{finiteAt, limitedAt, countAt}
 use Rattle.cards.specs.Step.{refuseIf}
 use Rattle.cards.specs.Laws.Good.{good}
-use Rattle.cards.specs.Laws.Kinds.{kinds, together, each-once}
+use Rattle.cards.specs.Laws.Kinds.{kinds, together, as-often}
 use Rattle.cards.specs.declared.station.Record.{Record}
-use Rattle.chain.specs.Calls.{floatRoom, stops, incoming, frameReply, frameReplyBy, refusingFrame, shown, shownBy}
-use Rattle.chain.specs.Chain.{chain, recordSamples, samplesIn, depth, readsCurve}
+use Rattle.chain.specs.Calls.{floatRoom, stops, frameReply, frameReplyBy, refusingFrame, shown, shownBy}
+use Rattle.chain.specs.Chain.{Ran, chain, recordSamples, samplesIn, depth, readsCurve}
 use Rattle.chain.specs.Dearest.{dearest, Reports, NoneDearer, dearestStation, SomeAsDear}
 use Rattle.chain.proofs.Goes.{goes}
 use Rattle.chain.proofs.Taken.{most, record-most}
@@ -47,7 +47,7 @@ module _ (w h : ℕ) where
   chain-most rs n =
       let step : (r : Record) (rs : List Record) → normalPass (r .pass) ≡ true → samplesIn w h (r ∷ rs) ≤ most w h (kindOf (r .pass)) + samplesIn w h rs
       = λ r rs q. omega (arith, summed (0 + recordSamples w h r) rs, record-most w h r q) in
-      let all : samplesIn w h rs ≤ together (most w h) kinds [] = each-once (most w h) (samplesIn w h) (omega arith) step rs [] n in
+      let all : samplesIn w h rs ≤ together (most w h) kinds [] = as-often (most w h) (samplesIn w h) (omega arith) step rs [] n in
       omega (arith, all)
 
 -- ## A frame
@@ -77,7 +77,7 @@ side-taken n a b = rw (ne-eqb n 0 (λ e. omega arith), le-ltb 1024 n b) refl
 -- nothing stops a frame of it with enough lent: it keeps no history, and reads no curve
 goes-on : (w h words history floats ints : ℕ) (curve : List Float) → badSide w ≡ false → badSide h ≡ false → h * w ≤ words → floatRoom w h ≤ floats → h * w ≤ ints
     → stops dearestStation w h words history floats ints curve ≡ 0
-unfolding stops goodStation normalChain normalPass settled persists fineHeld sameHeld depth readsCurve ofBits lt
+unfolding stops goodStation normalChain normalPass settled heldBy holding fineHeld sameHeld depth readsCurve ofBits lt
 goes-on w h words history floats ints curve wide high a b c =
     rw (wide, high, le-ltb words (h * w) a, zero-mul (h * w), le-ltb history 0 (omega arith), le-ltb floats (floatRoom w h) b, le-ltb ints (h * w) c) refl
 
@@ -89,7 +89,7 @@ shows : (w h : ℕ) (words past : List ℕ) (floats ints : ℕ) (curve : List Fl
     → Reports (frameReply w h dearestStation words past floats ints curve .answer) (dearest w h)
 unfolding frameReplyBy unless shownBy
 shows w h words past floats ints curve e =
-    let x : Flow = chain w h curve (chainOf dearestStation) (incoming w h dearestStation words past) in
+    let x : Ran = chain w h curve (chainOf dearestStation) (painted (take (h * w) words) 0) past in
     record {
       clipped = x .frame .clipped;
       is =

@@ -22,13 +22,13 @@ use Rattle.chain.specs.Agree.{opened, SameCall, frames, none, more, befo
 use Rattle.cards.specs.Bits.{valueAt, fieldAt}
 use Rattle.cards.specs.Answers.{Report, refusal, acceptance}
 use Rattle.chain.specs.Calls.{stops, lacks, askStops, commitStops, onFirst, presets, shownBy}
-use Rattle.chain.specs.Calls.{frameReplyBy, depthStops, depthReply}
+use Rattle.chain.specs.Calls.{frameReplyBy, ofFirst, depthStops, redepth, depthReply}
 use Rattle.cards.specs.Card.{stationOf, headerAt, recordsAt, endsAt, endAt, stationAt, accepted, openOf}
-use Rattle.chain.specs.Chain.{wash, overBy, turnBy, depth, readsCurve, recordSamples}
+use Rattle.chain.specs.Chain.{wash, overBy, turnBy, chainBy, depth, depthOn, readsCurve, recordSamples}
 use Rattle.chain.specs.Machine.{Call, frame, reset, switch, ask, commit, step, newDepth, State, Seen, call, after, run, saw}
-use Rattle.cards.specs.Normal.{settled, normalPass, normalChain, persists, goodStation}
+use Rattle.cards.specs.Normal.{settled, normalPass, normalChain, persists, heldBy, holding, goodStation}
 use Rattle.cards.specs.Passes.{passAt, persistenceAt, lutAt}
-use Rattle.cards.specs.Records.{recordAt}
+use Rattle.cards.specs.Records.{carded, recordAt}
 use Rattle.cards.specs.Settings.{finiteAt, limitedAt, countAt, presetAt}
 use Rattle.cards.specs.Step.{refuseIf}
 use Rattle.cards.specs.declared.station.Pass.the-variants.{Persistence, Lut}
@@ -45,7 +45,7 @@ abbrev other : List ℕ
 other = 0x12 ∷ 0x49 ∷ 0xf8 ∷ 0 ∷ 0 ∷ 0 ∷ 0x12 ∷ 0xb1 ∷ 0xfc ∷ 0 ∷ 0 ∷ 0 ∷ []
 
 abbrev station : Station
-station = stationOf (record { on = true; pass = Persistence c0·5 2 } ∷ record { on = false; pass = Lut 6 c1·0 } ∷ [])
+station = stationOf (carded true (Persistence c0·5 2) ∷ carded false (Lut 6 c1·0) ∷ [])
 
 opens : openOf card ≡ accepted station
 unfolding openOf stationAt headerAt fieldAt valueAt refuseIf recordsAt endAt endsAt recordAt passAt persistenceAt lutAt
@@ -117,9 +117,32 @@ shows =
     ∷ (pictures (saw new-wide deepened), (0 ∷ []) ∷ [] ∷ (0x1f1f1f ∷ []) ∷ (0x4f4f4f ∷ []) ∷ (0xa7a7a7 ∷ []) ∷ (0x555555 ∷ []) ∷ [])
     ∷ []
 
+-- two glows, of depths 1 and 2, with own buffers of three words: one has shown a white frame
+abbrev glows : Station
+glows = stationOf (carded true (Persistence c0·5 1) ∷ carded true (Persistence c0·5 2) ∷ [])
+
+abbrev three : ℕ → Call
+three p = frame 1 1 (p ∷ 0 ∷ []) 3 6 1 []
+
+abbrev glowing : List Call
+glowing = three 0 ∷ three 0x404040 ∷ three 0x808080 ∷ three 0xffffff ∷ three 0 ∷ []
+
+abbrev old-glow : State
+old-glow = run (opened glows (90 ∷ 91 ∷ 92 ∷ [])) (three 0xffffff ∷ [])
+
+abbrev new-glow : State
+new-glow = opened glows (5 ∷ 6 ∷ 7 ∷ [])
+
+-- Three frames differ, as many as both have places, and no fourth.
+abbrev glow-shows : List (List (List ℕ) × List (List ℕ))
+glow-shows =
+    (pictures (saw old-glow glowing), (0x9f9f9f ∷ []) ∷ (0x575757 ∷ []) ∷ (0x545454 ∷ []) ∷ (0x9b9b9b ∷ []) ∷ (0x7c7c7c ∷ []) ∷ [])
+    ∷ (pictures (saw new-glow glowing), (0 ∷ []) ∷ (0x171717 ∷ []) ∷ (0x474747 ∷ []) ∷ (0x9b9b9b ∷ []) ∷ (0x7c7c7c ∷ []) ∷ [])
+    ∷ []
+
 -- persistence 0.3 of depth 1, which clips a white frame over a white one, since its weights add up to more than 1
 abbrev mixing : Station
-mixing = stationOf (record { on = true; pass = Persistence c0·30 1 } ∷ [])
+mixing = stationOf (carded true (Persistence c0·30 1) ∷ [])
 
 abbrev white : Call
 white = frame 1 1 (0xffffff ∷ []) 1 6 1 []
@@ -136,7 +159,8 @@ reports =
 -- Of the shared list the point is the call after the second frame. A reset and a switching-off agree themselves, a committed one too; asking for it, a
 -- switch to the present position, a switch of another pass and a refused frame do not count; a list may end before its point; once persistence is off, the
 -- first call agrees. A change of depth that both accept starts the count anew, to the present depth too; one that both refuse does not; where the old
--- station refuses one, since it holds a frame, and the new one accepts it, no call agrees.
+-- station refuses one, since it holds a frame, and the new one accepts it, no call agrees. Of two glows the point comes after as many frames as the depths of
+-- those that are on come to; the first switched off does not bring it earlier, while the second is on; a reset does.
 -- where the two agree on a list that is the same for both
 abbrev begins : List Call → ℕ
 begins cs = point old new cs cs
@@ -159,15 +183,20 @@ points =
     ∷ (begins (one 0 1 ∷ newDepth 9 2 ∷ newDepth 4 2 ∷ one 0 2 ∷ one 0 3 ∷ []), 4)
     ∷ (begins (newDepth 3 2 ∷ one 0 1 ∷ one 0 2 ∷ one 0 3 ∷ []), 4)
     ∷ (point old-wide new-wide deepened deepened, 6)
+    ∷ (point old-glow new-glow glowing glowing, 3)
+    ∷ (point old-glow new-glow (switch 4 false ∷ glowing) (switch 4 false ∷ glowing), 4)
+    ∷ (point (run old-glow (switch 4 false ∷ [])) (run new-glow (switch 4 false ∷ [])) glowing glowing, 2)
+    ∷ (point old-glow new-glow (three 0 ∷ reset ∷ []) (three 0 ∷ reset ∷ []), 1)
+    ∷ (point old-glow new-glow (three 0 ∷ newDepth 1 3 ∷ glowing) (three 0 ∷ newDepth 1 3 ∷ glowing), 5)
     ∷ []
 
-pub runs-hold : Hold shows × Hold reports × Hold points
-unfolding point before saw run after call frameReplyBy depthReply depthStops unless shownBy stops lacks askStops commitStops goodStation fineHeld sameHeld
-    badSide settled normalPass normalChain persists depth readsCurve recordSamples fold turnBy overBy wash onFirst presets ofBits ofInt add mul div
+pub runs-hold : Hold shows × Hold glow-shows × Hold reports × Hold points
+unfolding point before saw run after call frameReplyBy depthReply depthStops ofFirst redepth unless shownBy stops lacks askStops commitStops goodStation fineHeld sameHeld
+    badSide settled normalPass normalChain persists heldBy holding depth depthOn readsCurve recordSamples fold chainBy turnBy overBy wash onFirst presets ofBits ofInt add mul div
     lt clampOf cutOf rewrite Text.Pixel.unpack Text.Pixel.pack Text.Pixel.packClamped Text.Persistence.persistence
     Text.Persistence.decay Text.Persistence.total Text.Persistence.add Text.Persistence.mix converted sum
     Text.Pixel.clip Text.Pixel.clips Text.Persistence.blend Persistence.copies Persistence.refilled Persistence.shifted Persistence.resized
-runs-hold = (refl, refl, refl)
+runs-hold = (refl, refl, refl, refl)
 
 -- ## The theorem at these stations
 
@@ -176,7 +205,7 @@ same p = frames (record { same-length = refl; same-first = λ fits. refl }) (rec
 
 pub agree : drop 2 (saw old (shared 7)) ≡ drop 2 (saw new (shared 8))
 unfolding point before saw run after call frameReplyBy unless shownBy stops lacks goodStation fineHeld sameHeld
-    badSide settled normalPass normalChain persists depth readsCurve recordSamples fold turnBy overBy wash onFirst presets ofBits ofInt add mul div
+    badSide settled normalPass normalChain persists heldBy holding depth depthOn readsCurve recordSamples fold chainBy turnBy overBy wash onFirst presets ofBits ofInt add mul div
     lt clampOf cutOf rewrite Text.Pixel.unpack Text.Pixel.pack Text.Pixel.packClamped Text.Persistence.persistence
     Text.Persistence.decay Text.Persistence.total Text.Persistence.add Text.Persistence.mix converted sum
     Text.Pixel.clip Text.Pixel.clips Text.Persistence.blend Persistence.copies Persistence.refilled Persistence.shifted

@@ -7,23 +7,23 @@ use mathlib.Core.List.{List, [], _∷_, _++_}
 use borrow.Author.Tests.{ltb-false, not-false}
 use lib.Dec.{ltb}
 use lib.Ieee.{Float}
-use lib.ListN.{length, take, drop}
+use lib.ListN.{length, take, drop, take-append-drop}
 use lib.Seq.{length-take-le, drop-at}
-use Rattle.num.specs.Held.{Held, sized}
+use Rattle.num.specs.Held.{sized}
 use Rattle.num.specs.Refusals.{badSide, unless}
 use Rattle.num.specs.Laws.Bools.{neither}
 use Rattle.num.specs.Laws.Refusals.{by, side-fine}
 use Rattle.passes.specs.ColorCorrection.{goodCurve}
-use Rattle.passes.specs.Flow.{Flow, flow}
 use Rattle.passes.specs.Laws.Curves.{curve-long}
 use Rattle.passes.specs.Painted.{painted}
 use Rattle.cards.specs.Alike.{chainOf}
 use Rattle.cards.specs.Answers.{refusal, acceptance}
-use Rattle.chain.specs.Calls.{floatRoom, hold, stops, framed, refusingFrame, shown, shownBy}
+use Rattle.chain.specs.Calls.{floatRoom, rechain, stops, framed, refusingFrame, shown, shownBy}
 use Rattle.chain.specs.Calls.{frameReply, frameReplyBy}
-use Rattle.chain.specs.Chain.{chain, depth, readsCurve, samplesIn}
+use Rattle.chain.specs.Chain.{Ran, ran, chain, depth, readsCurve, samplesIn}
 use Rattle.chain.specs.Lent.{Lent, Readies}
 use Rattle.cards.specs.Normal.{goodStation}
+use Rattle.cards.specs.declared.station.Record.{Record}
 use Rattle.cards.specs.declared.station.Station.{Station}
 use Rattle.chain.proofs.Depths.{readies}
 
@@ -62,7 +62,7 @@ goes s w h words history floats ints curve e =
 
 -- past the refusals, what the chain is lent: the first words of each buffer
 pub lends : (s : Station) (w h : ℕ) (words past : List ℕ) (floats : List Float) (ints : List ℕ) (curve : List Float)
-    → Goes s w h (length words) (length past) (length floats) (length ints) curve → length (s .records) ≡ 10
+    → Goes s w h (length words) (length past) (length floats) (length ints) curve → length (s .records) ≡ 12
     → Lent (sized w h) (take (h * w) words) (take (floatRoom w h) floats) (take (h * w) ints) × Readies (sized w h) s (length past) (length curve)
 lends s w h words past floats ints curve g long = (
   record {
@@ -91,13 +91,15 @@ module _ (k w h : ℕ) (s : Station) (words past : List ℕ) (floats ints : ℕ)
       go zero q n = absurd (n refl)
       go (suc j) q n = ap (λ (m : ℕ). unless m (refusingFrame s words past) (shown w h s words past curve)) q
 
-  -- or what the chain makes of it
-  pub shown-frame : k ≡ 0 → {frame′ past′ : List ℕ} {held′ : Held} {clipped′ samples′ : ℕ}
-      → flow (painted frame′ clipped′) held′ past′ ≡ chain w h curve (chainOf s) (flow (painted (take (h * w) words) 0) (s .held) past)
-      → samples′ ≡ samplesIn w h (chainOf s)
-      → framed (acceptance (clipped′ ∷ samples′ ∷ [])) (hold held′ s) (frame′ ++ drop (h * w) words) past′
+  -- or what the chain makes of it; the records past n are as they were
+  pub shown-frame : k ≡ 0 → {frame′ past′ : List ℕ} {records′ : List Record} {clipped′ samples′ : ℕ}
+      → ran (painted frame′ clipped′) (take (s .n) records′) past′ ≡ chain w h curve (chainOf s) (painted (take (h * w) words) 0) past
+      → drop (s .n) records′ ≡ drop (s .n) (s .records) → samples′ ≡ samplesIn w h (chainOf s)
+      → framed (acceptance (clipped′ ∷ samples′ ∷ [])) (record { records = records′; n = s .n; pending = s .pending }) (frame′ ++ drop (h * w) words) past′
       ≡ frameReply w h s words past floats ints curve
   unfolding frameReplyBy unless shownBy
-  shown-frame z x n =
-      ap₂ (λ (y : Flow) (m : ℕ). framed (acceptance (y .frame .clipped ∷ m ∷ [])) (hold (y .held) s) (y .frame .words ++ drop (h * w) words) (y .past)) x n
+  shown-frame z {frame′} {past′} {records′} {clipped′} {samples′} x d n =
+      ap (λ (rs : List Record). framed (acceptance (clipped′ ∷ samples′ ∷ [])) (record { records = rs; n = s .n; pending = s .pending }) (frame′ ++ drop (h * w) words) past′)
+      (sym (take-append-drop (s .n) records′) ∙ ap (λ (rs : List Record). take (s .n) records′ ++ rs) d)
+      ∙ ap₂ (λ (y : Ran) (m : ℕ). framed (acceptance (y .frame .clipped ∷ m ∷ [])) (rechain (y .records) s) (y .frame .words ++ drop (h * w) words) (y .past)) x n
       ∙ ap (λ (m : ℕ). unless m (refusingFrame s words past) (shown w h s words past curve)) (sym z ∙ e)

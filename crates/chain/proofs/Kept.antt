@@ -1,6 +1,6 @@
 -- Persistence alone: what a frame leaves in two histories that agree in their newest places, and where the pictures agree. Assumes nothing.
 use Prim.Native.Nat.{ℕ, zero, suc, _+_, _*_, _≤_}
-use native.Mathlib.Nat.{suc-mul, zero-mul, mul-zero, mul-le-mul-right}
+use native.Mathlib.Nat.{suc-mul, zero-mul, mul-le-mul-right}
 use native.Mathlib.Omega.{arith}
 use mathlib.Core.Path.{_≡_, refl, ap, ap₂, sym, subst, _∙_}
 use mathlib.Core.Bool.{Bool, true, false, cond}
@@ -8,39 +8,13 @@ use mathlib.Core.List.{List, _++_, append-nil, append-assoc}
 use lib.Ieee.{Float}
 use lib.ListN.{length, take, drop, length-append}
 use lib.Seq.{take-append-add, take-append-le, take-take, length-take-le}
-use Rattle.num.specs.Held.{Held, nothing, area, sameHeld}
+use Rattle.num.specs.Held.{Held, area, sameHeld}
 use Rattle.num.specs.Laws.Held.{same-held}
 use Rattle.passes.specs as Text
 use Rattle.passes.specs.Flow.{Flow, flow}
 use Rattle.passes.specs.Painted.{Painted, painted, onto}
-use Rattle.passes.specs.Plain.Persistence.{persistence, blend, copies, refilled, shifted, resized}
-use Rattle.passes.specs.Laws.Persistence.{blend-take, length-copies, resized-same}
-
--- ## Two histories
-
--- the newest j places agree, and what is held where there is such a place
-pub record Near (j : ℕ) (held other : Held) (past was : List ℕ) : Type 0 where
-  pub same-held : 1 ≤ j → held ≡ other
-  pub places : take (j * area held) past ≡ take (j * area held) was
-
-module _ (held other : Held) (past was : List ℕ) where
-  pub near-less : (i j : ℕ) → i ≤ j → Near j held other past was → Near i held other past was
-  near-less i j l n =
-      let few = i * area held in
-      let many = j * area held in
-      let less : i * area held ≤ j * area held = mul-le-mul-right (area held) l in
-      record {
-        same-held = λ h. n .same-held (omega arith);
-        places = sym (take-take few many past less) ∙ ap (take few) (n .places) ∙ take-take few many was less;
-      }
-
-  -- of no place nothing is asked
-  pub near-zero : Near 0 held other past was
-  near-zero = record { same-held = λ h. absurd (omega arith); places = rw (zero-mul (area held)) }
-
-  -- where nothing is held there is no place
-  pub near-nothing : (j : ℕ) → held ≡ nothing → other ≡ nothing → Near j held other past was
-  near-nothing j e f = record { same-held = λ h. e ∙ sym f; places = rw (e, mul-zero j) }
+use Rattle.passes.specs.Plain.Persistence.{persistence, blend, copies, refilled, shifted}
+use Rattle.passes.specs.Laws.Persistence.{blend-take, length-copies}
 
 -- ## One history
 
@@ -119,9 +93,14 @@ newest amount k size x fits =
     none : (l : List ℕ) → x .frame .words ++ take (0 * area size) l ≡ x .frame .words
     none l = rw (zero-mul (area size)) (append-nil (x .frame .words))
 
+-- two flows whose newest m places agree, where a frame of that size meets them, and what is held where there is such a place
+pub record Alike (size : Held) (m : ℕ) (x y : Flow) : Type 0 where
+  pub same-held : 1 ≤ m → x .held ≡ y .held
+  pub places : x .held ≡ size → take (m * area size) (x .past) ≡ take (m * area size) (y .past)
+
 -- a frame that both take: where m places agree, one more does
 pub near-more : (amount : Float) (k : ℕ) (size : Held) (x y : Flow) → x .frame .words ≡ y .frame .words → Fits k size x → Fits k size y
-    → (m : ℕ) → suc m ≤ k → Near m (x .held) (y .held) (x .past) (y .past)
+    → (m : ℕ) → suc m ≤ k → Alike size m x y
     → take (suc m * area size) (persistence amount k size x .past) ≡ take (suc m * area size) (persistence amount k size y .past)
 near-more amount zero size x y same fits fits′ m le near = absurd (omega arith)
 near-more amount (suc k) size x y same fits fits′ zero le near = newest amount k size x fits ∙ same ∙ sym (newest amount k size y fits′)
@@ -129,7 +108,7 @@ near-more amount (suc k) size x y same fits fits′ (suc m) le near =
     let fine : suc m ≤ k = omega arith in
     by-held amount (suc k) size (λ a b. take (suc (suc m) * area size) (a .past) ≡ take (suc (suc m) * area size) (b .past)) x y (near .same-held (omega arith))
     (λ t. kept-front k (suc m) fine size x fits
-    ∙ ap₂ (λ (f l : List ℕ). f ++ l) same (subst (λ (z : Held). take (suc m * area z) (x .past) ≡ take (suc m * area z) (y .past)) t (near .places))
+    ∙ ap₂ (λ (f l : List ℕ). f ++ l) same (near .places t)
     ∙ sym (kept-front k (suc m) fine size y fits′))
     (begun-front k (suc m) fine size x fits
     ∙ ap (λ (f : List ℕ). f ++ take (suc m * area size) (copies k f)) same
@@ -137,29 +116,15 @@ near-more amount (suc k) size x y same fits fits′ (suc m) le near =
 
 -- where all k places agree, the pictures do, and what was clipped
 pub near-picture : (amount : Float) (k : ℕ) (size : Held) (x y : Flow) → x .frame ≡ y .frame → length (x .frame .words) ≡ area size
-    → 1 ≤ k → Near k (x .held) (y .held) (x .past) (y .past) → persistence amount k size x .frame ≡ persistence amount k size y .frame
+    → 1 ≤ k → Alike size k x y → persistence amount k size x .frame ≡ persistence amount k size y .frame
 near-picture amount k size x y same long some near =
     by-held amount k size (λ a b. a .frame ≡ b .frame) x y (near .same-held some)
     (λ t.
     let words = x .frame .words in
     let blends : blend amount k (x .past) words ≡ blend amount k (y .past) words =
     sym (blend-take amount k (x .past) words)
-    ∙ ap (λ (l : List ℕ). blend amount k l words) (subst (λ (n : ℕ). take (k * n) (x .past) ≡ take (k * n) (y .past)) (ap area t ∙ sym long) (near .places))
+    ∙ ap (λ (l : List ℕ). blend amount k l words) (subst (λ (n : ℕ). take (k * n) (x .past) ≡ take (k * n) (y .past)) (sym long) (near .places t))
     ∙ blend-take amount k (y .past) words in
     ap (λ (b : Painted). painted (b .words) (x .frame .clipped + b .clipped)) blends
     ∙ ap (onto (blend amount k (y .past))) same)
     same
-
--- ## A new depth
-
--- where all k places agree, so do those of another depth d
-pub near-resized : (k d : ℕ) (held : Held) (past was : List ℕ) → 1 ≤ k → d * area held ≤ length past → d * area held ≤ length was
-    → take (k * area held) past ≡ take (k * area held) was → (n : ℕ) → n ≤ d
-    → take (n * area held) (resized k d (area held) past) ≡ take (n * area held) (resized k d (area held) was)
-near-resized k d held past was some room room′ same n le =
-    let few = n * area held in
-    let many = d * area held in
-    let less : n * area held ≤ d * area held = mul-le-mul-right (area held) le in
-    sym (take-take few many (resized k d (area held) past) less)
-    ∙ ap (take few) (resized-same k d (area held) past was some room room′ same)
-    ∙ take-take few many (resized k d (area held) was) less

@@ -14,9 +14,9 @@ use Rattle.passes.specs.Plain.Persistence as Persistence
 use Rattle.cards.specs.Bits.{valueAt, fieldAt}
 use Rattle.chain.specs.Calls.{stops, shownBy, frameReplyBy}
 use Rattle.cards.specs.Card.{headerAt, recordsAt, endsAt, endAt, stationAt, openOf}
-use Rattle.chain.specs.Chain.{wash, overBy, turnBy, depth, readsCurve}
+use Rattle.chain.specs.Chain.{wash, overBy, turnBy, chainBy, depth, readsCurve}
 use Rattle.chain.specs.Machine.{call, after, saw}
-use Rattle.cards.specs.Normal.{settled, normalPass, normalChain, persists, goodStation}
+use Rattle.cards.specs.Normal.{settled, normalPass, normalChain, persists, heldBy, holding, goodStation}
 use Rattle.cards.specs.Passes.{passAt, autoGradientAt, persistenceAt, curvatureAt, colorCorrectionAt, crtAt}
 use Rattle.cards.specs.Passes.{vignetteAt, scanlinesAt}
 use Rattle.cards.specs.Records.{recordAt}
@@ -41,7 +41,7 @@ unfolding dec ofBits toBits ofInt add sub mul div neg lt le eq clampOf minOf max
     recordsAt endAt endsAt recordAt passAt autoGradientAt persistenceAt curvatureAt colorCorrectionAt crtAt vignetteAt
     scanlinesAt finiteAt limitedAt withinAt raisedAt countAt cardOf chainCard packBytes valueOf chainBits recordsBits
     recordBits passBits bits saw after call frameReplyBy unless shownBy stops badSide goodStation normalChain
-    normalPass settled persists depth readsCurve turnBy overBy wash
+    normalPass settled persists heldBy holding depth readsCurve chainBy turnBy overBy wash
 marked =
     record {
       round-half = refl;
@@ -53,7 +53,7 @@ marked =
       root-one = refl;
       root-two = refl;
       empty-card = refl;
-      empty-picture = λ w h curve x. refl;
+      empty-picture = λ w h curve x past. refl;
       limited-card = refl;
       scanlines = refl;
       vignette = refl;

@@ -1,493 +1,538 @@
--- Two stations meet in j places when they differ in what they hold alone and their histories agree in the newest j places. A shared call is accepted by both
--- or by none; it leaves the j places, and one more where persistence takes it; a reset or a switching-off leaves no place to differ in. A change of depth may be
--- accepted by one alone; accepted by both it leaves no place, or, where all agreed, all of the new ones. Where all places agree the answers do, and the
--- pictures. Assumes nothing.
-use Prim.Native.Nat.{ℕ, zero, suc, _*_, _≤_, zero-le}
-use native.Mathlib.Nat.{le-of-suc-le-suc, le-refl, mul-le-mul-right}
+-- Two stations meet while k frames are due when their chains are linked so and they are alike in all else. A shared call is accepted by both or by none; it leaves
+-- as much due, and one less where it is taken; after a reset or a switching-off nothing is due. A change of depth may be accepted by one alone; accepted by both
+-- it leaves as much due as the depths of those that are on, or nothing, where nothing was. Where nothing is due the answers agree, and the pictures. Assumes
+-- nothing.
+use Prim.Native.Nat.{ℕ, zero, suc, _*_, _-_, _≤_, zero-le}
+use native.Mathlib.Nat.{zero-add, zero-mul}
 use native.Mathlib.Omega.{arith}
-use mathlib.Core.Path.{_≡_, refl, ap, ap₂, sym, subst, _∙_}
-use mathlib.Core.Bool.{Bool, true, false, not, _&&_, cond, and-true, and-false}
+use mathlib.Core.Path.{_≡_, refl, ap, ap₂, sym, subst, subst₂, _∙_}
+use mathlib.Core.Bool.{Bool, true, false, not, _&&_, cond, and-false}
 use mathlib.Core.List.{List, [], _∷_, _++_}
-use borrow.Author.Tests.{not-true}
+use borrow.Author.Tests.{not-true, le-leb}
 use lib.Dec.{eqb}
 use lib.Ieee.{Float}
 use lib.ListN.{length, take, drop, take-append-drop}
 use lib.Seq.{take-nil, take-append-le, take-at, length-take-le}
-use Rattle.num.specs.Held.{Held, nothing, sized, area}
+use Rattle.num.specs.Held.{area}
 use Rattle.num.specs.Refusals.{unless}
-use Rattle.passes.specs.Flow.{Flow}
 use Rattle.passes.specs.Painted.{Painted, painted}
+use Rattle.passes.specs.Laws.Persistence.{resized-same, resized-length}
+use Rattle.passes.specs.Plain.Persistence.{resized}
 use Rattle.chain.specs.Agree.{SameFirst, SameCall, frames, resets, switches-to, asks, commits, steps, new-depths, lent, Lends}
-use Rattle.cards.specs.Answers.{Report, refusal, acceptance, ok, reply, refusing}
+use Rattle.cards.specs.Answers.{refusal, acceptance, ok, reply, refusing}
 use Rattle.chain.specs.Agree.{on, takes, switchesOff, ends, changes}
 use Rattle.cards.specs.Alike.{chainOf}
-use Rattle.chain.specs.Calls.{hold, rechain, pend, stops, lacks, waits, askStops, commitStops, onFirst, withSwitch, committed}
-use Rattle.chain.specs.Calls.{presets, stepLut, Framed, framed, refusingFrame, incoming, shown, shownBy, frameReplyBy, depthStops, redepth, depthReply}
-use Rattle.chain.specs.Chain.{chain, depth, samplesIn}
+use Rattle.chain.specs.Calls.{rechain, pend, stops, lacks, waits, askStops, commitStops, onFirst, forget, withSwitch, switched, stepped, committed}
+use Rattle.chain.specs.Calls.{presets, stepLut, Framed, framed, refusingFrame, shown, shownBy, frameReplyBy, firstHeld, firstDepth, depthStops, redepth, depthReply}
+use Rattle.chain.specs.Chain.{Ran, chain, depth, depthOn, samplesIn}
 use Rattle.chain.specs.Machine.{Call, frame, reset, switch, ask, commit, step, newDepth, State, seen, Done, lend, still, call, after}
-use Rattle.cards.specs.Normal.{persists}
+use Rattle.cards.specs.Normal.{persists, heldBy, holding}
+use Rattle.cards.specs.Passes.{kindOf}
+use Rattle.cards.specs.Records.{kinds, among}
 use Rattle.cards.specs.Settings.{oneAtLeast}
-use Rattle.passes.specs.Laws.Persistence.{resized-length}
-use Rattle.passes.specs.Plain.Persistence.{resized}
 use Rattle.cards.specs.declared.station.Pending.{Pending}
 use Rattle.cards.specs.declared.station.Pending.the-variants.{Nothing, Switch}
 use Rattle.cards.specs.declared.station.Record.{Record}
 use Rattle.cards.specs.declared.station.Station.{Station}
-use Rattle.chain.proofs.Apart.{Apart, quiet, keeping, depth-among, frame-length, past-length, chain-held, chain-near, chain-picture}
-use Rattle.num.specs.Laws.Bools.{both, false-true}
+use Rattle.num.specs.Laws.Bools.{both, neither, false-true}
+use Rattle.cards.specs.Laws.Good.{good}
+use Rattle.chain.proofs.Changed.{shapes, with-switch-gentle, stepped-gentle, first-shapes, passes-shapes, forget-passes, redepth-shapes}
 use Rattle.chain.proofs.Curves.{reply-curve}
-use Rattle.chain.proofs.Deeper.{deepens}
+use Rattle.chain.proofs.Deeper.{deep-enough, deepens}
 use Rattle.chain.proofs.Goes.{goes}
-use Rattle.chain.proofs.Kept.{Near, near-less, near-zero, near-nothing, near-resized, Fits}
-use Rattle.chain.proofs.Fit.{Fit, idle-held}
-use Rattle.chain.proofs.Sound.{K, enough, good-apart, call-fit, call-depth, change-depth}
+use Rattle.chain.proofs.Fit.{Fixed, fixed, Fit, chain-is-rs}
+use Rattle.chain.proofs.Linked.{Refits, links-more, links-one, links-kinds, links-on, links-depth, links-reads, links-forgotten, links-off}
+use Rattle.chain.proofs.Linked.{links-start, links-step, links-switch, links-redepth, links-deepen}
+use Rattle.chain.proofs.Links.{Links, Normals, normals, Chained, chain-links}
+use Rattle.chain.proofs.Sound.{call-after, call-fit}
 use Rattle.chain.proofs.OwnBuffer.{call-length}
+use Rattle.chain.proofs.Turns.{chain-frame, chain-passes}
 
+-- ## One call on two stations
+
+-- what two calls leave: as much is due as j, and answers and pictures agree where `all` holds. Before, two frames may have clipped different channels
+pub record Step (all : Type 0) (j : ℕ) (d e : Done) : Type 0 where
+  pub accepted : ok (d .gives .answer) ≡ ok (e .gives .answer)
+  pub links : Links (d .history) (e .history) j 0 0 (chainOf (d .gives .station)) (chainOf (e .gives .station))
+  pub asked : d .gives .station .pending ≡ e .gives .station .pending
+  pub answers : all → d .gives .answer ≡ e .gives .answer
+  pub pictures : all → d .gives .picture ≡ e .gives .picture
+
+abbrev with-history : Station → List ℕ → State
+with-history s H = record { station = s; history = H }
+
+-- of two stations alike but for what they hold, as much is due as the depths of those that are on
+pub started : (X Y : List ℕ) (u v : Station) → Fit u → Fit v → forget (chainOf u) ≡ forget (chainOf v)
+    → Links X Y (depthOn (chainOf u)) 0 0 (chainOf u) (chainOf v)
+started X Y u v f g e =
+    subst (λ (n : ℕ). Links X Y n 0 0 (chainOf u) (chainOf v)) (zero-add (depthOn (chainOf u)))
+    (links-start X Y 0 0 (heldBy (chainOf u)) (heldBy (chainOf v)) (chainOf u) (chainOf v) e (good u (f .sound) .holds) (good v (g .sound) .holds))
+
+-- the first words of the first words
 take-swap : (m n : ℕ) (l : List ℕ) → take m (take n l) ≡ take n (take m l)
 take-swap zero n l = sym (take-nil n)
 take-swap (suc m) zero l = refl
 take-swap (suc m) (suc n) [] = refl
 take-swap (suc m) (suc n) (x ∷ l) = ap (λ (r : List ℕ). x ∷ r) (take-swap m n l)
 
--- in what is lent
-near-lent : (j l : ℕ) (held other : Held) (H G : List ℕ) → Near j held other H G → Near j held other (take l H) (take l G)
-near-lent j l held other H G n =
-    record {
-      same-held = n .same-held;
-      places = take-swap (j * area held) l H ∙ ap (take l) (n .places) ∙ sym (take-swap (j * area held) l G);
-    }
+-- a chain without persistence has none that is on
+none-on : (rs : List Record) → among 4 (kinds rs) ≡ false → persists rs ≡ false
+unfolding persists
+none-on [] e = refl
+none-on (r ∷ rs) e =
+    let d = neither (eqb (kindOf (r .pass)) 4) (among 4 (kinds rs)) e in
+    rw (d .0, and-false (r .on)) (none-on rs (d .1))
 
--- ## One call on two stations
+module _
+    (s t : Station) (H G : List ℕ) (fit-s : Fit s) (fit-t : Fit t) (k : ℕ) (ls : Links H G k 0 0 (chainOf s) (chainOf t)) (same : fixed s ≡ fixed t)
+    (same-asked : s .pending ≡ t .pending)
+  where
+    abbrev this : State
+    this = with-history s H
 
--- what two calls give: the histories agree in i places, and answers and pictures where `all` holds. Before, two frames may have clipped different channels
-pub record Step (all : Type 0) (i : ℕ) (d e : Done) : Type 0 where
-  pub accepted : ok (d .gives .answer) ≡ ok (e .gives .answer)
-  pub alike : hold (e .gives .station .held) (d .gives .station) ≡ e .gives .station
-  pub near : Near i (d .gives .station .held) (e .gives .station .held) (d .history) (e .history)
-  pub answers : all → d .gives .answer ≡ e .gives .answer
-  pub pictures : all → d .gives .picture ≡ e .gives .picture
+    abbrev that : State
+    that = with-history t G
 
--- two calls that answer alike and show nothing
-unseen : (A : Type 0) (i : ℕ) (r : Report) (s t : Station) (H G : List ℕ) → hold (t .held) s ≡ t → Near i (s .held) (t .held) H G
-    → Step A i (still H (reply r s)) (still G (reply r t))
-unseen A i r s t H G e near = record { accepted = refl; alike = e; near = near; answers = λ z. refl; pictures = λ z. refl }
+    abbrev rs : List Record
+    rs = chainOf s
 
-abbrev with-history : Station → List ℕ → State
-with-history s H = record { station = s; history = H }
+    abbrev qs : List Record
+    qs = chainOf t
 
-lacks-none : (s : Station) → Fit s → 1 ≤ depth (chainOf s) → lacks s 4 ≡ 0
-unfolding lacks
-lacks-none s f some = rw (f .sound, depth-among (chainOf s) some)
+    normal : Normals rs
+    normal = normals [] rs (good s (fit-s .sound) .normal)
 
-module _ (s : Station) (b : Held) (H G : List ℕ) (fit-s : Fit s) (fit-t : Fit (hold b s)) (j : ℕ) (near : Near j (s .held) b H G) where
-  abbrev this : State
-  this = with-history s H
+    held-s : holding (heldBy rs) rs ≡ true
+    held-s = good s (fit-s .sound) .holds
 
-  abbrev that : State
-  that = with-history (hold b s) G
+    -- where nothing is due they are one
+    one : k ≡ 0 → s ≡ t
+    one z =
+        let chains : rs ≡ qs = links-one normal (subst (λ (j : ℕ). Links H G j 0 0 rs qs) z ls) in
+        let rest : drop (s .n) (s .records) ≡ drop (t .n) (t .records) = ap (λ (x : Fixed). x .2) same in
+        let all : s .records ≡ t .records =
+        sym (take-append-drop (s .n) (s .records)) ∙ ap₂ (λ (x y : List Record). x ++ y) chains rest ∙ take-append-drop (t .n) (t .records) in
+        λ i. record { records = all i; n = same i .1; pending = same-asked i }
 
-  -- a frame that both accept
-  module _
-      (w h l : ℕ) (curve : List Float) (p q : List ℕ) (same : take (h * w) p ≡ take (h * w) q)
-      (fits : Fits (depth (chainOf s)) (sized w h) (incoming w h s p (take l H)))
-      (fits′ : Fits (depth (chainOf s)) (sized w h) (incoming w h (hold b s) q (take l G)))
-    where
-      abbrev rs : List Record
-      rs = chainOf s
+    -- linked chains that take the place of theirs
+    put-back : (xs ys : List Record) → shapes xs ≡ shapes rs → shapes ys ≡ shapes qs → {X Y : List ℕ} {j : ℕ} → Links X Y j 0 0 xs ys
+        → Links X Y j 0 0 (chainOf (rechain xs s)) (chainOf (rechain ys t))
+    put-back xs ys a b {X} {Y} {j} = subst₂ (λ (x y : List Record). Links X Y j 0 0 x y) (sym (chain-is-rs s fit-s xs a)) (sym (chain-is-rs t fit-t ys b))
 
-      abbrev x : Flow
-      x = incoming w h s p (take l H)
+    lacks-same : (kind : ℕ) → lacks s kind ≡ lacks t kind
+    unfolding lacks
+    lacks-same kind = rw (fit-s .sound, fit-t .sound, links-kinds ls)
 
-      abbrev y : Flow
-      y = incoming w h (hold b s) q (take l G)
+    ask-same : (kind : ℕ) → askStops s kind ≡ askStops t kind
+    unfolding askStops
+    ask-same kind = ap₂ (λ (n : ℕ) (q : Pending). unless n (λ n. n) (cond (waits q) 17 0)) (lacks-same kind) same-asked
 
-      abbrev X : Flow
-      X = chain w h curve rs x
+    commit-same : commitStops s ≡ commitStops t
+    unfolding commitStops
+    commit-same = rw (fit-s .sound, fit-t .sound, same-asked)
 
-      abbrev Y : Flow
-      Y = chain w h curve rs y
+    stops-same : (w h u v m i : ℕ) (curve : List Float) → stops s w h u v m i curve ≡ stops t w h u v m i curve
+    unfolding stops
+    stops-same w h u v m i curve = rw (fit-s .sound, fit-t .sound, links-depth ls, links-reads ls)
 
-      lent-near : (m : ℕ) → m ≤ j → Near m (s .held) b (take l H) (take l G)
-      lent-near m le = near-less (s .held) b (take l H) (take l G) m j le (near-lent j l (s .held) b H G near)
+    -- ## A frame, where n is its refusal
 
-      near-after : Apart rs → (i : ℕ) → i ≤ depth rs → i ≤ cond (persists rs) (suc j) j
-          → Near i (X .held) (Y .held) (X .past ++ drop l H) (Y .past ++ drop l G)
-      near-after (quiet o a) i le at = rw (a .whole w h curve x, a .whole w h curve y) (near-nothing (s .held) b _ _ i (idle-held s fit-s o) (idle-held (hold b s) fit-t o))
-      near-after (keeping o a) zero le at = near-zero (X .held) (Y .held) _ _
-      near-after (keeping o a) (suc m) le at =
-          let u : X .held ≡ sized w h = chain-held w h curve rs a x in
-          let v : Y .held ≡ sized w h = chain-held w h curve rs a y in
-          let fewer : m ≤ j = le-of-suc-le-suc (rw o at at) in
-          let less : suc m * (h * w) ≤ depth rs * (h * w) = mul-le-mul-right (h * w) le in
-          let long : length (X .past) ≡ length (x .past) = past-length w h curve rs (keeping o a) x fits in
-          let long′ : length (Y .past) ≡ length (y .past) = past-length w h curve rs (keeping o a) y fits′ in
-          let room : depth rs * (h * w) ≤ length (x .past) = fits .room in
-          let room′ : depth rs * (h * w) ≤ length (y .past) = fits′ .room in
+    module _ (w h l m i : ℕ) (curve : List Float) (p q : List ℕ) (lent-s : l ≤ length H) (lent-t : l ≤ length G) where
+      abbrev this-frame : ℕ → Framed
+      this-frame n = unless n (refusingFrame s p (take l H)) (shown w h s p (take l H) curve)
+
+      abbrev that-frame : ℕ → Framed
+      that-frame n = unless n (refusingFrame t q (take l G)) (shown w h t q (take l G) curve)
+
+      abbrev X : Ran
+      X = chain w h curve rs (painted (take (h * w) p) 0) (take l H)
+
+      abbrev Y : Ran
+      Y = chain w h curve qs (painted (take (h * w) q) 0) (take l G)
+
+      -- both accept it
+      module _ (frame-s : h * w ≤ length p) (frame-t : h * w ≤ length q) (first : take (h * w) p ≡ take (h * w) q) (room : depth rs * (h * w) ≤ l) where
+        size-s : length (take (h * w) p) ≡ h * w
+        size-s = length-take-le (h * w) p frame-s
+
+        size-t : length (take (h * w) q) ≡ h * w
+        size-t = length-take-le (h * w) q frame-t
+
+        chained : Chained w h l curve H G lent-s lent-t k 0 0 X Y [] [] (drop l H) (drop l G)
+        chained =
+            rw (zero-mul (h * w)) at
+            (chain-links w h l curve H G lent-s lent-t ls normal (painted (take (h * w) p) 0) (painted (take (h * w) q) 0) (λ z. ap (λ (l : List ℕ). painted l 0) first)
+            size-s size-t (omega (arith, zero-mul (h * w))) [] [] (drop l H) (drop l G) (sym (zero-mul (h * w))) (sym (zero-mul (h * w))))
+
+        frame-links : Links (X .past ++ drop l H) (Y .past ++ drop l G) (k - 1) 0 0 (chainOf (rechain (X .records) s)) (chainOf (rechain (Y .records) t))
+        frame-links =
+            put-back (X .records) (Y .records) (passes-shapes (X .records) rs (chain-passes w h curve rs (painted (take (h * w) p) 0) (take l H)))
+            (passes-shapes (Y .records) qs (chain-passes w h curve qs (painted (take (h * w) q) 0) (take l G))) (chained .links)
+
+        picture-same : k ≡ 0 → take (h * w) (X .frame .words ++ drop (h * w) p) ≡ take (h * w) (Y .frame .words ++ drop (h * w) q)
+        picture-same z =
+            take-at (X .frame .words) (drop (h * w) p) (h * w) (chain-frame w h curve rs (painted (take (h * w) p) 0) (take l H) ∙ size-s)
+            ∙ ap (λ (f : Painted). f .words) (chained .frames z)
+            ∙ sym (take-at (Y .frame .words) (drop (h * w) q) (h * w) (chain-frame w h curve qs (painted (take (h * w) q) 0) (take l G) ∙ size-t))
+
+      frame-step : (A : Type 0) → (A → k ≡ 0) → SameFirst (h * w) p q → (n : ℕ) → stops s w h (length p) (length (take l H)) m i curve ≡ n
+          → Step A (cond (persists rs && ok (this-frame n .answer)) (k - 1) k) (lend (h * w) l H (this-frame n)) (lend (h * w) l G (that-frame n))
+      unfolding unless shownBy
+      frame-step A all same zero z =
+          let g = goes s w h (length p) (length (take l H)) m i curve z in
+          let first : take (h * w) p ≡ take (h * w) q = same .same-first (g .frame-room) in
+          let room : depth rs * (h * w) ≤ l = rw (length-take-le l H lent-s) at (g .past-room) in
+          let other : h * w ≤ length q = rw (same .same-length) at (g .frame-room) in
           record {
-            same-held = λ z. u ∙ sym v;
-            places =
-                rw u
-                (take-append-le (suc m * (h * w)) (X .past) (drop l H) (omega arith)
-                ∙ chain-near w h curve rs x y (ap (λ (l : List ℕ). painted l 0) same) fits fits′ a m le (lent-near m fewer)
-                ∙ sym (take-append-le (suc m * (h * w)) (Y .past) (drop l G) (omega arith)));
+            accepted = refl;
+            links = due (persists rs) (frame-links (g .frame-room) other first room);
+            asked = same-asked;
+            answers = λ a. ap₂ (λ (x : Painted) (n : ℕ). acceptance (x .clipped ∷ n ∷ [])) (chained (g .frame-room) other first room .frames (all a))
+                (ap (λ (u : Station). samplesIn w h (chainOf u)) (one (all a)));
+            pictures = λ a. picture-same (g .frame-room) other first room (all a);
+          }
+        where
+          due : {A B : List ℕ} {xs ys : List Record} (b : Bool) → Links A B (k - 1) 0 0 xs ys → Links A B (cond (b && true) (k - 1) k) 0 0 xs ys
+          due true x = x
+          due false x = links-more k (omega arith) x
+      frame-step A all same (suc n) z =
+          rw (take-append-drop l H, take-append-drop l G, and-false (persists rs))
+          (record { accepted = refl; links = ls; asked = same-asked; answers = λ a. refl; pictures = λ a. refl })
+
+    -- ## Two calls that touch no word
+
+    reply-step : (A : Type 0) (n : ℕ) {reports reports′ : List ℕ} (u v : Station) → (A → reports ≡ reports′)
+        → Links H G k 0 0 (chainOf u) (chainOf v) → u .pending ≡ v .pending
+        → Step A k (still H (unless n (refusing s) (reply (acceptance reports) u))) (still G (unless n (refusing t) (reply (acceptance reports′) v)))
+    unfolding unless
+    reply-step A zero u v told l q = record { accepted = refl; links = l; asked = q; answers = λ z. ap acceptance (told z); pictures = λ z. refl }
+    reply-step A (suc n) u v told l q = record { accepted = refl; links = ls; asked = same-asked; answers = λ z. refl; pictures = λ z. refl }
+
+    forgotten : Links H G 0 0 0 (chainOf (rechain (forget rs) s)) (chainOf (rechain (forget qs) t))
+    forgotten =
+        put-back (forget rs) (forget qs) (passes-shapes (forget rs) rs (forget-passes rs)) (passes-shapes (forget qs) qs (forget-passes qs))
+        (links-forgotten H G 0 ls)
+
+    switch-links : (kind : ℕ) (position : Bool) → Links H G k 0 0 (chainOf (switched kind position s)) (chainOf (switched kind position t))
+    switch-links kind position =
+        let gentle = with-switch-gentle position in
+        put-back (onFirst kind (withSwitch position) rs) (onFirst kind (withSwitch position) qs) (first-shapes kind (withSwitch position) gentle rs)
+        (first-shapes kind (withSwitch position) gentle qs) (links-switch kind position (heldBy rs) held-s ls)
+
+    step-links : Links H G k 0 0 (chainOf (rechain (stepLut rs) s)) (chainOf (rechain (stepLut qs) t))
+    step-links =
+        put-back (stepLut rs) (stepLut qs) (first-shapes 5 stepped stepped-gentle rs) (first-shapes 5 stepped stepped-gentle qs) (links-step (heldBy rs) held-s ls)
+
+    -- what is asked for, committed
+    commit-step : (A : Type 0) (n : ℕ) (q : Pending)
+        → Step A k (still H (unless n (refusing s) (reply (acceptance []) (committed q s)))) (still G (unless n (refusing t) (reply (acceptance []) (committed q t))))
+    commit-step A n Nothing = reply-step A n s t (λ z. refl) ls same-asked
+    commit-step A n (Switch kind position) = reply-step A n (committed (Switch kind position) s) (committed (Switch kind position) t) (λ z. refl) (switch-links kind position) refl
+
+    -- ## A new depth, where n and n′ are its refusals
+
+    module _ (d l : ℕ) (lent-s : l ≤ length H) (lent-t : l ≤ length G) where
+      abbrev D : ℕ
+      D = oneAtLeast d
+
+      abbrev refit : List Record → List ℕ → List ℕ
+      refit xs past = resized (firstDepth xs) D (area (firstHeld xs)) past
+
+      abbrev this-depth : ℕ → Framed
+      this-depth n = unless n (refusingFrame s [] (take l H)) (framed (acceptance []) (rechain (redepth D rs) s) [] (refit rs (take l H)))
+
+      abbrev that-depth : ℕ → Framed
+      that-depth n = unless n (refusingFrame t [] (take l G)) (framed (acceptance []) (rechain (redepth D qs) t) [] (refit qs (take l G)))
+
+      -- both refuse it
+      refused-step : (A : Type 0) (n n′ : ℕ) → (A → n ≡ n′) → ok (this-depth n .answer) ≡ false → ok (that-depth n′ .answer) ≡ false
+          → Step A k (lend 0 l H (this-depth n)) (lend 0 l G (that-depth n′))
+      unfolding unless
+      refused-step A zero n′ told e f = false-true (sym e)
+      refused-step A (suc n) zero told e f = false-true (sym f)
+      refused-step A (suc n) (suc n′) told e f =
+          rw (take-append-drop l H, take-append-drop l G)
+          (record { accepted = refl; links = ls; asked = same-asked; answers = λ z. ap refusal (told z); pictures = λ z. refl })
+
+      depth-same : k ≡ 0 → depthStops s d (length (take l H)) ≡ depthStops t d (length (take l G))
+      depth-same z = ap₂ (λ (u : Station) (n : ℕ). depthStops u d n) (one z) (length-take-le l H lent-s ∙ sym (length-take-le l G lent-t))
+
+      -- the histories that it leaves, where nothing was due
+      module _ (none : depthStops s d (length (take l H)) ≡ 0) (z : k ≡ 0) where
+        abbrev n : ℕ
+        n = area (firstHeld rs)
+
+        some : 1 ≤ firstDepth rs
+        some = deep-enough s (deepens s d (length (take l H)) none .there)
+
+        room : D * n ≤ l
+        room = rw (length-take-le l H lent-s) at (deepens s d (length (take l H)) none .room)
+
+        front : (B : List ℕ) → l ≤ length B → take (D * n) (refit rs (take l B) ++ drop l B) ≡ take (D * n) (refit rs (take l B))
+        front B long =
+            let roomy : D * n ≤ length (take l B) = omega (arith, length-take-le l B long, room) in
+            take-append-le (D * n) (refit rs (take l B)) (drop l B) (omega (arith, resized-length (firstDepth rs) D n (take l B) some roomy))
+
+        stays : (B : List ℕ) → D ≡ firstDepth rs → B ≡ refit rs (take l B) ++ drop l B
+        unfolding resized
+        stays B e = rw (le-leb D (firstDepth rs) (omega arith)) (sym (take-append-drop l B))
+
+        refits : Refits H G (refit rs (take l H) ++ drop l H) (refit rs (take l G) ++ drop l G) D (firstDepth rs) n
+        refits =
+            record {
+              agree = λ q.
+                  let whole : take (firstDepth rs * n) (take l H) ≡ take (firstDepth rs * n) (take l G) =
+                  take-swap (firstDepth rs * n) l H ∙ ap (take l) q ∙ sym (take-swap (firstDepth rs * n) l G) in
+                  let roomy : D * n ≤ length (take l H) = omega (arith, length-take-le l H lent-s, room) in
+                  let roomy′ : D * n ≤ length (take l G) = omega (arith, length-take-le l G lent-t, room) in
+                  front H lent-s ∙ resized-same (firstDepth rs) D n (take l H) (take l G) some roomy roomy′ whole ∙ sym (front G lent-t);
+              stay = λ e. (stays H e, stays G e);
+            }
+
+        kept : Links (refit rs (take l H) ++ drop l H) (refit qs (take l G) ++ drop l G) 0 0 0 (redepth D rs) (redepth D qs)
+        kept =
+            subst (λ (u : Station). Links (refit rs (take l H) ++ drop l H) (refit (chainOf u) (take l G) ++ drop l G) 0 0 0 (redepth D rs) (redepth D qs)) (one z)
+            (links-deepen H G (refit rs (take l H) ++ drop l H) (refit rs (take l G) ++ drop l G) D normal refl refits (subst (λ (j : ℕ). Links H G j 0 0 rs qs) z ls))
+
+      -- the chains with their new depth, in place of the old ones
+      redepth-back : {X Y : List ℕ} {j : ℕ} → depthStops s d (length (take l H)) ≡ 0 → Links X Y j 0 0 (redepth D rs) (redepth D qs)
+          → Links X Y j 0 0 (chainOf (rechain (redepth D rs) s)) (chainOf (rechain (redepth D qs) t))
+      redepth-back none =
+          let few = deepens s d (length (take l H)) none .few in
+          put-back (redepth D rs) (redepth D qs) (redepth-shapes D few rs) (redepth-shapes D few qs)
+
+      -- where nothing was due, nothing is
+      kept-step : (A : Type 0) (n n′ : ℕ) → depthStops s d (length (take l H)) ≡ n → ok (this-depth n .answer) ≡ true → ok (that-depth n′ .answer) ≡ true → k ≡ 0
+          → Step A 0 (lend 0 l H (this-depth n)) (lend 0 l G (that-depth n′))
+      unfolding unless
+      kept-step A (suc n) n′ none e f z = false-true e
+      kept-step A zero (suc n′) none e f z = false-true f
+      kept-step A zero zero none e f z =
+          record { accepted = refl; links = redepth-back none (kept none z); asked = same-asked; answers = λ z. refl; pictures = λ z. refl }
+
+      -- else the count begins anew
+      renew-step : (A : Type 0) (n n′ : ℕ) → depthStops s d (length (take l H)) ≡ n → ok (this-depth n .answer) ≡ true → ok (that-depth n′ .answer) ≡ true
+          → Fit (this-depth n .station) → Fit (that-depth n′ .station)
+          → Step A (depthOn (chainOf (this-depth n .station))) (lend 0 l H (this-depth n)) (lend 0 l G (that-depth n′))
+      unfolding unless
+      renew-step A (suc n) n′ none e f fs ft = false-true e
+      renew-step A zero (suc n′) none e f fs ft = false-true f
+      renew-step A zero zero none e f fs ft =
+          let few = deepens s d (length (take l H)) none .few in
+          let now-s = ap forget (chain-is-rs s fit-s (redepth D rs) (redepth-shapes D few rs)) in
+          let now-t = ap forget (chain-is-rs t fit-t (redepth D qs) (redepth-shapes D few qs)) in
+          record {
+            accepted = refl;
+            links = started _ _ (rechain (redepth D rs) s) (rechain (redepth D qs) t) fs ft (now-s ∙ links-redepth D ls ∙ sym now-t);
+            asked = same-asked;
+            answers = λ z. refl;
+            pictures = λ z. refl;
           }
 
-      frame-same : Apart rs → depth rs ≤ j → X .frame ≡ Y .frame
-      frame-same a all = chain-picture w h curve rs x y (ap (λ (l : List ℕ). painted l 0) same) fits fits′ a (lent-near (depth rs) all)
+    -- ## Each call
 
-      picture-same : Apart rs → depth rs ≤ j → take (h * w) (X .frame .words ++ drop (h * w) p) ≡ take (h * w) (Y .frame .words ++ drop (h * w) q)
-      picture-same a all =
-          take-at (X .frame .words) (drop (h * w) p) (h * w) (frame-length w h curve rs a x ∙ fits .long)
-          ∙ ap (λ (f : Painted). f .words) (frame-same a all)
-          ∙ sym (take-at (Y .frame .words) (drop (h * w) q) (h * w) (frame-length w h curve rs a y ∙ fits′ .long))
+    abbrev Whole : Call → Type 0
+    Whole c = ends this c ≡ false → k ≡ 0
 
-  -- where all places agree, so does what is held: with persistence on there is a place, and else nothing is held
-  held-same : depth (chainOf s) ≤ j → s .held ≡ b
-  held-same all = go (good-apart s fit-s)
-    where
-      go : Apart (chainOf s) → s .held ≡ b
-      go (quiet o a) = idle-held s fit-s o ∙ sym (idle-held (hold b s) fit-t o)
-      go (keeping o a) = near .same-held (omega (arith, a .some-depth))
+    -- one that is no change of depth
+    call-step : {c d : Call} → SameCall c d → lent c ≤ length H → lent c ≤ length G → changes this c ≡ false → changes that d ≡ false
+        → Step (Whole c) (cond (takes this c) (k - 1) k) (call c this) (call d that)
+    unfolding call frameReplyBy depthReply
+    call-step (frames {w} {h} {lent = l} {floats = m} {ints = i} {words = p} {other = q} {curve = curve} same curves) lH lG e f =
+        let n = stops s w h (length p) (length (take l H)) m i curve in
+        let long = same .same-length in
+        let stop : n ≡ stops t w h (length q) (length (take l G)) m i curve =
+        cc (stops-same w h (length p) (length (take l H)) m i curve, long, length-take-le l H lH, length-take-le l G lG) in
+        let left = lend (h * w) l H (this-frame w h l m i curve p q lH lG n) in
+        let whole = Whole (frame w h p l m i curve) in
+        let due = cond (takes this (frame w h p l m i curve)) (k - 1) k in
+        subst (λ (r : Framed). Step whole due left (lend (h * w) l G r)) (reply-curve w h t q (take l G) m i curves)
+        (subst (λ (o : ℕ). Step whole due left (lend (h * w) l G (that-frame w h l m i curve p q lH lG o))) stop
+        (frame-step w h l m i curve p q lH lG _ (λ z. z refl) same n refl))
+    call-step resets lH lG e f = rw (← (lacks-same 4)) (reply-step (Whole reset) (lacks s 4) (rechain (forget rs) s) (rechain (forget qs) t) (λ z. refl) (links-more k zero-le forgotten) same-asked)
+    call-step (switches-to {kind} {on = position}) lH lG e f =
+        rw (← (lacks-same kind)) (reply-step (Whole (switch kind position)) (lacks s kind) (switched kind position s) (switched kind position t) (λ z. refl) (switch-links kind position) same-asked)
+    call-step (asks {kind} {on = position}) lH lG e f = rw (← (ask-same kind)) (reply-step (Whole (ask kind position)) (askStops s kind) (pend (Switch kind position) s) (pend (Switch kind position) t) (λ z. refl) ls refl)
+    call-step commits lH lG e f =
+        subst₂ (λ (n : ℕ) (q : Pending).
+        Step (Whole commit) k (still H (unless (commitStops s) (refusing s) (reply (acceptance []) (committed (s .pending) s))))
+        (still G (unless n (refusing t) (reply (acceptance []) (committed q t)))))
+        commit-same same-asked (commit-step (Whole commit) (commitStops s) (s .pending))
+    call-step steps lH lG e f =
+        rw (← (lacks-same 5))
+        (reply-step (Whole step) (lacks s 5) (rechain (stepLut rs) s) (rechain (stepLut qs) t) (λ z. ap (λ (u : Station). presets (stepLut (chainOf u))) (one (z refl))) step-links same-asked)
+    call-step (new-depths {d} {lent = l}) lH lG e f =
+        refused-step d l lH lG (Whole (newDepth d l)) (depthStops s d (length (take l H))) (depthStops t d (length (take l G))) (λ z. depth-same d l lH lG (z refl)) e f
 
-  lacks-same : (kind : ℕ) → lacks s kind ≡ lacks (hold b s) kind
-  unfolding lacks
-  lacks-same kind = rw (fit-s .sound, fit-t .sound)
+    -- a change of depth that both accept: the count begins anew
+    change-step : {c d : Call} → SameCall c d → lent c ≤ length H → lent c ≤ length G → changes this c ≡ true → changes that d ≡ true
+        → Step (Whole c) (depthOn (chainOf (call c this .gives .station))) (call c this) (call d that)
+    unfolding call after depthReply
+    change-step (frames same curves) lH lG e f = false-true e
+    change-step resets lH lG e f = false-true e
+    change-step switches-to lH lG e f = false-true e
+    change-step asks lH lG e f = false-true e
+    change-step commits lH lG e f = false-true e
+    change-step steps lH lG e f = false-true e
+    change-step (new-depths {d} {lent = l}) lH lG e f =
+        renew-step d l lH lG (Whole (newDepth d l)) (depthStops s d (length (take l H))) (depthStops t d (length (take l G))) refl e f
+        (call-fit (newDepth d l) this fit-s) (call-fit (newDepth d l) that fit-t)
 
-  ask-same : (kind : ℕ) → askStops s kind ≡ askStops (hold b s) kind
-  unfolding askStops
-  ask-same kind = ap (λ (k : ℕ). unless k (λ k. k) (cond (waits (s .pending)) 17 0)) (lacks-same kind)
+    -- or, where nothing was due, nothing is
+    keep-step : {c d : Call} → SameCall c d → lent c ≤ length H → lent c ≤ length G → changes this c ≡ true → changes that d ≡ true → k ≡ 0
+        → Step (Whole c) 0 (call c this) (call d that)
+    unfolding call depthReply
+    keep-step (frames same curves) lH lG e f z = false-true e
+    keep-step resets lH lG e f z = false-true e
+    keep-step switches-to lH lG e f z = false-true e
+    keep-step asks lH lG e f z = false-true e
+    keep-step commits lH lG e f z = false-true e
+    keep-step steps lH lG e f z = false-true e
+    keep-step (new-depths {d} {lent = l}) lH lG e f z =
+        kept-step d l lH lG (Whole (newDepth d l)) (depthStops s d (length (take l H))) (depthStops t d (length (take l G))) refl e f z
 
-  commit-same : commitStops s ≡ commitStops (hold b s)
-  unfolding commitStops
-  commit-same = rw (fit-s .sound, fit-t .sound)
-
-  stops-same : (w h u v m i : ℕ) (curve : List Float) → stops s w h u v m i curve ≡ stops (hold b s) w h u v m i curve
-  unfolding stops
-  stops-same w h u v m i curve = rw (fit-s .sound, fit-t .sound)
-
-  -- a frame, where k is its refusal
-  module _ (w h l m i : ℕ) (curve : List Float) (p q : List ℕ) (lent-s : l ≤ length H) (lent-t : l ≤ length G) where
-    abbrev this-frame : ℕ → Framed
-    this-frame k = unless k (refusingFrame s p (take l H)) (shown w h s p (take l H) curve)
-
-    abbrev that-frame : ℕ → Framed
-    that-frame k = unless k (refusingFrame (hold b s) q (take l G)) (shown w h (hold b s) q (take l G) curve)
-
-    frame-step : (A : Type 0) → (A → depth (chainOf s) ≤ j) → SameFirst (h * w) p q
-        → (k : ℕ) → stops s w h (length p) (length (take l H)) m i curve ≡ k
-        → (n : ℕ) → n ≤ depth (chainOf s) → n ≤ cond (persists (chainOf s) && ok (this-frame k .answer)) (suc j) j
-        → Step A n (lend (h * w) l H (this-frame k)) (lend (h * w) l G (that-frame k))
-    unfolding unless shownBy
-    frame-step A all same zero z n le at =
-        let g = goes s w h (length p) (length (take l H)) m i curve z in
-        let first : take (h * w) p ≡ take (h * w) q = same .same-first (g .frame-room) in
-        let room : depth (chainOf s) * (h * w) ≤ l = rw (length-take-le l H lent-s) at (g .past-room) in
-        let fits = enough w h s p (take l H) (g .frame-room) (g .past-room) in
-        let fits′ = enough w h (hold b s) q (take l G) (rw (same .same-length) at (g .frame-room)) (rw (length-take-le l G lent-t) room) in
-        let a = good-apart s fit-s in
-        record {
-          accepted = refl;
-          alike = refl;
-          near = near-after w h l curve p q first fits fits′ a n le (rw (and-true (persists (chainOf s))) at at);
-          answers = λ z. ap (λ (x : Painted). acceptance (x .clipped ∷ samplesIn w h (chainOf s) ∷ [])) (frame-same w h l curve p q first fits fits′ a (all z));
-          pictures = λ z. picture-same w h l curve p q first fits fits′ a (all z);
-        }
-    frame-step A all same (suc k) z n le at =
-        rw (take-append-drop l H, take-append-drop l G)
-        (unseen A n _ s (hold b s) H G refl (near-less (s .held) b H G n j (rw (and-false (persists (chainOf s))) at at) near))
-
-  -- a new depth, where k and k′ are its refusals
-  module _ (d l : ℕ) (lent-s : l ≤ length H) (lent-t : l ≤ length G) where
-    abbrev D : ℕ
-    D = oneAtLeast d
-
-    abbrev new : Station → Station
-    new u = rechain (redepth D (chainOf s)) u
-
-    abbrev this-depth : ℕ → Framed
-    this-depth k =
-        unless k (refusingFrame s [] (take l H)) (framed (acceptance []) (new s) [] (resized (depth (chainOf s)) D (area (s .held)) (take l H)))
-
-    abbrev that-depth : ℕ → Framed
-    that-depth k =
-        unless k (refusingFrame (hold b s) [] (take l G))
-        (framed (acceptance []) (new (hold b s)) [] (resized (depth (chainOf s)) D (area b) (take l G)))
-
-    -- both refuse it
-    refused-step : (A : Type 0) (n : ℕ) → n ≤ j → (k k′ : ℕ) → (A → k ≡ k′) → ok (this-depth k .answer) ≡ false → ok (that-depth k′ .answer) ≡ false
-        → Step A n (lend 0 l H (this-depth k)) (lend 0 l G (that-depth k′))
-    unfolding unless
-    refused-step A n le zero k′ same e f = false-true (sym e)
-    refused-step A n le (suc k) zero same e f = false-true (sym f)
-    refused-step A n le (suc k) (suc k′) same e f =
-        rw (take-append-drop l H, take-append-drop l G)
-        (record {
-          accepted = refl;
-          alike = refl;
-          near = near-less (s .held) b H G n j le near;
-          answers = λ z. ap refusal (same z);
-          pictures = λ z. refl;
-        })
-
-    -- both accept it, and all places agree: so do those that there are then
-    renewed : 1 ≤ depth (chainOf s) → D * area (s .held) ≤ l → depth (chainOf s) ≤ j → (n : ℕ) → n ≤ D
-        → take (n * area (s .held)) (resized (depth (chainOf s)) D (area (s .held)) (take l H) ++ drop l H)
-        ≡ take (n * area (s .held)) (resized (depth (chainOf s)) D (area b) (take l G) ++ drop l G)
-    renewed some room all n le =
-        let a = area (s .held) in
-        let k = depth (chainOf s) in
-        let X = resized k D a (take l H) in
-        let Y = resized k D a (take l G) in
-        let long : length (take l H) ≡ l = length-take-le l H lent-s in
-        let long′ : length (take l G) ≡ l = length-take-le l G lent-t in
-        let roomy : D * a ≤ length (take l H) = omega arith in
-        let roomy′ : D * a ≤ length (take l G) = omega arith in
-        let less : n * a ≤ D * a = mul-le-mul-right a le in
-        let whole = near-less (s .held) b (take l H) (take l G) k j all (near-lent j l (s .held) b H G near) .places in
-        take-append-le (n * a) X (drop l H) (omega (arith, resized-length k D a (take l H) some roomy))
-        ∙ near-resized k D (s .held) (take l H) (take l G) some roomy roomy′ whole n le
-        ∙ sym (take-append-le (n * a) Y (drop l G) (omega (arith, resized-length k D a (take l G) some roomy′)))
-        ∙ ap (λ (h : Held). take (n * a) (resized k D (area h) (take l G) ++ drop l G)) (held-same all)
-
-    accepted-step : (A : Type 0) (n : ℕ) → (1 ≤ n → (depth (chainOf s) ≤ j) × (n ≤ D)) → 1 ≤ depth (chainOf s)
-        → (k k′ : ℕ) → depthStops s d (length (take l H)) ≡ k → ok (this-depth k .answer) ≡ true → ok (that-depth k′ .answer) ≡ true
-        → Step A n (lend 0 l H (this-depth k)) (lend 0 l G (that-depth k′))
-    unfolding unless
-    accepted-step A n all some (suc k) k′ z e f = false-true e
-    accepted-step A n all some zero (suc k′) z e f = false-true f
-    accepted-step A n all some zero zero z e f = record { accepted = refl; alike = refl; near = places n all; answers = λ z. refl; pictures = λ z. refl }
+    -- where nothing is due, both accept it or none
+    changes-same : {c d : Call} → SameCall c d → lent c ≤ length H → lent c ≤ length G → k ≡ 0 → changes this c ≡ changes that d
+    unfolding call depthReply unless
+    changes-same (frames same curves) lH lG z = refl
+    changes-same resets lH lG z = refl
+    changes-same switches-to lH lG z = refl
+    changes-same asks lH lG z = refl
+    changes-same commits lH lG z = refl
+    changes-same steps lH lG z = refl
+    changes-same (new-depths {d} {lent = l}) lH lG z = told _ _ (depth-same d l lH lG z)
       where
-        room : D * area (s .held) ≤ l
-        room = rw (length-take-le l H lent-s) at (deepens s d (length (take l H)) z .room)
+        ok-same : (n : ℕ) → ok (this-depth d l lH lG n .answer) ≡ ok (that-depth d l lH lG n .answer)
+        ok-same zero = refl
+        ok-same (suc n) = refl
 
-        places : (n : ℕ) → (1 ≤ n → (depth (chainOf s) ≤ j) × (n ≤ D))
-            → Near n (s .held) b (resized (depth (chainOf s)) D (area (s .held)) (take l H) ++ drop l H)
-            (resized (depth (chainOf s)) D (area b) (take l G) ++ drop l G)
-        places zero all = near-zero (s .held) b _ _
-        places (suc n) all =
-            let p = all (omega arith) in
-            record { same-held = λ z. held-same (p .0); places = renewed some room (p .0) (suc n) (p .1) }
+        told : (n n′ : ℕ) → n ≡ n′ → ok (this-depth d l lH lG n .answer) ≡ ok (that-depth d l lH lG n′ .answer)
+        told n n′ e = ok-same n ∙ ap (λ (i : ℕ). ok (that-depth d l lH lG i .answer)) e
 
-  -- a call that touches no word: where c holds it forgets what is held, else it keeps it
-  reply-step : (A : Type 0) (n : ℕ) → n ≤ j → (k : ℕ) (reports : List ℕ) (c : Bool) (u : Station)
-      → Step A n (still H (unless k (refusing s) (reply (acceptance reports) (hold (cond c nothing (s .held)) u))))
-      (still G (unless k (refusing (hold b s)) (reply (acceptance reports) (hold (cond c nothing b) u))))
-  unfolding unless
-  reply-step A n le zero reports true u = unseen A n _ _ _ H G refl (near-nothing nothing nothing H G n refl refl)
-  reply-step A n le zero reports false u = unseen A n _ _ _ H G refl (near-less (s .held) b H G n j le near)
-  reply-step A n le (suc k) reports c u = unseen A n _ _ _ H G refl (near-less (s .held) b H G n j le near)
+    module _
+        {c d : Call} (same-call : SameCall c d) (lH : lent c ≤ length H) (lG : lent c ≤ length G) (kept : changes this c ≡ false) (kept′ : changes that d ≡ false)
+      where
+        now : Step (Whole c) (cond (takes this c) (k - 1) k) (call c this) (call d that)
+        now = call-step same-call lH lG kept kept′
 
-  -- what is asked for, committed
-  commit-step : (A : Type 0) (n : ℕ) → n ≤ j → (k : ℕ) (q : Pending)
-      → Step A n (still H (unless k (refusing s) (reply (acceptance []) (committed q s))))
-      (still G (unless k (refusing (hold b s)) (reply (acceptance []) (committed q (hold b s)))))
-  commit-step A n le k Nothing = reply-step A n le k [] false s
-  commit-step A n le k (Switch kind position) =
-      reply-step A n le k [] (eqb kind 4 && not position) (pend Nothing (rechain (onFirst kind (withSwitch position) (chainOf s)) s))
+        -- both switch the last persistence off, or none
+        off-same : switchesOff this c ≡ switchesOff that d
+        unfolding after
+        off-same = λ i. now .accepted i && (links-on ls i && not (links-on (now .links) i))
 
-  abbrev Whole : Call → Type 0
-  Whole c = ends this c ≡ false → depth (chainOf s) ≤ j
+        -- and then nothing is due
+        off-ended : switchesOff this c ≡ true
+            → Links (call c this .history) (call d that .history) 0 0 0 (chainOf (call c this .gives .station)) (chainOf (call d that .gives .station))
+        unfolding after
+        off-ended z = links-off (not-true _ (both (persists rs) _ (both (ok (call c this .gives .answer)) _ z .1) .1)) (now .links)
 
-  -- where both have the same held, they refuse a new depth alike
-  depth-same : (d l : ℕ) → l ≤ length H → l ≤ length G → s .held ≡ b → depthStops s d (length (take l H)) ≡ depthStops (hold b s) d (length (take l G))
-  unfolding depthStops
-  depth-same d l lH lG held = rw (length-take-le l H lH, length-take-le l G lG, lacks-same 4, held)
+    ends-same : {c d : Call} → SameCall c d → lent c ≤ length H → lent c ≤ length G → ends this c ≡ ends that d
+    ends-same (frames e f) lH lG = refl
+    ends-same resets lH lG = refl
+    ends-same switches-to lH lG = off-same switches-to lH lG refl refl
+    ends-same asks lH lG = refl
+    ends-same commits lH lG = off-same commits lH lG refl refl
+    ends-same steps lH lG = refl
+    ends-same new-depths lH lG = refl
 
-  -- a call that is no change of depth
-  call-step : {c d : Call} → SameCall c d → lent c ≤ length H → lent c ≤ length G → changes this c ≡ false → changes that d ≡ false
-      → (n : ℕ) → n ≤ depth (chainOf s) → n ≤ cond (takes this c) (suc j) j → Step (Whole c) n (call c this) (call d that)
-  unfolding call frameReplyBy depthReply
-  call-step (frames {w} {h} {lent = l} {floats = m} {ints = i} {words = p} {other = q} {curve = curve} same curves) lH lG e f n le at =
-      let k = stops s w h (length p) (length (take l H)) m i curve in
-      let long = same .same-length in
-      let stop : k ≡ stops (hold b s) w h (length q) (length (take l G)) m i curve =
-      cc (stops-same w h (length p) (length (take l H)) m i curve, long, length-take-le l H lH, length-take-le l G lG) in
-      let left = lend (h * w) l H (this-frame w h l m i curve p q lH lG k) in
-      let whole = Whole (frame w h p l m i curve) in
-      subst (λ (r : Framed). Step whole n left (lend (h * w) l G r)) (reply-curve w h (hold b s) q (take l G) m i curves)
-      (subst (λ (o : ℕ). Step whole n left (lend (h * w) l G (that-frame w h l m i curve p q lH lG o))) stop
-      (frame-step w h l m i curve p q lH lG _ (λ z. z refl) same k refl n le at))
-  call-step resets lH lG e f n le at = rw (← (lacks-same 4)) (reply-step (Whole reset) n at (lacks s 4) [] true s)
-  call-step (switches-to {kind} {on = position}) lH lG e f n le at =
-      let turning = rechain (onFirst kind (withSwitch position) (chainOf s)) s in
-      rw (← (lacks-same kind)) (reply-step (Whole (switch kind position)) n at (lacks s kind) [] (eqb kind 4 && not position) turning)
-  call-step (asks {kind} {on = position}) lH lG e f n le at =
-      rw (← (ask-same kind)) (reply-step (Whole (ask kind position)) n at (askStops s kind) [] false (pend (Switch kind position) s))
-  call-step commits lH lG e f n le at = rw (← commit-same) (commit-step (Whole commit) n at (commitStops s) (s .pending))
-  call-step steps lH lG e f n le at =
-      let stepping = stepLut (chainOf s) in
-      rw (← (lacks-same 5)) (reply-step (Whole step) n at (lacks s 5) (presets stepping) false (rechain stepping s))
-  call-step (new-depths {d} {lent = l}) lH lG e f n le at =
-      refused-step d l lH lG (Whole (newDepth d l)) n at _ _ (λ z. depth-same d l lH lG (held-same (z refl))) e f
+    takes-same : {c d : Call} → SameCall c d → lent c ≤ length H → lent c ≤ length G → takes this c ≡ takes that d
+    takes-same (frames e f) lH lG = ap₂ (λ (a b : Bool). a && b) (links-on ls) (now (frames e f) lH lG refl refl .accepted)
+    takes-same resets lH lG = refl
+    takes-same switches-to lH lG = refl
+    takes-same asks lH lG = refl
+    takes-same commits lH lG = refl
+    takes-same steps lH lG = refl
+    takes-same new-depths lH lG = refl
 
-  -- a change of depth that both accept
-  change-step : {c d : Call} → SameCall c d → lent c ≤ length H → lent c ≤ length G → changes this c ≡ true → changes that d ≡ true
-      → (n : ℕ) → (1 ≤ n → (depth (chainOf s) ≤ j) × (n ≤ K (call c this .gives .station))) → Step (Whole c) n (call c this) (call d that)
-  unfolding call depthReply
-  change-step (frames same curves) lH lG e f n all = false-true e
-  change-step resets lH lG e f n all = false-true e
-  change-step switches-to lH lG e f n all = false-true e
-  change-step asks lH lG e f n all = false-true e
-  change-step commits lH lG e f n all = false-true e
-  change-step steps lH lG e f n all = false-true e
-  change-step (new-depths {d} {lent = l}) lH lG e f n all =
-      let new = change-depth d l this fit-s e in
-      accepted-step d l lH lG (Whole (newDepth d l)) n (λ z. let p = all z in (p .0, rw (new .1) at (p .1))) (new .0) _ _ refl e f
+    -- after a reset nothing is due: it is refused only where no persistence is there
+    reset-ended : (n : ℕ) → lacks s 4 ≡ n
+        → Links H G 0 0 0 (chainOf (unless n (refusing s) (reply (acceptance []) (rechain (forget rs) s)) .station))
+        (chainOf (unless n (refusing t) (reply (acceptance []) (rechain (forget qs) t)) .station))
+    unfolding unless lacks
+    reset-ended zero e = forgotten
+    reset-ended (suc n) e = links-off (none-on rs (absent (among 4 (kinds rs)) (rw (fit-s .sound) at e))) ls
+      where
+        absent : (b : Bool) → cond b 0 12 ≡ suc n → b ≡ false
+        absent true y = absurd (omega arith)
+        absent false y = refl
 
-  -- where all places agree, both accept it or none
-  changes-same : {c d : Call} → SameCall c d → lent c ≤ length H → lent c ≤ length G → depth (chainOf s) ≤ j → changes this c ≡ changes that d
-  unfolding call depthReply unless
-  changes-same (frames same curves) lH lG all = refl
-  changes-same resets lH lG all = refl
-  changes-same switches-to lH lG all = refl
-  changes-same asks lH lG all = refl
-  changes-same commits lH lG all = refl
-  changes-same steps lH lG all = refl
-  changes-same (new-depths {d} {lent = l}) lH lG all = told _ _ (depth-same d l lH lG (held-same all))
-    where
-      ok-same : (k : ℕ) → ok (this-depth d l lH lG k .answer) ≡ ok (that-depth d l lH lG k .answer)
-      ok-same zero = refl
-      ok-same (suc k) = refl
-
-      told : (k k′ : ℕ) → k ≡ k′ → ok (this-depth d l lH lG k .answer) ≡ ok (that-depth d l lH lG k′ .answer)
-      told k k′ e = ok-same k ∙ ap (λ (i : ℕ). ok (that-depth d l lH lG i .answer)) e
-
-  module _
-      {c d : Call} (same : SameCall c d) (lH : lent c ≤ length H) (lG : lent c ≤ length G) (kept : changes this c ≡ false) (kept′ : changes that d ≡ false)
-    where
-      first-step : Step (Whole c) 0 (call c this) (call d that)
-      first-step = call-step same lH lG kept kept′ 0 zero-le zero-le
-
-      -- persistence after it
-      persists-same : persists (chainOf (call c this .gives .station)) ≡ persists (chainOf (call d that .gives .station))
-      persists-same = ap (λ (u : Station). persists (chainOf u)) (first-step .alike)
-
-      -- both switch persistence off, or none
-      off-same : switchesOff this c ≡ switchesOff that d
-      unfolding after
-      off-same = ap₂ (λ (a o : Bool). a && (persists (chainOf s) && not o)) (first-step .accepted) persists-same
-
-      -- and then nothing is held
-      off-held : switchesOff this c ≡ true → (call c this .gives .station .held ≡ nothing) × (call d that .gives .station .held ≡ nothing)
-      unfolding after
-      off-held z =
-          let off = not-true _ (both (persists (chainOf s)) _ (both (ok (call c this .gives .answer)) _ z .1) .1) in
-          (idle-held _ (call-fit c this fit-s) off, idle-held _ (call-fit d that fit-t) (sym persists-same ∙ off))
-
-  ends-same : {c d : Call} → SameCall c d → lent c ≤ length H → lent c ≤ length G → ends this c ≡ ends that d
-  ends-same (frames e f) lH lG = refl
-  ends-same resets lH lG = refl
-  ends-same switches-to lH lG = off-same switches-to lH lG refl refl
-  ends-same asks lH lG = refl
-  ends-same commits lH lG = off-same commits lH lG refl refl
-  ends-same steps lH lG = refl
-  ends-same new-depths lH lG = refl
-
-  takes-same : {c d : Call} → SameCall c d → lent c ≤ length H → lent c ≤ length G → takes this c ≡ takes that d
-  takes-same (frames e f) lH lG = ap (λ (a : Bool). persists (chainOf s) && a) (first-step (frames e f) lH lG refl refl .accepted)
-  takes-same resets lH lG = refl
-  takes-same switches-to lH lG = refl
-  takes-same asks lH lG = refl
-  takes-same commits lH lG = refl
-  takes-same steps lH lG = refl
-  takes-same new-depths lH lG = refl
-
-  abbrev Forgotten : Call → Call → Type 0
-  Forgotten c d = (call c this .gives .station .held ≡ nothing) × (call d that .gives .station .held ≡ nothing)
-
-  -- a reset or a switching-off leaves nothing held
-  ended : {c d : Call} → SameCall c d → lent c ≤ length H → lent c ≤ length G → 1 ≤ depth (chainOf s) → ends this c ≡ true → Forgotten c d
-  unfolding call unless
-  ended (frames e f) lH lG some z = false-true z
-  ended resets lH lG some z = rw (lacks-none s fit-s some, lacks-none (hold b s) fit-t some) (refl, refl)
-  ended switches-to lH lG some z = off-held switches-to lH lG refl refl z
-  ended asks lH lG some z = false-true z
-  ended commits lH lG some z = off-held commits lH lG refl refl z
-  ended steps lH lG some z = false-true z
-  ended new-depths lH lG some z = false-true z
+    -- a reset or a switching-off leaves nothing due
+    ended : {c d : Call} → SameCall c d → lent c ≤ length H → lent c ≤ length G → ends this c ≡ true
+        → Links (call c this .history) (call d that .history) 0 0 0 (chainOf (call c this .gives .station)) (chainOf (call d that .gives .station))
+    unfolding call
+    ended (frames e f) lH lG z = false-true z
+    ended resets lH lG z =
+        subst (λ (n : ℕ).
+        Links H G 0 0 0 (chainOf (unless (lacks s 4) (refusing s) (reply (acceptance []) (rechain (forget rs) s)) .station))
+        (chainOf (unless n (refusing t) (reply (acceptance []) (rechain (forget qs) t)) .station))) (lacks-same 4) (reset-ended (lacks s 4) refl)
+    ended switches-to lH lG z = off-ended switches-to lH lG refl refl z
+    ended asks lH lG z = false-true z
+    ended commits lH lG z = off-ended commits lH lG refl refl z
+    ended steps lH lG z = false-true z
+    ended new-depths lH lG z = false-true z
 
 -- ## Stations that meet
 
-abbrev pub deep : State → ℕ
-deep s = K (s .station)
-
-pub record Meet (j : ℕ) (s t : State) : Type 0 where
-  pub alike : hold (t .station .held) (s .station) ≡ t .station
+pub record Meet (k : ℕ) (s t : State) : Type 0 where
   pub fit-s : Fit (s .station)
   pub fit-t : Fit (t .station)
-  pub near : Near j (s .station .held) (t .station .held) (s .history) (t .history)
+  pub links : Links (s .history) (t .history) k 0 0 (chainOf (s .station)) (chainOf (t .station))
+  pub same : fixed (s .station) ≡ fixed (t .station)
+  pub asked : s .station .pending ≡ t .station .pending
+
+-- while nothing is due they are one
+pub meet-one : {s t : State} → Meet 0 s t → s .station ≡ t .station
+meet-one {s} {t} m = one (s .station) (t .station) (s .history) (t .history) (m .fit-s) (m .fit-t) 0 (m .links) (m .same) (m .asked) refl
 
 abbrev Whole-of : ℕ → Call → State → Type 0
-Whole-of j c s = ends s c ≡ false → deep s ≤ j
+Whole-of k c s = ends s c ≡ false → k ≡ 0
 
-pub record Shared (j : ℕ) (c d : Call) (s t : State) : Type 0 where
-  pub steps-to : changes s c ≡ false → changes t d ≡ false → (n : ℕ) → n ≤ deep s → n ≤ cond (takes s c) (suc j) j → Step (Whole-of j c s) n (call c s) (call d t)
-  pub renews : changes s c ≡ true → changes t d ≡ true → (n : ℕ) → (1 ≤ n → (deep s ≤ j) × (n ≤ K (call c s .gives .station)))
-      → Step (Whole-of j c s) n (call c s) (call d t)
-  pub same-changes : deep s ≤ j → changes s c ≡ changes t d
+-- what a shared call makes of two that meet
+pub record Shared (k : ℕ) (c d : Call) (s t : State) : Type 0 where
+  pub steps-to : changes s c ≡ false → changes t d ≡ false → Step (Whole-of k c s) (cond (takes s c) (k - 1) k) (call c s) (call d t)
+  pub renews : changes s c ≡ true → changes t d ≡ true → Step (Whole-of k c s) (depthOn (chainOf (call c s .gives .station))) (call c s) (call d t)
+  pub keeps : changes s c ≡ true → changes t d ≡ true → k ≡ 0 → Step (Whole-of k c s) 0 (call c s) (call d t)
+  pub same-changes : k ≡ 0 → changes s c ≡ changes t d
   pub same-ends : ends s c ≡ ends t d
   pub same-takes : takes s c ≡ takes t d
-  pub forgotten : 1 ≤ deep s → ends s c ≡ true → (call c s .gives .station .held ≡ nothing) × (call d t .gives .station .held ≡ nothing)
+  pub ends-all : ends s c ≡ true → Links (call c s .history) (call d t .history) 0 0 0 (chainOf (call c s .gives .station)) (chainOf (call d t .gives .station))
 
-module _ {j : ℕ} {s t : State} {c d : Call} (m : Meet j s t) (same : SameCall c d) (lH : lent c ≤ length (s .history)) (lG : lent c ≤ length (t .history)) where
-  pub shared : Shared j c d s t
-  shared =
-      subst (λ (z : Station). Fit z → Shared j c d s (with-history z (t .history))) (m .alike)
-      (λ fit-t.
+module _ {k : ℕ} {s t : State} (m : Meet k s t) (c d : Call) where
+  pub shared : SameCall c d → lent c ≤ length (s .history) → lent c ≤ length (t .history) → Shared k c d s t
+  shared same lH lG =
       let a = s .station in
-      let b = t .station .held in
+      let b = t .station in
       let H = s .history in
       let G = t .history in
       record {
-        steps-to = call-step a b H G (m .fit-s) fit-t j (m .near) same lH lG;
-        renews = change-step a b H G (m .fit-s) fit-t j (m .near) same lH lG;
-        same-changes = changes-same a b H G (m .fit-s) fit-t j (m .near) same lH lG;
-        same-ends = ends-same a b H G (m .fit-s) fit-t j (m .near) same lH lG;
-        same-takes = takes-same a b H G (m .fit-s) fit-t j (m .near) same lH lG;
-        forgotten = ended a b H G (m .fit-s) fit-t j (m .near) same lH lG;
-      })
-      (m .fit-t)
+        steps-to = call-step a b H G (m .fit-s) (m .fit-t) k (m .links) (m .same) (m .asked) same lH lG;
+        renews = change-step a b H G (m .fit-s) (m .fit-t) k (m .links) (m .same) (m .asked) same lH lG;
+        keeps = keep-step a b H G (m .fit-s) (m .fit-t) k (m .links) (m .same) (m .asked) same lH lG;
+        same-changes = changes-same a b H G (m .fit-s) (m .fit-t) k (m .links) (m .same) (m .asked) same lH lG;
+        same-ends = ends-same a b H G (m .fit-s) (m .fit-t) k (m .links) (m .same) (m .asked) same lH lG;
+        same-takes = takes-same a b H G (m .fit-s) (m .fit-t) k (m .links) (m .same) (m .asked) same lH lG;
+        ends-all = ended a b H G (m .fit-s) (m .fit-t) k (m .links) (m .same) (m .asked) same lH lG;
+      }
 
-  -- what a step leaves
-  met : {A : Type 0} {n : ℕ} → Step A n (call c s) (call d t) → Meet n (after c s) (after d t)
+  -- what a call leaves, by what is due then
+  pub meet-after : (j : ℕ) → Links (call c s .history) (call d t .history) j 0 0 (chainOf (call c s .gives .station)) (chainOf (call d t .gives .station))
+      → call c s .gives .station .pending ≡ call d t .gives .station .pending → Meet j (after c s) (after d t)
   unfolding after
-  met k = record { alike = k .alike; fit-s = call-fit c s (m .fit-s); fit-t = call-fit d t (m .fit-t); near = k .near }
+  meet-after j links asked =
+      record {
+        fit-s = call-fit c s (m .fit-s);
+        fit-t = call-fit d t (m .fit-t);
+        links = links;
+        same = call-after c s (m .fit-s) .same ∙ m .same ∙ sym (call-after d t (m .fit-t) .same);
+        asked = asked;
+      }
 
-  -- by a call that is no change of depth
-  module _ (kept : changes s c ≡ false) (kept′ : changes t d ≡ false) where
-    pub meet-after : (n : ℕ) → n ≤ deep s → n ≤ cond (takes s c) (suc j) j → Meet n (after c s) (after d t)
-    meet-after n le at = met (shared .steps-to kept kept′ n le at)
-
-    -- a reset or a switching-off brings agreement
-    pub meet-ended : 1 ≤ deep s → ends s c ≡ true → (n : ℕ) → Meet n (after c s) (after d t)
-    unfolding after
-    meet-ended some z n =
-        let k = shared .steps-to kept kept′ 0 zero-le zero-le in
-        let f = shared .forgotten some z in
-        record { alike = k .alike; fit-s = call-fit c s (m .fit-s); fit-t = call-fit d t (m .fit-t); near = near-nothing _ _ _ _ n (f .0) (f .1) }
-
-    pub depth-after : deep (after c s) ≡ deep s
-    unfolding after
-    depth-after = call-depth c s (m .fit-s) kept
-
-  -- by a change that both accept: no place, or all of them
-  pub meet-renewed : changes s c ≡ true → changes t d ≡ true → (n : ℕ) → (1 ≤ n → (deep s ≤ j) × (n ≤ deep (after c s))) → Meet n (after c s) (after d t)
-  unfolding after
-  meet-renewed e f n all = met (shared .renews e f n all)
-
-  pub gives-same : {n : ℕ} → Step (Whole-of j c s) n (call c s) (call d t) → Whole-of j c s → after c s .station .held ≡ after d t .station .held
-      → call c s .gives ≡ call d t .gives
-  unfolding after
-  gives-same k all held =
-      let station : call c s .gives .station ≡ call d t .gives .station = ap (λ (z : Held). hold z (call c s .gives .station)) held ∙ k .alike in
-      λ i. seen (k .answers all i) (station i) (k .pictures all i)
-
--- where all places agree, so does what is held
-pub meet-held : {s t : State} → Meet (deep s) s t → s .station .held ≡ t .station .held
-meet-held {s} {t} m =
-    subst (λ (z : Station). Fit z → s .station .held ≡ t .station .held) (m .alike)
-    (λ fit-t. held-same (s .station) (t .station .held) (s .history) (t .history) (m .fit-s) fit-t (deep s) (m .near) (le-refl (deep s))) (m .fit-t)
+-- what is seen of a call after which nothing is due
+pub gives-same : {A : Type 0} {j : ℕ} (s t : State) (c d : Call) → Step A j (call c s) (call d t) → A → Meet 0 (after c s) (after d t)
+    → call c s .gives ≡ call d t .gives
+unfolding after
+gives-same s t c d k all m = λ i. seen (k .answers all i) (meet-one m i) (k .pictures all i)
 
 -- each call lends words of the own buffer that the one before it left
-pub lends-after : (c : Call) (s : State) (cs : List Call) → Fit (s .station) → Lends (length (s .history)) cs → Lends (length (after c s .history)) cs
-lends-after c s cs f = subst (λ (n : ℕ). Lends n cs) (sym (call-length c s f))
+pub lends-after : (c : Call) (s : State) (cs : List Call) → Lends (length (s .history)) cs → Lends (length (after c s .history)) cs
+lends-after c s cs = subst (λ (n : ℕ). Lends n cs) (sym (call-length c s))

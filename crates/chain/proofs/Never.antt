@@ -14,7 +14,7 @@ use Rattle.chain.specs.Agree.{opened}
 use Rattle.cards.specs.Alike.{chainOf}
 use Rattle.cards.specs.Answers.{Report, refusal}
 use Rattle.cards.specs.Laws.Answers.{accepted-not}
-use Rattle.chain.specs.Calls.{floatRoom, stops, lacks, waits, askStops, commitStops, depthStops}
+use Rattle.chain.specs.Calls.{floatRoom, stops, lacks, waits, askStops, commitStops, firstHeld, depthStops}
 use Rattle.chain.specs.Calls.{shownBy, frameReplyBy, depthReply}
 use Rattle.cards.specs.Card.{accepted, openOf}
 use Rattle.chain.specs.Chain.{depth, readsCurve}
@@ -58,7 +58,7 @@ depth-not : (s : Station) (d history : ℕ) → goodStation s ≡ true → depth
 unfolding depthStops
 depth-not s d history e =
     unless-not (lacks s 4) _ (lacks-not s 4 e)
-    (cond-not (ltb 8 d) 6 _ (omega arith) (cond-not (ltb history (oneAtLeast d * area (s .held))) 10 0 (omega arith) (omega arith)))
+    (cond-not (ltb 8 d) 6 _ (omega arith) (cond-not (ltb history (oneAtLeast d * area (firstHeld (chainOf s)))) 10 0 (omega arith) (omega arith)))
 
 commit-not : (s : Station) → goodStation s ≡ true → commitStops s ≡ 13 → ⊥
 unfolding commitStops

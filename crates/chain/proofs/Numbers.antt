@@ -4,11 +4,11 @@ use Prim.Native.Nat.{ℕ, zero, suc, _+_, _*_, _≤_, _<_}
 use native.Mathlib.Nat.{mul-le-mul-right, le-of-mul-le-mul-right, add-mul}
 use native.Mathlib.Omega.{arith}
 use mathlib.Core.Path.{_≡_, refl, ap, subst, _∙_}
-use mathlib.Core.Bool.{Bool, true, false, not, _&&_}
+use mathlib.Core.Bool.{true, false, not, _&&_, cond}
 use mathlib.Core.List.{List, [], _∷_, _++_}
 use borrow.Author.Tests.{ltb-false, leb-true, not-true}
 use lib.Dec.{T, leb, ltb, lit<, le→leb}
-use lib.ListN.{length, drop}
+use lib.ListN.{length, take, drop, length-drop}
 use lib.Seq.{length-take-le}
 use lib.Ieee.{Float, nan, inf, fin, up, down, lt, neg, ofBits}
 use lib.Ieee.Fits.{down-pos}
@@ -23,7 +23,6 @@ use Rattle.passes.specs.Casts.{casts, checked}
 use Rattle.passes.specs.Laws.Casts.{casts-agree, checked-agree}
 use Rattle.passes.specs.ColorCorrection.{goodCurve}
 use Rattle.passes.specs.Flow.{Flow, flow}
-use Rattle.passes.specs.Fold.{fold}
 use Rattle.passes.specs.Laws.Curves.{curve-within}
 use Rattle.passes.specs.Laws.Inside as Inside
 use Rattle.passes.specs.Painted.{Painted, painted}
@@ -31,9 +30,9 @@ use Rattle.passes.specs.Laws.Range as Range
 use Rattle.passes.specs.Rows.{Frame}
 use Rattle.cards.specs.Alike.{chainOf}
 use Rattle.cards.specs.Answers.{acceptance}
-use Rattle.chain.specs.Calls.{framed, hold, incoming, stops, refusingFrame, shown, shownBy}
+use Rattle.chain.specs.Calls.{framed, rechain, stops, refusingFrame, shown, shownBy}
 use Rattle.chain.specs.Calls.{frameReply, frameReplyBy}
-use Rattle.chain.specs.Chain.{wash, overBy, turn, turnBy, chain, depthOf, depth, reads, readsCurve, samplesIn}
+use Rattle.chain.specs.Chain.{wash, overBy, turn, turnBy, withHeld, Ran, ran, chain, chainBy, depthOf, depth, reads, readsCurve, samplesIn}
 use Rattle.cards.specs.Normal.{negZero, settled, counted, normalPass, normalChain}
 use Rattle.chain.specs.Numbers.{Pass-inside, Numbers-inside, Casts-inside}
 use Rattle.chain.specs.Numbers.{Checked-inside}
@@ -46,7 +45,7 @@ use Rattle.cards.specs.declared.station.Station.{Station}
 use Rattle.num.specs.Laws.Bools.{false-true, both, or-left, or-second}
 use Rattle.chain.proofs.Goes.{goes}
 use Rattle.cards.specs.Laws.Good.{good, headed}
-use Rattle.chain.proofs.PassCases.{over-frame, over-past}
+use Rattle.chain.proofs.Turns.{turn-frame}
 
 -- ## Settings
 
@@ -178,40 +177,32 @@ module _ (A : Arith) (G : Agrees A) where
 
 module _ (A : Arith) (G : Agrees A) (w h : ℕ) (curve : List Float) where
   -- a record, on or off
-  record Turned (x : Flow) (r : Record) : Type 0 where
-    same : turnBy A w h curve x r ≡ turn w h curve x r
-    frame : length (turn w h curve x r .frame .words) ≡ length (x .frame .words)
-    past : length (turn w h curve x r .past) ≡ length (x .past)
-
-  turned : (x : Flow) (r : Record) → normalPass (r .pass) ≡ true → Typed (r .pass) → Frame w h (x .frame .words)
-      → depthOf (r .pass) * length (x .frame .words) ≤ length (x .past) → (reads (r .pass) ≡ true → goodCurve curve ≡ true) → Turned x r
+  turned : (r : Record) (frame : Painted) (past : List ℕ) → normalPass (r .pass) ≡ true → Typed (r .pass) → Frame w h (frame .words)
+      → depthOf (r .pass) * length (frame .words) ≤ length past → (reads (r .pass) ≡ true → goodCurve curve ≡ true)
+      → turnBy A w h curve r frame past ≡ turn w h curve r frame past
   unfolding turnBy
-  turned x r n t f room good = go (r .on) refl
-    where
-      go : (b : Bool) → r .on ≡ b → Turned x r
-      go true e =
-          record {
-            same = rw e (pass-inside A G w h curve (r .pass) x n t f room good);
-            frame = rw e (over-frame w h curve x (r .pass));
-            past = rw e (over-past w h curve x (r .pass) room);
-          }
-      go false e = record { same = rw e; frame = rw e; past = rw e }
+  turned r frame past n t f room good =
+      let x : Flow = flow frame (r .held) past in
+      ap (λ (y : Flow). cond (r .on) y x) (pass-inside A G w h curve (r .pass) x n t f room good)
 
-  chained : (rs : List Record) (seen : List ℕ) (x : Flow) → normalChain seen rs ≡ true → TypedChain rs
-      → Frame w h (x .frame .words) → depth rs * (h * w) ≤ length (x .past) → (readsCurve rs ≡ true → goodCurve curve ≡ true)
-      → fold (turnBy A w h curve) x rs ≡ chain w h curve rs x
-  unfolding fold depth readsCurve
-  chained [] seen x n t f room good = refl
-  chained (r ∷ rs) seen x n t f room good =
+  chained : (rs : List Record) (seen : List ℕ) (frame : Painted) (past : List ℕ) → normalChain seen rs ≡ true → TypedChain rs
+      → Frame w h (frame .words) → depth rs * (h * w) ≤ length past → (readsCurve rs ≡ true → goodCurve curve ≡ true)
+      → chainBy A w h curve rs frame past ≡ chain w h curve rs frame past
+  unfolding chainBy depth readsCurve
+  chained [] seen frame past n t f room good = refl
+  chained (r ∷ rs) seen frame past n t f room good =
       let q = headed seen r rs n in
-      let parts : depthOf (r .pass) * (h * w) + depth rs * (h * w) ≤ length (x .past) =
-      subst (λ (k : ℕ). k ≤ length (x .past)) (add-mul (depthOf (r .pass)) (depth rs) (h * w)) room in
-      let own : depthOf (r .pass) * length (x .frame .words) ≤ length (x .past) = rw (f .area) (omega arith) in
-      let y = turned x r (q .normal) (t .0) f own (λ c. good (or-left (reads (r .pass)) (readsCurve rs) c)) in
-      ap (λ (z : Flow). fold (turnBy A w h curve) z rs) (y .same)
-      ∙ chained rs (seen ++ kindOf (r .pass) ∷ []) (turn w h curve x r) (q .others) (t .1)
-      (record { area = y .frame ∙ f .area; wide = f .wide; high = f .high })
-      (rw (y .past) (omega arith)) (λ c. good (or-second (reads (r .pass)) (readsCurve rs) c))
+      let part = depthOf (r .pass) * (h * w) in
+      let parts : part + depth rs * (h * w) ≤ length past = subst (λ (k : ℕ). k ≤ length past) (add-mul (depthOf (r .pass)) (depth rs) (h * w)) room in
+      let own : length (take part past) ≡ part = length-take-le part past (omega arith) in
+      let then : Flow → Ran → Ran = λ x y. ran (y .frame) (withHeld (x .held) r ∷ y .records) (x .past ++ y .past) in
+      let x : Flow = turn w h curve r frame (take part past) in
+      ap (λ (y : Flow). then y (chainBy A w h curve rs (y .frame) (drop part past)))
+      (turned r frame (take part past) (q .normal) (t .0) f (rw (f .area) (omega (arith, own))) (λ c. good (or-left (reads (r .pass)) (readsCurve rs) c)))
+      ∙ ap (then x)
+      (chained rs (seen ++ kindOf (r .pass) ∷ []) (x .frame) (drop part past) (q .others) (t .1)
+      (record { area = turn-frame w h curve r frame (take part past) ∙ f .area; wide = f .wide; high = f .high })
+      (rw (length-drop part past) (omega arith)) (λ c. good (or-second (reads (r .pass)) (readsCurve rs) c)))
 
   frame-inside-at : (s : Station) (words past : List ℕ) (floats ints : ℕ) → TypedChain (chainOf s)
       → frameReplyBy A w h s words past floats ints curve ≡ frameReply w h s words past floats ints curve
@@ -223,8 +214,8 @@ module _ (A : Arith) (G : Agrees A) (w h : ℕ) (curve : List Float) where
           ≡ unless k (refusingFrame s words past) (shown w h s words past curve)
       go zero e =
           let g = goes s w h (length words) (length past) floats ints curve e in
-          ap (λ (x : Flow). framed (acceptance (x .frame .clipped ∷ samplesIn w h (chainOf s) ∷ [])) (hold (x .held) s) (x .frame .words ++ drop (h * w) words) (x .past))
-          (chained (chainOf s) [] (incoming w h s words past) (good s (g .good) .normal) t
+          ap (λ (x : Ran). framed (acceptance (x .frame .clipped ∷ samplesIn w h (chainOf s) ∷ [])) (rechain (x .records) s) (x .frame .words ++ drop (h * w) words) (x .past))
+          (chained (chainOf s) [] (painted (take (h * w) words) 0) past (good s (g .good) .normal) t
           (record { area = length-take-le (h * w) words (g .frame-room); wide = g .wide .1; high = g .high .1 })
           (g .past-room) (g .curve-good))
       go (suc k) e = refl

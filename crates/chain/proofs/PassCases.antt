@@ -89,9 +89,9 @@ module _ (w h : ℕ) (curve : List Float) (x : Flow) where
       by-memory (λ p. depthOf p * length (x .frame .words) ≤ length (x .past) → length (over w h curve p x .past) ≡ length (x .past))
       (λ amount k room. history-length amount k (sized w h) x room) (λ p m room. ap (λ (y : Flow). length (y .past)) (m .whole w h curve x))
 
--- ## No second persistence
+-- ## Any pass but persistence
 
--- any pass but persistence keeps no older frame
+-- keeps no older frame
 pub no-depth : (p : Pass) → (kindOf p ≡ 4 → ⊥) → depthOf p ≡ 0
 no-depth = by-memory (λ p. (kindOf p ≡ 4 → ⊥) → depthOf p ≡ 0) (λ amount k n. absurd (n refl)) (λ p m n. m .no-depth)
 
@@ -176,6 +176,9 @@ no-persistence =
 
 pub stepped-kind : (p : Pass) → kindOf (steppedPass p) ≡ kindOf p
 stepped-kind = by-setting (λ p. kindOf (steppedPass p) ≡ kindOf p) (λ preset strength. refl) (λ amount k. refl) (λ p o. ap kindOf (o .unstepped))
+
+pub deep-kind : (d : ℕ) (p : Pass) → kindOf (deepPass d p) ≡ kindOf p
+deep-kind d = by-setting (λ p. kindOf (deepPass d p) ≡ kindOf p) (λ preset strength. refl) (λ amount k. refl) (λ p o. ap kindOf (o .undeepened d))
 
 pub stepped-depth : (p : Pass) → depthOf (steppedPass p) ≡ depthOf p
 stepped-depth = by-setting (λ p. depthOf (steppedPass p) ≡ depthOf p) (λ preset strength. refl) (λ amount k. refl) (λ p o. ap depthOf (o .unstepped))

@@ -1,61 +1,39 @@
--- Every call keeps a good station good, and leaves of it what Fit says; and its depth, but for a change of it. Assumes nothing.
-use Prim.Native.Nat.{ℕ, zero, suc, _*_, _≤_}
-use mathlib.Core.Path.{_≡_, refl, ap, sym, _∙_}
-use mathlib.Core.Bool.{Bool, true, false}
+-- Every call keeps a good station good, and leaves of it what Fit says. Assumes nothing.
+use Prim.Native.Nat.{ℕ, zero, suc, _*_}
+use mathlib.Core.Path.{_≡_, refl, _∙_}
+use mathlib.Core.Bool.{true}
 use mathlib.Core.List.{List, [], _∷_}
 use lib.Ieee.{Float}
 use lib.ListN.{length, take}
-use lib.Seq.{length-take-le}
-use Rattle.num.specs.Held.{nothing, sized, sameHeld, fineHeld}
+use Rattle.num.specs.Held.{sized, fineHeld}
 use Rattle.num.specs.Refusals.{unless}
 use Rattle.num.specs.Laws.Held.{fine-sized}
-use Rattle.passes.specs.Flow.{Flow}
+use Rattle.passes.specs.Painted.{painted}
 use Rattle.cards.specs.Alike.{chainOf}
-use Rattle.cards.specs.Answers.{refusal, ok, Reply, reply, refusing}
-use Rattle.chain.specs.Agree.{changes}
-use Rattle.chain.specs.Calls.{hold, rechain}
-use Rattle.chain.specs.Calls.{Framed, framed, refusingFrame}
-use Rattle.chain.specs.Calls.{incoming, shown, shownBy, frameReplyBy, onFirst, withSwitch, switched, committed, stepped, withDepth, depthReply}
-use Rattle.chain.specs.Chain.{chain, depthOf, depth}
+use Rattle.cards.specs.Answers.{refusal, Reply, reply, refusing}
+use Rattle.chain.specs.Calls.{Framed, framed, refusingFrame, shown, shownBy, frameReplyBy, depthReply}
+use Rattle.chain.specs.Chain.{chain}
 use Rattle.chain.specs.Machine.{Call, frame, reset, switch, ask, commit, step, newDepth, State, call, after, run}
-use Rattle.cards.specs.Normal.{persists}
+use Rattle.cards.specs.Normal.{heldBy}
 use Rattle.cards.specs.Settings.{oneAtLeast}
-use Rattle.cards.specs.declared.station.Pending.{Pending}
-use Rattle.cards.specs.declared.station.Pending.the-variants.{Nothing, Switch}
-use Rattle.cards.specs.declared.station.Record.{Record}
+use Rattle.cards.specs.declared.station.Pending.the-variants.{Switch}
 use Rattle.cards.specs.declared.station.Station.{Station}
-use Rattle.chain.proofs.Apart.{Apart, quiet, keeping, apart, chain-held}
-use Rattle.num.specs.Laws.Bools.{or-second, false-true}
 use Rattle.cards.specs.Laws.Good.{good}
-use Rattle.chain.proofs.Changed.{Gentle, with-switch-gentle, stepped-gentle, deep-gentle}
-use Rattle.chain.proofs.Deeper.{first-depth, redepth-depth, deepens}
+use Rattle.chain.proofs.Deeper.{deepens}
 use Rattle.chain.proofs.Goes.{goes}
-use Rattle.chain.proofs.Kept.{Fits}
-use Rattle.chain.proofs.PassCases.{stepped-depth}
 use Rattle.chain.proofs.Replies.{present, ask-goes}
-use Rattle.chain.proofs.Fit.{fixed, Fit, After, after-itself, after-hold, after-pend, after-reset, after-switch, after-commit, after-step, after-depth, after-fit, chain-is-rs}
+use Rattle.chain.proofs.Turns.{chain-passes, chain-holding}
+use Rattle.chain.proofs.Fit.{fixed, Fit, After, after-itself, after-held, after-pend, after-reset, after-switch, after-commit, after-step, after-depth, after-fit}
 
 -- ## An accepted frame
-
-pub good-apart : (s : Station) → Fit s → Apart (chainOf s)
-good-apart s f = apart (chainOf s) (good s (f .sound) .normal)
-
-pub enough : (w h : ℕ) (s : Station) (words past : List ℕ) → h * w ≤ length words → depth (chainOf s) * (h * w) ≤ length past
-    → Fits (depth (chainOf s)) (sized w h) (incoming w h s words past)
-enough w h s words past frame-room past-room = record { long = length-take-le (h * w) words frame-room; room = past-room }
 
 after-frame : (w h : ℕ) (s : Station) (words past : List ℕ) (curve : List Float) → Fit s → fineHeld (sized w h) ≡ true
     → After s (shown w h s words past curve .station)
 unfolding shownBy
-after-frame w h s words past curve f fine = go (good-apart s f)
-  where
-    x : Flow
-    x = incoming w h s words past
-
-    go : Apart (chainOf s) → After s (hold (chain w h curve (chainOf s) x .held) s)
-    go (quiet o a) = rw (ap (λ (y : Flow). y .held) (a .whole w h curve x)) (after-itself s f)
-    go (keeping o a) =
-        rw (chain-held w h curve (chainOf s) a x) (after-hold s f (sized w h) fine (or-second (sameHeld (sized w h) nothing) (persists (chainOf s)) o))
+after-frame w h s words past curve f fine =
+    let frame = painted (take (h * w) words) 0 in
+    after-held s f (chain w h curve (chainOf s) frame past .records) (chain-passes w h curve (chainOf s) frame past) (sized w h) fine
+    (chain-holding w h curve (heldBy (chainOf s)) (chainOf s) (good s (f .sound) .holds) frame past)
 
 -- ## Each call
 
@@ -106,50 +84,3 @@ pub run-fixed : (s : State) (cs : List Call) → Fit (s .station) → fixed (run
 unfolding run after
 run-fixed s [] f = refl
 run-fixed s (c ∷ cs) f = run-fixed (after c s) cs (call-fit c s f) ∙ call-after c s f .same
-
--- ## The depth
-
-abbrev pub K : Station → ℕ
-K s = depth (chainOf s)
-
--- the first record of a kind, changed in something else
-first-kept : (s : Station) → Fit s → (kind : ℕ) (f : Record → Record) → Gentle f → ((r : Record) → depthOf (f r .pass) ≡ depthOf (r .pass))
-    → depth (chainOf (rechain (onFirst kind f (chainOf s)) s)) ≡ K s
-first-kept s fit kind f g keeps = ap depth (chain-is-rs s fit kind f g) ∙ first-depth kind f keeps (chainOf s)
-
-switch-kept : (s : Station) → Fit s → (kind : ℕ) (on : Bool) → K (switched kind on s) ≡ K s
-switch-kept s f kind on = first-kept s f kind (withSwitch on) (with-switch-gentle on) (λ r. refl)
-
-commit-kept : (s : Station) → Fit s → (q : Pending) → K (committed q s) ≡ K s
-commit-kept s f Nothing = refl
-commit-kept s f (Switch kind on) = switch-kept s f kind on
-
--- a call that is no accepted change of it
-pub call-depth : (c : Call) (s : State) → Fit (s .station) → changes s c ≡ false → K (call c s .gives .station) ≡ K (s .station)
-unfolding call frameReplyBy shownBy depthReply
-call-depth (frame w h words l m i curve) s f e =
-    by-stop (λ r. K (r .station) ≡ K (s .station)) _ (s .station) words (take l (s .history)) _ refl (λ z. refl)
-call-depth reset s f e = by-lack (λ r. K (r .station) ≡ K (s .station)) _ (s .station) _ refl (λ z. refl)
-call-depth (switch kind on) s f e =
-    by-lack (λ r. K (r .station) ≡ K (s .station)) _ (s .station) _ refl (λ z. switch-kept (s .station) f kind on)
-call-depth (ask kind on) s f e = by-lack (λ r. K (r .station) ≡ K (s .station)) _ (s .station) _ refl (λ z. refl)
-call-depth commit s f e =
-    by-lack (λ r. K (r .station) ≡ K (s .station)) _ (s .station) _ refl (λ z. commit-kept (s .station) f (s .station .pending))
-call-depth step s f e =
-    by-lack (λ r. K (r .station) ≡ K (s .station)) _ (s .station) _ refl
-    (λ z. first-kept (s .station) f 5 stepped stepped-gentle (λ r. stepped-depth (r .pass)))
-call-depth (newDepth d l) s f e =
-    by-stop (λ r. ok (r .answer) ≡ false → K (r .station) ≡ K (s .station)) _ (s .station) [] (take l (s .history)) _ (λ o. refl) (λ z o. false-true (sym o)) e
-
--- an accepted change: there is a depth before it, and it is the new one then
-pub change-depth : (d l : ℕ) (s : State) → Fit (s .station) → changes s (newDepth d l) ≡ true
-    → (1 ≤ K (s .station)) × (K (call (newDepth d l) s .gives .station) ≡ oneAtLeast d)
-unfolding call depthReply
-change-depth d l s f =
-    let past = take l (s .history) in
-    by-stop (λ r. ok (r .answer) ≡ true → (1 ≤ K (s .station)) × (K (r .station) ≡ oneAtLeast d)) _ (s .station) [] past _ (λ o. false-true o)
-    (λ z o.
-    let g = deepens (s .station) d (length past) z in
-    let p = present (s .station) 4 (g .there) in
-    let new = redepth-depth (oneAtLeast d) [] (chainOf (s .station)) (p .0 .normal) (p .1) in
-    (new .0, ap depth (chain-is-rs (s .station) f 4 (withDepth (oneAtLeast d)) (deep-gentle (oneAtLeast d) (g .few))) ∙ new .1))

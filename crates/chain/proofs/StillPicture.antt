@@ -9,7 +9,7 @@ use mathlib.Core.List.{List, [], _∷_, _++_}
 use borrow.Author.Tests.{ltb-false, leb-true, not-true}
 use lib.Dec.{leb}
 use lib.IntN.{ℤ}
-use lib.ListN.{length, take, drop, length-take, take-append-drop}
+use lib.ListN.{length, take, drop, length-take, length-append, length-map, take-append-drop}
 use lib.Seq.{length-take-le, take-at, take-take, take-append-le}
 use lib.Ieee.{Float, nan, inf, fin, up, down, lt, ofBits}
 use lib.Ieee.Exact.{HasValue}
@@ -17,11 +17,11 @@ use lib.Ieee.Fits.{up-pos}
 use lib.Ieee.Positive.{num, den}
 use lib.Ieee.Scale.{finite}
 use Rattle.num.specs.Const.{c0·0, c0·95}
-use Rattle.num.specs.Held.{nothing, area, sized}
+use Rattle.num.specs.Held.{Held, nothing, area, sized}
 use Rattle.num.specs.Refusals.{unless}
-use Rattle.passes.specs.Flow.{Flow}
-use Rattle.passes.specs.Fold.{fold}
+use Rattle.passes.specs.Flow.{Flow, flow}
 use Rattle.passes.specs.Laws.Lengths.{history-length}
+use Rattle.passes.specs.Painted.{painted}
 use Rattle.passes.specs.Plain.Persistence.{persistence, copies}
 use Rattle.passes.specs.Still.{Still}
 use Rattle.passes.specs.Laws.Still.Pictures.{still-itself, persistence-still}
@@ -29,9 +29,9 @@ use Rattle.passes.specs.Laws.Still.Places.{Full}
 use Rattle.cards.specs.Answers.{acceptance, ok, reply, refusing}
 use Rattle.chain.specs.Agree.{SameFirst, SameCall, frames}
 use Rattle.cards.specs.Alike.{chainOf}
-use Rattle.chain.specs.Calls.{hold, stops, lacks, Framed, framed, incoming, shown}
+use Rattle.chain.specs.Calls.{rechain, forget, stops, lacks, Framed, framed, shown}
 use Rattle.chain.specs.Calls.{shownBy, frameReplyBy}
-use Rattle.chain.specs.Chain.{overBy, turnBy, chain, depth, samplesIn}
+use Rattle.chain.specs.Chain.{overBy, turnBy, withHeld, Ran, chain, chainBy, depth, samplesIn}
 use Rattle.chain.specs.Machine.{Call, frame, reset, State, Seen, picture, call, after, saw}
 use Rattle.cards.specs.Normal.{negZero, settled, counted, normalPass, normalChain, goodStation}
 use Rattle.cards.specs.Records.{kinds, among}
@@ -40,6 +40,7 @@ use Rattle.cards.specs.declared.station.Record.{Record}
 use Rattle.cards.specs.declared.station.Pass.the-variants.{Persistence}
 use Rattle.cards.specs.declared.station.Station.{Station}
 use Rattle.num.specs.Laws.Bools.{false-true, both}
+use Rattle.chain.proofs.Changed.{retake}
 use Rattle.chain.proofs.Goes.{goes}
 use Rattle.cards.specs.Laws.Good.{good, headed}
 use Rattle.chain.proofs.Made.{made-is}
@@ -77,12 +78,12 @@ record Settings (amount : Float) (k : ℕ) : Type 0 where
   most : num amount ≤ den amount
   few : k ≤ 8
 
-settings : (s : Station) (on : Bool) (amount : Float) (k : ℕ) → chainOf s ≡ alone on amount k
+settings : (s : Station) (on : Bool) (amount : Float) (k : ℕ) (held : Held) → chainOf s ≡ alone on amount k held
     → goodStation s ≡ true → Settings amount k
 unfolding normalPass
-settings s on amount k e g =
+settings s on amount k held e g =
     let all = subst (λ (rs : List Record). normalChain [] rs ≡ true) e (good s g .normal) in
-    let n = headed [] (record { on = on; pass = Persistence amount k }) [] all .normal in
+    let n = headed [] (record { on = on; pass = Persistence amount k; held = held }) [] all .normal in
     let p = both (settled c0·0 c0·95 amount) (counted 8 k) n in
     let a = amount-fine amount (p .0) in
     record { own = a .0; most = a .1; few = leb-true k 8 (both (leb 1 k) (leb k 8) (p .1) .1) }
@@ -95,22 +96,32 @@ module _ (on : Bool) (amount : Float) (k w h : ℕ) (words : List ℕ) where
 
   -- all places hold the frame, if any frame of that size is held
   record Steady (s : State) : Type 0 where
-    is-alone : chainOf (s .station) ≡ alone on amount k
-    full : goodStation (s .station) ≡ true → 0 < h * w → s .station .held ≡ sized w h
-        → take (k * (h * w)) (s .history) ≡ copies k F
+    held : Held
+    is-alone : chainOf (s .station) ≡ alone on amount k held
+    full : goodStation (s .station) ≡ true → 0 < h * w → held ≡ sized w h → take (k * (h * w)) (s .history) ≡ copies k F
 
   -- a good station accepts the reset, and holds nothing then
-  after-reset : (s : State) → chainOf (s .station) ≡ alone on amount k → Steady (after reset s)
+  after-reset : (s : State) (held : Held) → chainOf (s .station) ≡ alone on amount k held → Steady (after reset s)
   unfolding after call unless lacks
-  after-reset s e = go (lacks (s .station) 4) refl
+  after-reset s held e = go (lacks (s .station) 4) refl
     where
       go : (n : ℕ) → lacks (s .station) 4 ≡ n
-          → Steady (record { station = unless n (refusing (s .station)) (reply (acceptance []) (hold nothing (s .station))) .station; history = s .history })
-      go zero z = record { is-alone = e; full = λ g p held. let none : 0 ≡ h * w = ap area held in absurd (omega arith) }
+          → Steady (record {
+            station = unless n (refusing (s .station)) (reply (acceptance []) (rechain (forget (chainOf (s .station))) (s .station))) .station;
+            history = s .history;
+          })
+      go zero z =
+          record {
+            held = nothing;
+            is-alone =
+                retake (s .station .n) (s .station .records) (forget (chainOf (s .station))) (length-map (chainOf (s .station)) (withHeld nothing)) ∙ ap forget e;
+            full = λ g p same. let none : 0 ≡ h * w = ap area same in absurd (omega arith);
+          }
       go (suc n) z =
           record {
+            held = held;
             is-alone = e;
-            full = λ g p held.
+            full = λ g p same.
                 let none : 0 ≡ suc n = (rw (g, ap (λ (rs : List Record). among 4 (kinds rs)) e) at z) in
                 absurd (omega arith);
           }
@@ -133,36 +144,49 @@ module _ (on : Bool) (amount : Float) (k w h : ℕ) (words : List ℕ) where
       (p .0, history-length amount k (sized w h) x fits, λ z. p .1)
   turned false x set long room full = (still-itself (x .frame .words), refl, full)
 
-  -- an accepted frame of which the chain made y
-  leaves : (s : State) (other : List ℕ) (lent samples : ℕ) (y : Flow) → Steady s → Still F (y .frame .words)
-      → length (y .frame .words) ≡ h * w → k * (h * w) ≤ length (y .past)
+  -- an accepted frame of which persistence made y with its places, which are the first words that are lent
+  leaves : (s : State) (other : List ℕ) (lent samples : ℕ) (y : Flow) (rest : List ℕ) → Steady s → Still F (y .frame .words)
+      → length (y .frame .words) ≡ h * w → length (y .past) ≡ k * (h * w)
       → (y .held ≡ sized w h → take (k * (h * w)) (y .past) ≡ copies k F)
-      → Gives lent s (framed (acceptance (y .frame .clipped ∷ samples ∷ [])) (hold (y .held) (s .station)) (y .frame .words ++ drop (h * w) other) (y .past))
-  leaves s other lent samples y t still long room full = (
+      → Gives lent s (framed (acceptance (y .frame .clipped ∷ samples ∷ [])) (rechain (alone on amount k (y .held)) (s .station))
+      (y .frame .words ++ drop (h * w) other) (y .past ++ rest))
+  leaves s other lent samples y rest t still long room full = (
     λ z. rw (take-at (y .frame .words) (drop (h * w) other) (h * w) long) still,
-    record { is-alone = t .is-alone; full = λ g p held. take-append-le (k * (h * w)) (y .past) (drop lent (s .history)) room ∙ full held },
+    record {
+      held = y .held;
+      is-alone = retake (s .station .n) (s .station .records) (alone on amount k (y .held)) (sym (ap length (t .is-alone)));
+      full = λ g p same.
+          take-append-le (k * (h * w)) (y .past ++ rest) (drop lent (s .history)) (omega (arith, length-append (y .past) rest))
+          ∙ take-append-le (k * (h * w)) (y .past) rest (omega arith) ∙ full same;
+    },
   )
 
   accepted : (s : State) (other : List ℕ) (lent floats ints : ℕ) (curve : List Float) → Steady s → SameFirst (h * w) words other
       → stops (s .station) w h (length other) (length (take lent (s .history))) floats ints curve ≡ 0
       → Gives lent s (shown w h (s .station) other (take lent (s .history)) curve)
-  unfolding shownBy fold turnBy overBy depth
+  unfolding shownBy chainBy turnBy overBy depth
   accepted s other lent floats ints curve t same z =
       let n = h * w in
       let past = take lent (s .history) in
-      let x : Flow = incoming w h (s .station) other past in
+      let x : Flow = flow (painted (take n other) 0) (t .held) (take (k * n) past) in
       let y : Flow = cond on (persistence amount k (sized w h) x) x in
       let g = goes (s .station) w h (length other) (length past) floats ints curve z in
       let one : F ≡ take n other = same .same-first (omega (arith, g .frame-room, same .same-length)) in
       let fits : length (take n other) ≡ n = length-take-le n other (g .frame-room) in
       let room : k * n ≤ length past = subst (λ (d : ℕ). d * n ≤ length past) (ap depth (t .is-alone) ∙ add-zero k) (g .past-room) in
+      let own : length (take (k * n) past) ≡ k * n = length-take-le (k * n) past room in
       let lends : k * n ≤ lent = omega (arith, length-take lent (s .history)) in
-      let p = turned on x (settings (s .station) on amount k (t .is-alone) (g .good)) fits room
-      (λ held. rw fits (take-take (k * n) lent (s .history) lends ∙ t .full (g .good) (mul-pos (g .high .0) (g .wide .0)) held ∙ ap (copies k) one)) in
+      let p = turned on x (settings (s .station) on amount k (t .held) (t .is-alone) (g .good)) fits (omega arith)
+      (λ held.
+      rw fits (take-take (k * n) (k * n) past (omega arith) ∙ take-take (k * n) lent (s .history) lends
+      ∙ t .full (g .good) (mul-pos (g .high .0) (g .wide .0)) held ∙ ap (copies k) one)) in
       subst
-      (λ (v : Flow). Gives lent s (framed (acceptance (v .frame .clipped ∷ samplesIn w h (chainOf (s .station)) ∷ [])) (hold (v .held) (s .station)) (v .frame .words ++ drop n other) (v .past)))
-      (sym (ap (λ (rs : List Record). chain w h curve rs x) (t .is-alone)))
-      (leaves s other lent (samplesIn w h (chainOf (s .station))) y t (rw one (p .0)) (p .0 .0 ∙ fits) (rw (p .1) room) (λ held. (rw fits at (p .2 held)) ∙ ap (copies k) (sym one)))
+      (λ (v : Ran).
+      Gives lent s (framed (acceptance (v .frame .clipped ∷ samplesIn w h (chainOf (s .station)) ∷ [])) (rechain (v .records) (s .station))
+      (v .frame .words ++ drop n other) (v .past)))
+      (sym (ap (λ (rs : List Record). chain w h curve rs (painted (take n other) 0) past) (t .is-alone)))
+      (leaves s other lent (samplesIn w h (chainOf (s .station))) y (drop (k * n) past) t (rw one (p .0)) (p .0 .0 ∙ fits) (p .1 ∙ own)
+      (λ held. (rw fits at (p .2 held)) ∙ ap (copies k) (sym one)))
 
   each : (s : State) (d : Call) (lent floats ints : ℕ) (curve : List Float) → Steady s → SameCall (frame w h words lent floats ints curve) d
       → (ok (call d s .gives .answer) ≡ true → Still F (call d s .gives .picture)) × Steady (after d s)
@@ -183,10 +207,10 @@ module _ (on : Bool) (amount : Float) (k w h : ℕ) (words : List ℕ) where
 
 pub stays-still : Stays-still
 unfolding saw
-stays-still s on amount k e w h words history floats ints curve cs same =
-    all on amount k w h words (after reset s) cs history floats ints curve (after-reset on amount k w h words s e) same
+stays-still s on amount k held e w h words history floats ints curve cs same =
+    all on amount k w h words (after reset s) cs history floats ints curve (after-reset on amount k w h words s held e) same
 
 pub stays-still-made : Stays-still-made
-stays-still-made s t on amount k e w h words history floats ints curve cs same gave made =
+stays-still-made s t on amount k held e w h words history floats ints curve cs same gave made =
     subst (λ (g : List Seen). AllStill (take (h * w) words) (drop 1 g)) (sym (made-is s t (reset ∷ cs) gave made .0))
-    (stays-still s on amount k e w h words history floats ints curve cs same)
+    (stays-still s on amount k held e w h words history floats ints curve cs same)

@@ -67,7 +67,7 @@ record-most w h r n = go (r .on)
     go true = pass-most w h (r .pass) n
     go false = zero-le
 
--- a number of 32 bits has room for those of ten records and more
+-- a number of 32 bits has room for those of twelve records and more
 pub record-few : (w h : ℕ) (r : Record) → normalPass (r .pass) ≡ true → w ≤ 1024 → h ≤ 1024 → recordSamples w h r ≤ 270532608
 record-few w h r n wide high = le-trans (record-most w h r n) (go (eqb (kindOf (r .pass)) 1) (eqb (kindOf (r .pass)) 2))
   where
@@ -90,15 +90,15 @@ summed-none w h n rs = record { near = zero-le; so-far = none _ _ _; few = omega
 module _ {w h n i : ℕ} {rs : List Record} {sum : ℕ} (t : Summed w h n i rs sum) where
   -- the record at i takes `taken`
   module _ (d : Record) {taken : ℕ} (e : taken ≡ recordSamples w h (getD rs i d)) (normal : normalPass (getD rs i d .pass) ≡ true) (wide : w ≤ 1024)
-      (high : h ≤ 1024) (l : i < n) (k : n ≤ 10) where
+      (high : h ≤ 1024) (l : i < n) (k : n ≤ 12) where
     few-taken : taken ≤ 270532608
     few-taken = subst (λ (m : ℕ). m ≤ 270532608) (sym e) (record-few w h (getD rs i d) normal wide high)
 
     -- which a number of 32 bits holds
-    pub summed-fits : sum + taken ≤ 2705326080
+    pub summed-fits : sum + taken ≤ 3246391296
     summed-fits = omega (arith, t .few, few-taken)
 
-    pub summed-more : length rs ≡ 10 → Summed w h n (i + 1) rs (sum + taken)
+    pub summed-more : length rs ≡ 12 → Summed w h n (i + 1) rs (sum + taken)
     summed-more long = record {
       near = omega arith;
       so-far = more (t .so-far) d (omega arith) (ap (λ (m : ℕ). sum + m) e);

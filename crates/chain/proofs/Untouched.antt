@@ -1,34 +1,36 @@
 -- What a refusal keeps, and what no frame and no new depth touches. Assumes nothing.
-use Prim.Native.Nat.{ℕ, zero, suc, _*_, _≤_}
-use mathlib.Core.Path.{_≡_, refl, ap, subst, _∙_}
+use Prim.Native.Nat.{ℕ, zero, suc, _*_}
+use mathlib.Core.Path.{_≡_, refl, ap, sym, _∙_}
 use mathlib.Core.Bool.{Bool, true, false, cond}
-use mathlib.Core.List.{List, [], _++_}
+use mathlib.Core.List.{List, [], _∷_, _++_, map-append}
+use lib.Dec.{eqb}
 use lib.Ieee.{Float}
 use lib.ListN.{length, take, drop, take-append-drop}
 use lib.Seq.{length-take-le, drop-at}
-use Rattle.num.specs.Held.{Held, sized, area, sameHeld}
+use Rattle.num.specs.Held.{area}
 use Rattle.num.specs.Refusals.{unless}
-use Rattle.passes.specs as Text
-use Rattle.passes.specs.Flow.{Flow, flow}
-use Rattle.passes.specs.Painted.{onto}
-use Rattle.passes.specs.Plain.Persistence.{persistence, blend, refilled, shifted}
-use Rattle.passes.specs.Laws.Persistence.{refilled-rest, shifted-rest, resized-front, resized-rest}
+use Rattle.passes.specs.Painted.{painted}
+use Rattle.passes.specs.Laws.Persistence.{resized-front, resized-rest}
 use Rattle.cards.specs.Alike.{chainOf}
 use Rattle.cards.specs.Answers.{Report, refusal, acceptance, reply, refusing}
 use Rattle.cards.specs.Laws.Answers.{accepted-not}
 use Rattle.chain.specs.Calls.{stops, lacks, askStops, commitStops, depthStops, Framed, framed}
-use Rattle.chain.specs.Calls.{refusingFrame, incoming, shown, shownBy, frameReplyBy, depthReply}
-use Rattle.chain.specs.Chain.{chain, depth}
+use Rattle.chain.specs.Calls.{refusingFrame, shown, shownBy, frameReplyBy, ofFirst, firstHeld, firstDepth, forget, withDepth, redepth, depthReply}
+use Rattle.chain.specs.Chain.{chain, depthOf, depth}
 use Rattle.chain.specs.Claims.{Refused-keeps, Untouched, Depth-leaves}
 use Rattle.chain.specs.Machine.{Call, frame, reset, switch, ask, commit, step, newDepth, State, call, after}
 use Rattle.cards.specs.Settings.{oneAtLeast}
+use Rattle.cards.specs.Passes.{kindOf}
+use Rattle.cards.specs.declared.station.Pass.{Pass}
 use Rattle.cards.specs.declared.station.Record.{Record}
 use Rattle.cards.specs.declared.station.Station.{Station}
-use Rattle.chain.proofs.Apart.{repaint, Apart, quiet, keeping, apart, frame-length}
-use Rattle.cards.specs.Laws.Good.{good}
+use Rattle.chain.proofs.Changed.{passes, redepth-shapes, retake}
 use Rattle.chain.proofs.Deeper.{deep-enough, deepens}
+use Rattle.chain.proofs.Fit.{same-long}
 use Rattle.chain.proofs.Goes.{goes}
+use Rattle.chain.proofs.PassCases.{deep-kind}
 use Rattle.chain.proofs.Sound.{by-stop}
+use Rattle.chain.proofs.Turns.{chain-frame, chain-passes, chain-past}
 
 -- ## A refusal
 
@@ -70,40 +72,11 @@ refused-keeps = (call-keeps, λ w h s words past floats ints curve k e. lent-kee
 
 -- ## What no frame touches
 
-persistence-rest : (amount : Float) (k : ℕ) (size : Held) (x : Flow) →
-    let words = x .frame .words in
-    k * length words ≤ length (x .past)
-    → drop (k * length words) (persistence amount k size x .past) ≡ drop (k * length words) (x .past)
-unfolding Text.Persistence.persistence
-persistence-rest amount k size x fits = of (sameHeld (x .held) size)
-  where
-    words : List ℕ
-    words = x .frame .words
-
-    of : (b : Bool)
-        → drop (k * length words)
-        (cond b (flow (onto (blend amount k (x .past)) (x .frame)) size (shifted k words (x .past))) (flow (x .frame) size (refilled k words (x .past))) .past)
-        ≡ drop (k * length words) (x .past)
-    of true = shifted-rest k words (x .past) fits
-    of false = refilled-rest k words (x .past)
-
--- a chain leaves the history past its places
-chain-rest : (w h : ℕ) (curve : List Float) (rs : List Record) → Apart rs → (x : Flow) → length (x .frame .words) ≡ h * w → depth rs * (h * w) ≤ length (x .past)
-    → drop (depth rs * (h * w)) (chain w h curve rs x .past) ≡ drop (depth rs * (h * w)) (x .past)
-chain-rest w h curve rs (quiet e a) x long fits = ap (λ (y : Flow). drop (depth rs * (h * w)) (y .past)) (a .whole w h curve x)
-chain-rest w h curve rs (keeping e a) x long fits =
-    let y : Flow = repaint (a .before w h curve) x in
-    let size : length (a .before w h curve (x .frame) .words) ≡ h * w = a .before-keeps w h curve (x .frame) ∙ long in
-    ap (λ (z : Flow). drop (depth rs * (h * w)) (z .past)) (a .whole w h curve x)
-    ∙ subst
-    (λ (n : ℕ). depth rs * n ≤ length (x .past) → drop (depth rs * n) (persistence (a .amount) (depth rs) (sized w h) y .past) ≡ drop (depth rs * n) (x .past)) size
-    (persistence-rest (a .amount) (depth rs) (sized w h) y) fits
-
 abbrev Stays : (w h : ℕ) → Station → (words past : List ℕ) → Framed → Type 0
 Stays w h s words past r =
     (drop (h * w) (r .words) ≡ drop (h * w) words)
     × (drop (depth (chainOf s) * (h * w)) (r .past) ≡ drop (depth (chainOf s) * (h * w)) past)
-    × (r .station .records ≡ s .records)
+    × (passes (r .station .records) ≡ passes (s .records))
 
 stays : (w h : ℕ) (s : Station) (words past : List ℕ) (floats ints : ℕ) (curve : List Float) (n : ℕ)
     → stops s w h (length words) (length past) floats ints curve ≡ n
@@ -111,12 +84,15 @@ stays : (w h : ℕ) (s : Station) (words past : List ℕ) (floats ints : ℕ) (c
 unfolding unless shownBy
 stays w h s words past floats ints curve zero e =
     let g = goes s w h (length words) (length past) floats ints curve e in
-    let a = apart (chainOf s) (good s (g .good) .normal) in
-    let x = incoming w h s words past in
-    let long : length (take (h * w) words) ≡ h * w = length-take-le (h * w) words (g .frame-room) in (
-      drop-at (chain w h curve (chainOf s) x .frame .words) (drop (h * w) words) (h * w) (frame-length w h curve (chainOf s) a x ∙ long),
-      chain-rest w h curve (chainOf s) a x long (g .past-room),
-      refl,
+    let frame = painted (take (h * w) words) 0 in
+    let long : length (take (h * w) words) ≡ h * w = length-take-le (h * w) words (g .frame-room) in
+    let X = chain w h curve (chainOf s) frame past in (
+      drop-at (X .frame .words) (drop (h * w) words) (h * w) (chain-frame w h curve (chainOf s) frame past ∙ long),
+      chain-past w h curve (chainOf s) frame past long (g .past-room) .1,
+      map-append (λ r. r .pass) (X .records) (drop (s .n) (s .records))
+          ∙ ap (λ (l : List Pass). l ++ passes (drop (s .n) (s .records))) (chain-passes w h curve (chainOf s) frame past)
+          ∙ sym (map-append (λ r. r .pass) (chainOf s) (drop (s .n) (s .records)))
+          ∙ ap passes (take-append-drop (s .n) (s .records)),
     )
 stays w h s words past floats ints curve (suc n) e = (refl, refl, refl)
 
@@ -126,15 +102,30 @@ untouched w h s words past floats ints curve = stays w h s words past floats int
 
 -- ## What no new depth touches
 
+-- the first persistence holds what it held
+redepth-held : (d : ℕ) (rs : List Record) → firstHeld (redepth d rs) ≡ firstHeld rs
+unfolding ofFirst redepth
+redepth-held d [] = refl
+redepth-held d (r ∷ rs) = go (eqb (kindOf (r .pass)) 4) refl (redepth-held d rs)
+  where
+    go : (b : Bool) → eqb (kindOf (r .pass)) 4 ≡ b → firstHeld (redepth d rs) ≡ firstHeld rs
+        → firstHeld (cond b (withDepth d r ∷ cond (eqb d (depthOf (r .pass))) rs (forget rs)) (r ∷ redepth d rs)) ≡ cond b (r .held) (firstHeld rs)
+    go true z ih = rw (deep-kind d (r .pass), z)
+    go false z ih = rw z ih
+
 pub depth-leaves : Depth-leaves
 unfolding depthReply
 depth-leaves d s past =
-    let count = area (s .held) in
+    let count = area (firstHeld (chainOf s)) in
     by-stop
-    (λ r. (take (depth (chainOf s) * count) (r .past) ≡ take (depth (chainOf s) * count) past)
-    × (drop (oneAtLeast d * count) (r .past) ≡ drop (oneAtLeast d * count) past) × (r .station .held ≡ s .held))
+    (λ r. (take (firstDepth (chainOf s) * count) (r .past) ≡ take (firstDepth (chainOf s) * count) past)
+    × (drop (oneAtLeast d * count) (r .past) ≡ drop (oneAtLeast d * count) past) × (firstHeld (chainOf (r .station)) ≡ firstHeld (chainOf s)))
     _ s [] past _ (refl, refl, refl)
     (λ z.
     let g = deepens s d (length past) z in
     let some = deep-enough s (g .there) in
-    (resized-front _ (oneAtLeast d) count past some (g .room), resized-rest _ (oneAtLeast d) count past some (g .room), refl))
+    let new = redepth (oneAtLeast d) (chainOf s) in (
+      resized-front _ (oneAtLeast d) count past some (g .room),
+      resized-rest _ (oneAtLeast d) count past some (g .room),
+      ap firstHeld (retake (s .n) (s .records) new (same-long new (chainOf s) (redepth-shapes (oneAtLeast d) (g .few) (chainOf s)))) ∙ redepth-held (oneAtLeast d) (chainOf s),
+    ))

@@ -11,7 +11,7 @@ use Rattle.chain.specs.Answers.{reportedFrame, called, calledWith, cycle
 use Rattle.cards.specs.Answers.{ok}
 use Rattle.chain.specs.Calls.{resetReply, switchReply, askReply, commitReply, stepReply, presets, depthReply}
 use Rattle.cards.specs.Card.{accepted, openOf}
-use Rattle.chain.specs.Chain.{depth, depths}
+use Rattle.chain.specs.Chain.{depthOn, depths}
 use Rattle.chain.specs.Machine.{Call, frame, reset, switch, ask, commit, step, newDepth, State, Seen, seen, picture, lend, still, call, after, run, saw}
 use Rattle.cards.specs.Normal.{persists}
 use Rattle.cards.specs.Written.{cardOf}
@@ -65,11 +65,11 @@ Lends n (c ∷ cs) = (lent c ≤ n) × Lends n cs
 
 -- ## The point of agreement
 
--- persistence is in the chain and on
+-- a persistence is in the chain and on
 abbrev pub on : State → Bool
 on s = persists (chainOf (s .station))
 
--- persistence takes each accepted frame that comes while it is on
+-- an accepted frame that comes while one is on is taken
 abbrev pub takes : State → Call → Bool
 takes s (frame w h words history floats ints curve) = on s && ok (call (frame w h words history floats ints curve) s .gives .answer)
 takes s reset = false
@@ -79,7 +79,7 @@ takes s commit = false
 takes s step = false
 takes s (newDepth d history) = false
 
--- an accepted call that switches persistence from on to off
+-- an accepted call after which none is on, where one was
 abbrev pub switchesOff : State → Call → Bool
 switchesOff s c = ok (call c s .gives .answer) && (on s && not (on (after c s)))
 
@@ -103,9 +103,9 @@ changes s commit = false
 changes s step = false
 changes s (newDepth d history) = ok (call (newDepth d history) s .gives .answer)
 
--- how many frames have still to be taken after a call, of k before it: a change of depth starts the count anew, with the new depth
+-- how many frames have still to be taken after a call, of k before it: a change of depth starts the count anew, with the depths of those that are on then
 abbrev pub due : ℕ → State → Call → ℕ
-due k s c = cond (changes s c) (depth (chainOf (after c s .station))) (cond (takes s c) (k - 1) k)
+due k s c = cond (changes s c) (depthOn (chainOf (after c s .station))) (cond (takes s c) (k - 1) k)
 
 -- How many calls come before the point, while k frames have still to be taken. Where one station accepts a change of depth and the other
 -- refuses it, since it holds larger frames, the list has no point: all of its calls come before.
@@ -116,10 +116,10 @@ before k s t (c ∷ cs) (d ∷ ds) =
     cond (eqb k 0 || ends s c) 0
     (suc (cond (Bool·beq (changes s c) (changes t d)) (before (due k s c) (after c s) (after d t) cs ds) (length cs)))
 
--- the first call where persistence is off or absent; else the call after the K-th frame that it takes since the list began or the depth
--- was changed, or the first reset or switching-off, if that comes sooner
+-- the first call where no persistence is on; else the call after as many taken frames, since the list began or the depth was changed, as the
+-- depths of those that were on then come to, or the first reset or switching-off, if that comes sooner
 unfoldable pub point : (s t : State) → (cs ds : List Call) → ℕ
-point s t cs ds = cond (on s) (before (depth (chainOf (s .station))) s t cs ds) 0
+point s t cs ds = cond (on s) (before (depthOn (chainOf (s .station))) s t cs ds) 0
 
 -- ## The agreement of two plain machines
 

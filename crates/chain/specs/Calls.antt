@@ -1,7 +1,7 @@
 -- The calls on a station: what each refuses, what it answers, and what it leaves. Assumes nothing.
 use Prim.Native.Nat.{ℕ, _+_, _*_}
 use mathlib.Core.Bool.{Bool, true, false, not, _&&_, _||_, cond}
-use mathlib.Core.List.{List, [], _∷_, _++_}
+use mathlib.Core.List.{List, [], _∷_, _++_, map}
 use lib.Dec.{eqb, ltb}
 use lib.Ieee.{Float}
 use lib.ListN.{length, take, drop}
@@ -9,12 +9,11 @@ use Rattle.num.specs.Held.{Held, nothing, area}
 use Rattle.num.specs.Refusals.{badSide, unless}
 use Rattle.passes.specs.Arith.{Arith, plain}
 use Rattle.passes.specs.ColorCorrection.{goodCurve}
-use Rattle.passes.specs.Flow.{Flow, flow}
 use Rattle.passes.specs.Painted.{painted}
 use Rattle.passes.specs.Persistence.{resized}
 use Rattle.cards.specs.Alike.{chainOf}
 use Rattle.cards.specs.Answers.{Report, refusal, acceptance, Reply, reply, refusing}
-use Rattle.chain.specs.Chain.{chainBy, depth, readsCurve, samplesIn}
+use Rattle.chain.specs.Chain.{Ran, withHeld, chainBy, depthOf, depth, readsCurve, samplesIn}
 use Rattle.cards.specs.Normal.{goodStation}
 use Rattle.cards.specs.Passes.{kindOf}
 use Rattle.cards.specs.Records.{kinds, among}
@@ -28,17 +27,13 @@ use Rattle.cards.specs.declared.station.Station.{Station}
 
 -- ## A station that is changed
 
--- in what its history holds
-abbrev pub hold : Held → Station → Station
-hold held s = record { records = s .records; n = s .n; held = held; pending = s .pending }
-
 -- in the records of its chain; those past n stay
 abbrev pub rechain : List Record → Station → Station
-rechain rs s = record { records = rs ++ drop (s .n) (s .records); n = s .n; held = s .held; pending = s .pending }
+rechain rs s = record { records = rs ++ drop (s .n) (s .records); n = s .n; pending = s .pending }
 
 -- in what is asked of it
 abbrev pub pend : Pending → Station → Station
-pend pending s = record { records = s .records; n = s .n; held = s .held; pending = pending }
+pend pending s = record { records = s .records; n = s .n; pending = pending }
 
 -- ## Refusals: a number of the papers' tables, 0 for none
 
@@ -73,9 +68,21 @@ askStops s kind = unless (lacks s kind) (λ k. k) (cond (waits (s .pending)) 17 
 unfoldable pub commitStops : Station → ℕ
 commitStops s = cond (not (goodStation s)) 13 (cond (waits (s .pending)) 0 18)
 
--- of a new depth, by the length of the history that is lent: where nothing is held no word of it is asked for
+-- what f tells of the first record of that kind, d where there is none
+unfoldable pub ofFirst : {X : Type 0} → ℕ → X → (Record → X) → List Record → X
+ofFirst kind d f [] = d
+ofFirst kind d f (r ∷ rs) = cond (eqb (kindOf (r .pass)) kind) (f r) (ofFirst kind d f rs)
+
+-- of the first persistence, what it holds, and its depth
+abbrev pub firstHeld : List Record → Held
+firstHeld = ofFirst 4 nothing (λ r. r .held)
+
+abbrev pub firstDepth : List Record → ℕ
+firstDepth = ofFirst 4 0 (λ r. depthOf (r .pass))
+
+-- of a new depth, by the length of the history that is lent: where the first persistence holds nothing no word of it is asked for
 unfoldable pub depthStops : Station → (d history : ℕ) → ℕ
-depthStops s d history = unless (lacks s 4) (λ k. k) (cond (ltb 8 d) 6 (cond (ltb history (oneAtLeast d * area (s .held))) 10 0))
+depthStops s d history = unless (lacks s 4) (λ k. k) (cond (ltb 8 d) 6 (cond (ltb history (oneAtLeast d * area (firstHeld (chainOf s)))) 10 0))
 
 -- ## Reset, switch, asking and committing, preset step
 
@@ -84,18 +91,23 @@ unfoldable pub onFirst : ℕ → (Record → Record) → List Record → List Re
 onFirst kind f [] = []
 onFirst kind f (r ∷ rs) = cond (eqb (kindOf (r .pass)) kind) (f r ∷ rs) (r ∷ onFirst kind f rs)
 
+-- no record holds anything
+abbrev pub forget : List Record → List Record
+forget = map (withHeld nothing)
+
+-- those from a place on
+abbrev pub forgetFrom : ℕ → Station → Station
+forgetFrom i s = rechain (take i (chainOf s) ++ forget (drop i (chainOf s))) s
+
 abbrev pub resetReply : Station → Reply
-resetReply s = unless (lacks s 4) (refusing s) (reply (acceptance []) (hold nothing s))
+resetReply s = unless (lacks s 4) (refusing s) (reply (acceptance []) (rechain (forget (chainOf s)) s))
 
+-- one that is off holds nothing
 abbrev pub withSwitch : Bool → Record → Record
-withSwitch on r = record { on = on; pass = r .pass }
-
--- persistence that is off holds nothing
-abbrev pub heldAfter : ℕ → Bool → Held → Held
-heldAfter kind on held = cond (eqb kind 4 && not on) nothing held
+withSwitch on r = record { on = on; pass = r .pass; held = cond on (r .held) nothing }
 
 abbrev pub switched : ℕ → Bool → Station → Station
-switched kind on s = hold (heldAfter kind on (s .held)) (rechain (onFirst kind (withSwitch on) (chainOf s)) s)
+switched kind on s = rechain (onFirst kind (withSwitch on) (chainOf s)) s
 
 abbrev pub switchReply : ℕ → Bool → Station → Reply
 switchReply kind on s = unless (lacks s kind) (refusing s) (reply (acceptance []) (switched kind on s))
@@ -129,7 +141,7 @@ steppedPass (Vignette strength) = Vignette strength
 steppedPass (Scanlines strength) = Scanlines strength
 
 abbrev pub stepped : Record → Record
-stepped r = record { on = r .on; pass = steppedPass (r .pass) }
+stepped r = record { on = r .on; pass = steppedPass (r .pass); held = r .held }
 
 abbrev pub presetOf : Pass → List ℕ
 presetOf (Ntsc strength bleed) = []
@@ -157,20 +169,15 @@ stepReply s = unless (lacks s 5) (refusing s) (reply (acceptance (presets (stepL
 
 -- ## Questions: what stands now. No station is given back, so they are no calls of the plain machine (Machine)
 
--- what f tells of the first record of that kind
-unfoldable pub ofFirst : ℕ → (Record → List ℕ) → List Record → List ℕ
-ofFirst kind f [] = []
-ofFirst kind f (r ∷ rs) = cond (eqb (kindOf (r .pass)) kind) (f r) (ofFirst kind f rs)
-
 -- on is 1, off is 0
 abbrev pub switchOf : Record → List ℕ
 switchOf r = cond (r .on) 1 0 ∷ []
 
 abbrev pub enabledReport : ℕ → Station → Report
-enabledReport kind s = unless (lacks s kind) refusal (acceptance (ofFirst kind switchOf (chainOf s)))
+enabledReport kind s = unless (lacks s kind) refusal (acceptance (ofFirst kind [] switchOf (chainOf s)))
 
 abbrev pub presetReport : Station → Report
-presetReport s = unless (lacks s 5) refusal (acceptance (ofFirst 5 (λ r. presetOf (r .pass)) (chainOf s)))
+presetReport s = unless (lacks s 5) refusal (acceptance (ofFirst 5 [] (λ r. presetOf (r .pass)) (chainOf s)))
 
 -- of how many samples a frame of that size takes, no frame given: it asks for a good station and for two sides, as a frame does first
 unfoldable pub samplesStops : Station → (w h : ℕ) → ℕ
@@ -195,16 +202,13 @@ framed answer s words past = record { answer = answer; station = s; words = word
 abbrev pub refusingFrame : Station → (words past : List ℕ) → ℕ → Framed
 refusingFrame s words past k = framed (refusal k) s words past
 
-abbrev pub incoming : (w h : ℕ) → Station → (words past : List ℕ) → Flow
-incoming w h s words past = flow (painted (take (h * w) words) 0) (s .held) past
-
 module _ (A : Arith) (w h : ℕ) where
   -- an accepted frame: the chain runs over the first count words of the framebuffer, and it reports how many channels the
   -- passes that are on clipped, and how many samples their blurs took
   unfoldable pub shownBy : Station → (words past : List ℕ) → (curve : List Float) → Framed
   shownBy s words past curve =
-      let x : Flow = chainBy A w h curve (chainOf s) (incoming w h s words past) in
-      framed (acceptance (x .frame .clipped ∷ samplesIn w h (chainOf s) ∷ [])) (hold (x .held) s) (x .frame .words ++ drop (h * w) words) (x .past)
+      let x : Ran = chainBy A w h curve (chainOf s) (painted (take (h * w) words) 0) past in
+      framed (acceptance (x .frame .clipped ∷ samplesIn w h (chainOf s) ∷ [])) (rechain (x .records) s) (x .frame .words ++ drop (h * w) words) (x .past)
 
   -- `floats` and `ints` are the lengths of the scratches
   unfoldable pub frameReplyBy : Station → (words past : List ℕ) → (floats ints : ℕ) → (curve : List Float) → Framed
@@ -234,14 +238,17 @@ deepPass d (Vignette strength) = Vignette strength
 deepPass d (Scanlines strength) = Scanlines strength
 
 abbrev pub withDepth : ℕ → Record → Record
-withDepth d r = record { on = r .on; pass = deepPass d (r .pass) }
+withDepth d r = record { on = r .on; pass = deepPass d (r .pass); held = r .held }
 
-abbrev pub redepth : ℕ → List Record → List Record
-redepth d = onFirst 4 (withDepth d)
+-- the first persistence gets it; where it is another, each history behind it begins elsewhere, and is forgotten
+unfoldable pub redepth : ℕ → List Record → List Record
+redepth d [] = []
+redepth d (r ∷ rs) =
+    cond (eqb (kindOf (r .pass)) 4) (withDepth d r ∷ cond (eqb d (depthOf (r .pass))) rs (forget rs)) (r ∷ redepth d rs)
 
--- by the card's rule; no framebuffer is lent, and of the history as many places as there are then are written
+-- by the card's rule; no framebuffer is lent, and of the history as many places as the first persistence has then are written
 unfoldable pub depthReply : (d : ℕ) → Station → (past : List ℕ) → Framed
 depthReply d s past =
     unless (depthStops s d (length past)) (refusingFrame s [] past)
     (framed (acceptance []) (rechain (redepth (oneAtLeast d) (chainOf s)) s) []
-    (resized (depth (chainOf s)) (oneAtLeast d) (area (s .held)) past))
+    (resized (firstDepth (chainOf s)) (oneAtLeast d) (area (firstHeld (chainOf s))) past))

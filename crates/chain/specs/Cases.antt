@@ -1,5 +1,6 @@
--- The cases of the refusals of the calls, of what a frame reports, of frames with a curve, of turned frames, of switches that are asked for, and of a new
--- depth. Each list pairs what a definition gives with what it should give, and one proof by computation holds the whole list. Assumes nothing.
+-- The cases of the refusals of the calls, of what a frame reports, of frames with a curve, of turned frames, of switches that are asked for, of a new
+-- depth, and of two glows. Each list pairs what a definition gives with what it should give, and one proof by computation holds the whole list. Assumes
+-- nothing.
 use Prim.Native.Nat.{ℕ, _+_, _*_}
 use mathlib.Core.Bool.{Bool, true, false}
 use mathlib.Core.List.{List, [], _∷_, map}
@@ -20,12 +21,13 @@ use Rattle.passes.specs.Plain.Persistence as Persistence
 use Rattle.cards.specs.Alike.{chainOf}
 use Rattle.cards.specs.Answers.{Report, refusal, acceptance}
 use Rattle.cards.specs.Card.{stationOf}
-use Rattle.cards.specs.Normal.{settled, normalPass, normalChain, persists, goodStation}
-use Rattle.chain.specs.Calls.{floatRoom, hold, pend, stops, lacks, askStops, commitStops, onFirst, shownBy, frameReply, frameReplyBy}
-use Rattle.chain.specs.Calls.{samplesStops, samplesReport, depthStops, depthReply}
+use Rattle.cards.specs.Normal.{settled, normalPass, normalChain, heldBy, holding, goodStation}
+use Rattle.cards.specs.Records.{carded}
+use Rattle.chain.specs.Calls.{floatRoom, rechain, pend, stops, lacks, askStops, commitStops, ofFirst, onFirst, shownBy, frameReply, frameReplyBy}
+use Rattle.chain.specs.Calls.{samplesStops, samplesReport, depthStops, redepth, depthReply}
 use Rattle.chain.specs.Agree.{opened}
 use Rattle.passes.specs.Samples.{samples, ntscSamples, bloomSamples}
-use Rattle.chain.specs.Chain.{wash, overBy, turnBy, depth, depths, readsCurve, recordSamples, samplesIn}
+use Rattle.chain.specs.Chain.{wash, overBy, turnBy, withHeld, chainBy, depth, depths, readsCurve, recordSamples, samplesIn}
 use Rattle.chain.specs.Machine.{Call, frame, reset, switch, ask, commit, step, newDepth, State, call, after, run, saw}
 use Rattle.cards.specs.declared.station.Pass.the-variants.{Ntsc, Bloom, Persistence, Lut, ColorCorrection, Scanlines}
 use Rattle.cards.specs.declared.station.Pending.{Pending}
@@ -35,23 +37,35 @@ use Rattle.cards.specs.declared.station.Station.{Station}
 
 -- persistence of depth 8, on and off, and scanlines
 abbrev kept : Bool → Station
-kept on = stationOf (record { on = on; pass = Persistence c0·0 8 } ∷ record { on = true; pass = Scanlines c0·0 } ∷ [])
+kept on = stationOf (carded on (Persistence c0·0 8) ∷ carded true (Scanlines c0·0) ∷ [])
+
+-- whose first persistence holds frames of that size
+abbrev remembering : Held → Station → Station
+remembering held s = rechain (onFirst 4 (withHeld held) (chainOf s)) s
+
+-- three persistence of depth 8 that hold frames of these sizes
+abbrev glowing : (first second third : Held) → Station
+glowing first second third =
+    let glow : Record = carded true (Persistence c0·0 8) in
+    stationOf (withHeld first glow ∷ withHeld second glow ∷ withHeld third glow ∷ [])
 
 -- Frames: a doubled kind, kinds out of order, a size remembered while persistence is off, a remembered side of 1025, and one side of 0 beside another
 -- (13), and sides of 1024 remembered; a side of 0 and of 1025 (8), and 1024 taken; a framebuffer of one word too few (9); a history
--- of one word too few, on and off (10); one f32 word too few, and one u32 word (11); nothing too few. The first that holds is given.
+-- of one word too few, on and off (10); one f32 word too few, and one u32 word (11); nothing too few. The first that holds is given. With
+-- three persistence: two remembered sizes that differ, at each place (13), one size remembered by two of them, and by all; the history has room for 24 frames,
+-- whatever is remembered, or one word too few (10).
 -- Other calls: on a bad station (13), on a kind that is not there, and that no pass has (12), and on one that is there; a station of which a switch of
 -- a pass is asked that it has not, and of one that no chain has (13), and of one that it has.
 abbrev pub stopped : List (ℕ × ℕ)
 stopped =
-    (stops (stationOf (record { on = true; pass = Scanlines c0·0 } ∷ record { on = false; pass = Scanlines c0·0 } ∷ [])) 0 0 0 0 0 0 [], 13)
-    ∷ (stops (stationOf (record { on = true; pass = Scanlines c0·0 } ∷ record { on = true; pass = Persistence c0·0 8 } ∷ [])) 1 1 1 8 6 1 [], 13)
-    ∷ (stops (hold (sized 1 1) (kept false)) 0 0 0 0 0 0 [], 13)
-    ∷ (stops (hold (sized 1025 1) (kept true)) 1 1 1 8 6 1 [], 13)
-    ∷ (stops (hold (sized 1 1025) (kept true)) 1 1 1 8 6 1 [], 13)
-    ∷ (stops (hold (sized 0 1) (kept true)) 1 1 1 8 6 1 [], 13)
-    ∷ (stops (hold (sized 1 0) (kept true)) 1 1 1 8 6 1 [], 13)
-    ∷ (stops (hold (sized 1024 1024) (kept true)) 1 1 1 8 6 1 [], 0)
+    (stops (stationOf (carded true (Scanlines c0·0) ∷ carded false (Scanlines c0·0) ∷ [])) 0 0 0 0 0 0 [], 13)
+    ∷ (stops (stationOf (carded true (Scanlines c0·0) ∷ carded true (Persistence c0·0 8) ∷ [])) 1 1 1 8 6 1 [], 13)
+    ∷ (stops (remembering (sized 1 1) (kept false)) 0 0 0 0 0 0 [], 13)
+    ∷ (stops (remembering (sized 1025 1) (kept true)) 1 1 1 8 6 1 [], 13)
+    ∷ (stops (remembering (sized 1 1025) (kept true)) 1 1 1 8 6 1 [], 13)
+    ∷ (stops (remembering (sized 0 1) (kept true)) 1 1 1 8 6 1 [], 13)
+    ∷ (stops (remembering (sized 1 0) (kept true)) 1 1 1 8 6 1 [], 13)
+    ∷ (stops (remembering (sized 1024 1024) (kept true)) 1 1 1 8 6 1 [], 0)
     ∷ (stops (kept true) 0 1 0 0 0 0 [], 8)
     ∷ (stops (kept true) 1 0 0 0 0 0 [], 8)
     ∷ (stops (kept true) 1025 1 1025 8200 6150 1025 [], 8)
@@ -63,7 +77,13 @@ stopped =
     ∷ (stops (kept true) 3 2 6 48 26 6 [], 11)
     ∷ (stops (kept true) 3 2 6 48 27 5 [], 11)
     ∷ (stops (kept true) 3 2 6 48 27 6 [], 0)
-    ∷ (lacks (hold (sized 1 1) (kept false)) 4, 13)
+    ∷ (stops (glowing (sized 1 1) (sized 1 2) nothing) 1 1 1 24 6 1 [], 13)
+    ∷ (stops (glowing (sized 1 1) nothing (sized 2 1)) 1 1 1 24 6 1 [], 13)
+    ∷ (stops (glowing nothing (sized 1 1) (sized 2 1)) 1 1 1 24 6 1 [], 13)
+    ∷ (stops (glowing nothing (sized 2 1) (sized 2 1)) 1 1 1 24 6 1 [], 0)
+    ∷ (stops (glowing (sized 2 1) (sized 2 1) (sized 2 1)) 1 1 1 24 6 1 [], 0)
+    ∷ (stops (glowing nothing nothing nothing) 1 1 1 23 6 1 [], 10)
+    ∷ (lacks (remembering (sized 1 1) (kept false)) 4, 13)
     ∷ (lacks (kept false) 5, 12)
     ∷ (lacks (kept false) 11, 12)
     ∷ (lacks (kept false) 4, 0)
@@ -73,7 +93,7 @@ stopped =
     ∷ []
 
 pub stopped-hold : Hold stopped
-unfolding stops lacks badSide goodStation fineHeld sameHeld normalChain normalPass settled persists depth readsCurve ofBits lt
+unfolding stops lacks onFirst badSide goodStation fineHeld sameHeld normalChain normalPass settled heldBy holding depth readsCurve ofBits lt
 stopped-hold = refl
 
 -- How many f32 words of scratch a frame asks for (request P6): six for a frame of one word; at height 1 six for each word; at 256 by 240 half of
@@ -89,7 +109,7 @@ rooms-hold = refl
 -- black, which comes to lie exactly at the end; each alone the same. Persistence at 0.3 clips all six where its history is white, and
 -- none when it refills it. A refusal reports its number alone.
 abbrev reportOf : List Record → (held : Held) → (words past : List ℕ) → Report
-reportOf rs held words past = frameReply 2 1 (hold held (stationOf rs)) words past 12 2 [] .answer
+reportOf rs held words past = frameReply 2 1 (remembering held (stationOf rs)) words past 12 2 [] .answer
 
 abbrev ends : List ℕ
 ends = 0 ∷ 0xffffff ∷ []
@@ -98,10 +118,10 @@ abbrev white : List ℕ
 white = 0xffffff ∷ 0xffffff ∷ []
 
 abbrev toned : (lut colour : Bool) → List Record
-toned lut colour = record { on = lut; pass = Lut 6 c1·0 } ∷ record { on = colour; pass = ColorCorrection c1·0 c1·0 c1·0 c1·0 } ∷ []
+toned lut colour = carded lut (Lut 6 c1·0) ∷ carded colour (ColorCorrection c1·0 c1·0 c1·0 c1·0) ∷ []
 
 abbrev mixing : List Record
-mixing = record { on = true; pass = Persistence c0·30 1 } ∷ record { on = true; pass = Scanlines c1·0 } ∷ []
+mixing = carded true (Persistence c0·30 1) ∷ carded true (Scanlines c1·0) ∷ []
 
 abbrev pub reports : List (Report × Report)
 reports =
@@ -116,8 +136,8 @@ reports =
     ∷ []
 
 pub reports-hold : Hold reports
-unfolding frameReplyBy unless shownBy stops badSide goodStation fineHeld sameHeld normalChain normalPass settled persists depth readsCurve
-    recordSamples fold turnBy overBy wash ofBits ofInt add sub mul div neg lt clampOf cutOf rewrite sum converted Text.Pixel.unpack Text.Pixel.unit
+unfolding frameReplyBy unless shownBy onFirst stops badSide goodStation fineHeld sameHeld normalChain normalPass settled heldBy holding depth readsCurve
+    recordSamples fold chainBy turnBy overBy wash ofBits ofInt add sub mul div neg lt clampOf cutOf rewrite sum converted Text.Pixel.unpack Text.Pixel.unit
     Text.Pixel.pack Text.Pixel.packClamped Text.Pixel.packUnit Text.Pixel.clip Text.Pixel.clips Text.Pixel.dim Text.Pixel.luma709
     Text.ColorCorrection.colorCorrection Text.ColorCorrection.curved Text.ColorCorrection.start Text.ColorCorrection.colour eq ne
     Text.Lut.lut Text.Lut.colour Text.Lut.transform
@@ -129,7 +149,7 @@ reports-hold = refl
 -- The samples that a chain's blurs take (request P9). Two words in one row: each is inside for both, at radius 1 and above; a column of one has one.
 -- The largest total, by both blurs at 64.
 abbrev blurring : (ntsc bloom : Bool) → ℕ → List Record
-blurring ntsc bloom r = record { on = ntsc; pass = Ntsc c1·0 r } ∷ record { on = bloom; pass = Bloom 0 c1·0 r } ∷ []
+blurring ntsc bloom r = carded ntsc (Ntsc c1·0 r) ∷ carded bloom (Bloom 0 c1·0 r) ∷ []
 
 abbrev pub taken : List (ℕ × ℕ)
 taken =
@@ -152,18 +172,18 @@ questions =
     ∷ (samplesReport 1024 1024 (stationOf []), acceptance (0 ∷ []))
     ∷ (samplesReport 0 1 (stationOf []), refusal 8)
     ∷ (samplesReport 1 1025 (stationOf []), refusal 8)
-    ∷ (samplesReport 0 1025 (hold (sized 1 1) (kept false)), refusal 13)
+    ∷ (samplesReport 0 1025 (remembering (sized 1 1) (kept false)), refusal 13)
     ∷ []
 
 pub questions-hold : Hold questions
-unfolding samplesStops unless badSide goodStation fineHeld sameHeld normalChain normalPass settled persists ofBits lt fold recordSamples samples ntscSamples
-    bloomSamples
+unfolding samplesStops onFirst unless badSide goodStation fineHeld sameHeld normalChain normalPass settled heldBy holding ofBits lt fold recordSamples samples
+    ntscSamples bloomSamples
 questions-hold = refl
 
 -- Frames with a curve (request P3): of one word, with all that is lent but the curve. Gamma 1.0 needs none, whatever is lent. At gamma 2, on or off, 255
 -- words are too few, and one step above 1 is bad (16), but not past the 256 words that are read. Scratch is asked for first (11).
 abbrev tinted : Bool → Float → Station
-tinted on gamma = stationOf (record { on = on; pass = ColorCorrection c0·0 c1·0 c1·0 gamma } ∷ [])
+tinted on gamma = stationOf (carded on (ColorCorrection c0·0 c1·0 c1·0 gamma) ∷ [])
 
 abbrev above : Float
 above = ofBits binary32 0x3f80_0001
@@ -185,7 +205,7 @@ curved =
     ∷ []
 
 pub curved-hold : Hold curved
-unfolding times stops badSide goodStation fineHeld sameHeld normalChain normalPass settled persists depth readsCurve Text.ColorCorrection.curved
+unfolding times stops badSide goodStation fineHeld sameHeld normalChain normalPass settled heldBy holding depth readsCurve Text.ColorCorrection.curved
     Text.ColorCorrection.goodCurve Text.ColorCorrection.allInUnit Text.ColorCorrection.inUnit ofBits lt le eq ne neg
 curved-hold = refl
 
@@ -197,8 +217,8 @@ tints =
     ∷ []
 
 pub tints-hold : Hold tints
-unfolding times frameReplyBy unless shownBy stops badSide goodStation fineHeld sameHeld normalChain normalPass settled persists depth readsCurve
-    Text.ColorCorrection.goodCurve Text.ColorCorrection.allInUnit Text.ColorCorrection.inUnit fold turnBy overBy wash ofBits ofInt add sub mul div
+unfolding times frameReplyBy unless shownBy stops badSide goodStation fineHeld sameHeld normalChain normalPass settled heldBy holding depth readsCurve
+    Text.ColorCorrection.goodCurve Text.ColorCorrection.allInUnit Text.ColorCorrection.inUnit fold chainBy turnBy overBy wash ofBits ofInt add sub mul div
     neg lt le eq ne clampOf cutOf rewrite sum converted Text.Pixel.pack Text.Pixel.packUnit Text.Pixel.clip Text.Pixel.clips Text.Pixel.luma709
     Text.ColorCorrection.colorCorrection Text.ColorCorrection.curved Text.ColorCorrection.start Text.ColorCorrection.colour
 tints-hold = refl
@@ -207,7 +227,7 @@ tints-hold = refl
 -- the white one before it as 555555; turned, it is shown unaltered. A turn and back: each begins anew. Two stations, one of which was
 -- turned before, agree from the second shared frame on, since the depth is 1.
 abbrev half : State
-half = opened (stationOf (record { on = true; pass = Persistence c0·5 1 } ∷ [])) (7 ∷ 8 ∷ [])
+half = opened (stationOf (carded true (Persistence c0·5 1) ∷ [])) (7 ∷ 8 ∷ [])
 
 abbrev upright : List ℕ → Call
 upright words = frame 1 2 words 2 12 2 []
@@ -231,8 +251,8 @@ turns =
     ∷ []
 
 pub turns-hold : Hold turns
-unfolding run saw after call frameReplyBy unless shownBy stops badSide goodStation fineHeld sameHeld normalChain normalPass settled persists
-    depth readsCurve fold turnBy overBy ofBits ofInt add sub mul div neg lt clampOf cutOf rewrite sum converted Text.Pixel.unpack Text.Pixel.pack
+unfolding run saw after call frameReplyBy unless shownBy stops badSide goodStation fineHeld sameHeld normalChain normalPass settled heldBy holding
+    depth readsCurve fold chainBy turnBy overBy ofBits ofInt add sub mul div neg lt clampOf cutOf rewrite sum converted Text.Pixel.unpack Text.Pixel.pack
     Text.Pixel.packClamped Text.Pixel.clip Text.Pixel.clips Text.Persistence.persistence Text.Persistence.decay
     Text.Persistence.total Text.Persistence.add Text.Persistence.mix Text.Persistence.blend Persistence.copies
     Persistence.refilled Persistence.shifted
@@ -258,7 +278,7 @@ asks =
     ∷ []
 
 pub asks-hold : Hold asks
-unfolding run saw after call askStops commitStops lacks onFirst unless goodStation fineHeld sameHeld normalChain normalPass settled persists ofBits lt
+unfolding run saw after call askStops commitStops lacks onFirst unless goodStation fineHeld sameHeld normalChain normalPass settled heldBy holding ofBits lt
 asks-hold = refl
 
 -- What is asked for after that: asking records it, the present position too; a reset, a plain switch, a frame and refused calls leave it; committing clears it.
@@ -275,10 +295,9 @@ waiting =
 
 pub waiting-hold : Hold waiting
 unfolding run after call askStops commitStops lacks onFirst frameReplyBy unless shownBy stops badSide goodStation fineHeld sameHeld normalChain normalPass
-    settled persists depth readsCurve fold turnBy overBy ofBits ofInt add sub mul div neg lt clampOf cutOf rewrite sum converted Text.Pixel.unpack
-    Text.Pixel.pack Text.Pixel.packClamped Text.Pixel.clip Text.Pixel.clips Text.Persistence.persistence Text.Persistence.decay
-    Text.Persistence.total Text.Persistence.add Text.Persistence.mix Text.Persistence.blend Persistence.copies
-    Persistence.refilled Persistence.shifted
+    settled heldBy holding depth readsCurve fold chainBy turnBy overBy ofBits ofInt add sub mul div neg lt clampOf cutOf rewrite sum converted
+    Text.Pixel.unpack Text.Pixel.pack Text.Pixel.packClamped Text.Pixel.clip Text.Pixel.clips Text.Persistence.persistence Text.Persistence.decay
+    Text.Persistence.total Text.Persistence.add Text.Persistence.mix Text.Persistence.blend Persistence.copies Persistence.refilled Persistence.shifted
 waiting-hold = refl
 
 -- Persistence asked to be off: the ghost is still shown in two frames; committed, the next frame is unaltered. A plain switch to off and on between asking and
@@ -296,7 +315,7 @@ untilCommitted = (
 
 pub untilCommitted-hold : Hold untilCommitted
 unfolding run saw after call askStops commitStops lacks onFirst frameReplyBy unless shownBy stops badSide goodStation fineHeld sameHeld normalChain
-    normalPass settled persists depth readsCurve fold turnBy overBy ofBits ofInt add sub mul div neg lt clampOf cutOf rewrite sum converted
+    normalPass settled heldBy holding depth readsCurve fold chainBy turnBy overBy ofBits ofInt add sub mul div neg lt clampOf cutOf rewrite sum converted
     Text.Pixel.unpack Text.Pixel.pack Text.Pixel.packClamped Text.Pixel.clip Text.Pixel.clips Text.Persistence.persistence Text.Persistence.decay
     Text.Persistence.total Text.Persistence.add Text.Persistence.mix Text.Persistence.blend Persistence.copies
     Persistence.refilled Persistence.shifted
@@ -306,7 +325,7 @@ untilCommitted-hold = refl
 -- then repeats the oldest of two, 000000, and the word past the four places stays; the next frame is mixed with these four. Depth 0 is 1. A history that holds
 -- nothing is not touched.
 abbrev three : State
-three = opened (stationOf (record { on = true; pass = Persistence c0·5 3 } ∷ [])) (1 ∷ 2 ∷ 3 ∷ 4 ∷ 5 ∷ [])
+three = opened (stationOf (carded true (Persistence c0·5 3) ∷ [])) (1 ∷ 2 ∷ 3 ∷ 4 ∷ 5 ∷ [])
 
 abbrev word : ℕ → Call
 word p = frame 1 1 (p ∷ []) 4 6 1 []
@@ -328,11 +347,11 @@ renewed =
     ∷ []
 
 pub renewed-hold : Hold renewed
-unfolding run after call depthReply depthStops lacks onFirst frameReplyBy unless shownBy stops badSide goodStation fineHeld sameHeld normalChain normalPass
-    settled persists depth readsCurve fold turnBy overBy ofBits ofInt add sub mul div neg lt clampOf cutOf rewrite sum converted Text.Pixel.unpack
-    Text.Pixel.pack Text.Pixel.packClamped Text.Pixel.clip Text.Pixel.clips Text.Persistence.persistence Text.Persistence.decay
-    Text.Persistence.total Text.Persistence.add Text.Persistence.mix Text.Persistence.blend Persistence.copies
-    Persistence.refilled Persistence.shifted Persistence.resized
+unfolding run after call depthReply depthStops lacks ofFirst onFirst redepth frameReplyBy unless shownBy stops badSide goodStation fineHeld sameHeld
+    normalChain normalPass settled heldBy holding depth readsCurve fold chainBy turnBy overBy ofBits ofInt add sub mul div neg lt clampOf cutOf rewrite sum
+    converted Text.Pixel.unpack Text.Pixel.pack Text.Pixel.packClamped Text.Pixel.clip Text.Pixel.clips Text.Persistence.persistence Text.Persistence.decay
+    Text.Persistence.total Text.Persistence.add Text.Persistence.mix Text.Persistence.blend Persistence.copies Persistence.refilled Persistence.shifted
+    Persistence.resized
 renewed-hold = refl
 
 -- the next picture
@@ -342,11 +361,11 @@ renewedPictures =
     ∷ []
 
 pub renewedPictures-hold : Hold renewedPictures
-unfolding run saw after call depthReply depthStops lacks onFirst frameReplyBy unless shownBy stops badSide goodStation fineHeld sameHeld normalChain normalPass
-    settled persists depth readsCurve fold turnBy overBy ofBits ofInt add sub mul div neg lt clampOf cutOf rewrite sum converted Text.Pixel.unpack
-    Text.Pixel.pack Text.Pixel.packClamped Text.Pixel.clip Text.Pixel.clips Text.Persistence.persistence Text.Persistence.decay
-    Text.Persistence.total Text.Persistence.add Text.Persistence.mix Text.Persistence.blend Persistence.copies
-    Persistence.refilled Persistence.shifted Persistence.resized
+unfolding run saw after call depthReply depthStops lacks ofFirst onFirst redepth frameReplyBy unless shownBy stops badSide goodStation fineHeld sameHeld
+    normalChain normalPass settled heldBy holding depth readsCurve fold chainBy turnBy overBy ofBits ofInt add sub mul div neg lt clampOf cutOf rewrite sum
+    converted Text.Pixel.unpack Text.Pixel.pack Text.Pixel.packClamped Text.Pixel.clip Text.Pixel.clips Text.Persistence.persistence Text.Persistence.decay
+    Text.Persistence.total Text.Persistence.add Text.Persistence.mix Text.Persistence.blend Persistence.copies Persistence.refilled Persistence.shifted
+    Persistence.resized
 renewedPictures-hold = refl
 
 -- What it answers: 9 is above 8 (6), also where no word is lent; of one held word, four words are enough for depth 4 and three are not (10), and for depth 0
@@ -363,9 +382,49 @@ deeper =
     ∷ []
 
 pub deeper-hold : Hold deeper
-unfolding run saw after call depthReply depthStops lacks onFirst frameReplyBy unless shownBy stops badSide goodStation fineHeld sameHeld normalChain normalPass
-    settled persists depth readsCurve fold turnBy overBy ofBits ofInt add sub mul div neg lt clampOf cutOf rewrite sum converted Text.Pixel.unpack
-    Text.Pixel.pack Text.Pixel.packClamped Text.Pixel.clip Text.Pixel.clips Text.Persistence.persistence Text.Persistence.decay
+unfolding run saw after call depthReply depthStops lacks ofFirst onFirst redepth frameReplyBy unless shownBy stops badSide goodStation fineHeld sameHeld
+    normalChain normalPass settled heldBy holding depth readsCurve fold chainBy turnBy overBy ofBits ofInt add sub mul div neg lt clampOf cutOf rewrite sum
+    converted Text.Pixel.unpack Text.Pixel.pack Text.Pixel.packClamped Text.Pixel.clip Text.Pixel.clips Text.Persistence.persistence Text.Persistence.decay
+    Text.Persistence.total Text.Persistence.add Text.Persistence.mix Text.Persistence.blend Persistence.copies Persistence.refilled Persistence.shifted
+    Persistence.resized
+deeper-hold = refl
+
+-- Two glows (request P12). Persistence 0.5 of depth 1 and after it of depth 2, frames of one word, an own buffer of five words: the first history is its first
+-- word, the second the two after it, and the words past these stay. The first switched off while the second goes on, and on again; a reset, which both
+-- forget by; a new depth, by which the second begins elsewhere and forgets, and the present depth, by which it does not.
+abbrev glows : State
+glows = opened (stationOf (carded true (Persistence c0·5 1) ∷ carded true (Persistence c0·5 2) ∷ [])) (1 ∷ 2 ∷ 3 ∷ 4 ∷ 5 ∷ [])
+
+abbrev glowed : List Call → List (List ℕ) × List ℕ
+glowed cs = (pictures glows cs, run glows cs .history)
+
+abbrev pub glowingRuns : List ((List (List ℕ) × List ℕ) × (List (List ℕ) × List ℕ))
+glowingRuns = (
+  glowed (word 0xffffff ∷ word 0 ∷ word 0x404040 ∷ word 0 ∷ []),
+  ((0xffffff ∷ []) ∷ (0x9f9f9f ∷ []) ∷ (0x575757 ∷ []) ∷ (0x242424 ∷ []) ∷ [], 0 ∷ 0x151515 ∷ 0x2a2a2a ∷ 4 ∷ 5 ∷ []),
+)
+    ∷ (
+      glowed (word 0xffffff ∷ switch 4 false ∷ word 0 ∷ word 0x404040 ∷ switch 4 true ∷ word 0 ∷ []),
+      ((0xffffff ∷ []) ∷ [] ∷ (0x6f6f6f ∷ []) ∷ (0x4b4b4b ∷ []) ∷ [] ∷ (0x121212 ∷ []) ∷ [], 0 ∷ 0 ∷ 0x404040 ∷ 4 ∷ 5 ∷ []),
+    )
+    ∷ (
+      glowed (word 0xffffff ∷ word 0 ∷ reset ∷ word 0x404040 ∷ word 0 ∷ []),
+      ((0xffffff ∷ []) ∷ (0x9f9f9f ∷ []) ∷ [] ∷ (0x404040 ∷ []) ∷ (0x272727 ∷ []) ∷ [], 0 ∷ 0x151515 ∷ 0x404040 ∷ 4 ∷ 5 ∷ []),
+    )
+    ∷ (
+      glowed (word 0xffffff ∷ word 0x404040 ∷ newDepth 2 4 ∷ word 0 ∷ []),
+      ((0xffffff ∷ []) ∷ (0xb6b6b6 ∷ []) ∷ [] ∷ (0x1b1b1b ∷ []) ∷ [], 0 ∷ 0x404040 ∷ 0x1b1b1b ∷ 0x1b1b1b ∷ 5 ∷ []),
+    )
+    ∷ (
+      glowed (word 0xffffff ∷ word 0x404040 ∷ newDepth 1 4 ∷ word 0 ∷ []),
+      ((0xffffff ∷ []) ∷ (0xb6b6b6 ∷ []) ∷ [] ∷ (0x575757 ∷ []) ∷ [], 0 ∷ 0x151515 ∷ 0x7f7f7f ∷ 4 ∷ 5 ∷ []),
+    )
+    ∷ []
+
+pub glowingRuns-hold : Hold glowingRuns
+unfolding run saw after call depthReply depthStops lacks ofFirst onFirst redepth frameReplyBy unless shownBy stops badSide goodStation fineHeld sameHeld
+    normalChain normalPass settled heldBy holding depth readsCurve fold chainBy turnBy overBy ofBits ofInt add sub mul div neg lt clampOf cutOf rewrite sum
+    converted Text.Pixel.unpack Text.Pixel.pack Text.Pixel.packClamped Text.Pixel.clip Text.Pixel.clips Text.Persistence.persistence Text.Persistence.decay
     Text.Persistence.total Text.Persistence.add Text.Persistence.mix Text.Persistence.blend Persistence.copies
     Persistence.refilled Persistence.shifted Persistence.resized
-deeper-hold = refl
+glowingRuns-hold = refl

@@ -1,9 +1,10 @@
--- The way of a frame through the chain: the passes that are on, in the card's order. Assumes nothing.
-use Prim.Native.Nat.{ℕ, _+_}
+-- The way of a frame through the chain: the passes that are on, in the card's order, each persistence on its own part of the history. Assumes nothing.
+use Prim.Native.Nat.{ℕ, _+_, _*_}
 use mathlib.Core.Bool.{Bool, false, _||_, cond}
-use mathlib.Core.List.{List, [], _∷_, map}
+use mathlib.Core.List.{List, [], _∷_, _++_, map}
 use lib.Ieee.{Float}
-use Rattle.num.specs.Held.{sized}
+use lib.ListN.{take, drop}
+use Rattle.num.specs.Held.{Held, sized}
 use Rattle.passes.specs.Arith.{Arith, plain}
 use Rattle.passes.specs.Fold.{fold}
 use Rattle.passes.specs.Flow.{Flow, flow}
@@ -44,6 +45,50 @@ abbrev pub frameAfter : Work → List ℕ → Painted
 frameAfter (paints paint) = paint
 frameAfter (keeps step) = unclipped (λ frame. frame)
 
+-- ## The places of the history
+
+-- how many older frames a pass keeps
+abbrev pub depthOf : Pass → ℕ
+depthOf (Ntsc strength bleed) = 0
+depthOf (Bloom threshold strength radius) = 0
+depthOf (AutoGradient strength vertical horizontal) = 0
+depthOf (Persistence amount depth) = depth
+depthOf (Lut preset strength) = 0
+depthOf (Curvature amount) = 0
+depthOf (ColorCorrection brightness contrast saturation gamma) = 0
+depthOf (Crt strength) = 0
+depthOf (Vignette strength) = 0
+depthOf (Scanlines strength) = 0
+
+-- document 01's K: the sum of the depths in the chain, on or off
+unfoldable pub depth : List Record → ℕ
+depth [] = 0
+depth (r ∷ rs) = depthOf (r .pass) + depth rs
+
+-- the sum of those that are on
+unfoldable pub depthOn : List Record → ℕ
+depthOn [] = 0
+depthOn (r ∷ rs) = cond (r .on) (depthOf (r .pass)) 0 + depthOn rs
+
+-- of each record
+abbrev pub depths : List Record → List ℕ
+depths = map (λ r. depthOf (r .pass))
+
+-- ## What a frame leaves
+
+-- a record that holds something else
+abbrev pub withHeld : Held → Record → Record
+withHeld held r = record { on = r .on; pass = r .pass; held = held }
+
+-- the picture, the records with what they hold, and the history
+pub record Ran : Type 0 where
+  pub frame : Painted
+  pub records : List Record
+  pub past : List ℕ
+
+abbrev pub ran : Painted → List Record → (past : List ℕ) → Ran
+ran frame records past = record { frame = frame; records = records; past = past }
+
 -- ## The passes, over an arithmetic A (passes' Arith)
 
 module _ (A : Arith) (w h : ℕ) (curve : List Float) where
@@ -66,12 +111,18 @@ module _ (A : Arith) (w h : ℕ) (curve : List Float) where
   unfoldable pub overBy : Pass → Flow → Flow
   overBy p = flowAfter (workBy p)
 
-  -- a record: its pass, where it is on
-  unfoldable pub turnBy : Flow → Record → Flow
-  turnBy x r = cond (r .on) (overBy (r .pass) x) x
+  -- a record: its pass, where it is on, with what it holds
+  unfoldable pub turnBy : Record → Painted → (past : List ℕ) → Flow
+  turnBy r frame past = let x : Flow = flow frame (r .held) past in cond (r .on) (overBy (r .pass) x) x
 
-  abbrev pub chainBy : List Record → Flow → Flow
-  chainBy rs x = fold turnBy x rs
+  -- one record after the other: each gets the frame that the one before it leaves, and as many words of the history as it has places for
+  unfoldable pub chainBy : List Record → Painted → (past : List ℕ) → Ran
+  chainBy [] frame past = ran frame [] past
+  chainBy (r ∷ rs) frame past =
+      let room : ℕ = depthOf (r .pass) * (h * w) in
+      let x : Flow = turnBy r frame (take room past) in
+      let y : Ran = chainBy rs (x .frame) (drop room past) in
+      ran (y .frame) (withHeld (x .held) r ∷ y .records) (x .past ++ y .past)
 
 -- the product's: binary32 and the number steps
 
@@ -82,35 +133,11 @@ paint w h curve p = frameAfter (workBy plain w h curve p)
 abbrev pub over : (w h : ℕ) → List Float → Pass → Flow → Flow
 over = overBy plain
 
-abbrev pub turn : (w h : ℕ) → List Float → Flow → Record → Flow
+abbrev pub turn : (w h : ℕ) → List Float → Record → Painted → (past : List ℕ) → Flow
 turn = turnBy plain
 
-abbrev pub chain : (w h : ℕ) → List Float → List Record → Flow → Flow
+abbrev pub chain : (w h : ℕ) → List Float → List Record → Painted → (past : List ℕ) → Ran
 chain = chainBy plain
-
--- ## The places of the history
-
--- how many older frames a pass keeps
-abbrev pub depthOf : Pass → ℕ
-depthOf (Ntsc strength bleed) = 0
-depthOf (Bloom threshold strength radius) = 0
-depthOf (AutoGradient strength vertical horizontal) = 0
-depthOf (Persistence amount depth) = depth
-depthOf (Lut preset strength) = 0
-depthOf (Curvature amount) = 0
-depthOf (ColorCorrection brightness contrast saturation gamma) = 0
-depthOf (Crt strength) = 0
-depthOf (Vignette strength) = 0
-depthOf (Scanlines strength) = 0
-
--- document 01's K: the sum of the depths in the chain, on or off
-unfoldable pub depth : List Record → ℕ
-depth [] = 0
-depth (r ∷ rs) = depthOf (r .pass) + depth rs
-
--- of each record
-abbrev pub depths : List Record → List ℕ
-depths = map (λ r. depthOf (r .pass))
 
 -- ## The curve
 

@@ -1,14 +1,14 @@
 -- What is proved of single calls, as types: the proofs are in proofs/Untouched.antt and Asking.antt. Assumes nothing.
 use Prim.Native.Nat.{ℕ, _*_}
 use mathlib.Core.Bool.{Bool, true, false}
-use mathlib.Core.List.{List}
+use mathlib.Core.List.{List, map}
 use mathlib.Core.Path.{_≡_}
 use lib.Ieee.{Float}
 use lib.ListN.{take, drop}
 use Rattle.num.specs.Held.{area}
 use Rattle.cards.specs.Alike.{chainOf}
 use Rattle.cards.specs.Answers.{refusal}
-use Rattle.chain.specs.Calls.{pend, Framed, framed, frameReply, depthReply}
+use Rattle.chain.specs.Calls.{pend, firstHeld, firstDepth, Framed, framed, frameReply, depthReply}
 use Rattle.chain.specs.Chain.{depth}
 use Rattle.chain.specs.Machine.{Call, frame, reset, switch, ask, commit, step, newDepth, State, call, after}
 use Rattle.cards.specs.Normal.{goodStation}
@@ -25,7 +25,7 @@ Refused-keeps =
     → frameReply w h s words past floats ints curve .answer ≡ refusal k
     → frameReply w h s words past floats ints curve ≡ framed (refusal k) s words past)
 
--- a frame, accepted or not, leaves the framebuffer past count, the history past K times count, and all records of the station
+-- a frame, accepted or not, leaves the framebuffer past count, the history past K times count, and all passes of the station
 abbrev pub Untouched : Type 0
 Untouched =
     (w h : ℕ) (s : Station) (words past : List ℕ) (floats ints : ℕ) (curve : List Float) →
@@ -33,17 +33,18 @@ Untouched =
     let count : ℕ = h * w in
     (drop count (r .words) ≡ drop count words)
     × (drop (depth (chainOf s) * count) (r .past) ≡ drop (depth (chainOf s) * count) past)
-    × (r .station .records ≡ s .records)
+    × (map (λ q. q .pass) (r .station .records) ≡ map (λ q. q .pass) (s .records))
 
--- a new depth, accepted or not, leaves the words of the places that there are, the words past those that there are then, and what is held
+-- a new depth, accepted or not, leaves of the history the words of the places that the first persistence has, the words past those that it has then, and what
+-- that one holds
 abbrev pub Depth-leaves : Type 0
 Depth-leaves =
     (d : ℕ) (s : Station) (past : List ℕ) →
     let r : Framed = depthReply d s past in
-    let count : ℕ = area (s .held) in
-    (take (depth (chainOf s) * count) (r .past) ≡ take (depth (chainOf s) * count) past)
+    let count : ℕ = area (firstHeld (chainOf s)) in
+    (take (firstDepth (chainOf s) * count) (r .past) ≡ take (firstDepth (chainOf s) * count) past)
     × (drop (oneAtLeast d * count) (r .past) ≡ drop (oneAtLeast d * count) past)
-    × (r .station .held ≡ s .held)
+    × (firstHeld (chainOf (r .station)) ≡ firstHeld (chainOf s))
 
 -- ## Switches that are asked for
 

@@ -9,6 +9,7 @@ use Rattle.num.specs.Const.{c1·0}
 use Rattle.passes.specs.Samples.{ntscSamples, bloomSamples}
 use Rattle.cards.specs.Answers.{Report, acceptance}
 use Rattle.cards.specs.Card.{stationOf, accepted, openOf}
+use Rattle.cards.specs.Records.{carded}
 use Rattle.cards.specs.declared.station.Pass.the-variants.{Ntsc, Bloom}
 use Rattle.cards.specs.declared.station.Station.{Station}
 use Rattle.chain.specs.Calls.{floatRoom, frameReply}
@@ -32,7 +33,7 @@ abbrev pub dearestCard : List ℕ
 dearestCard = 0x12 ∷ 0x19 ∷ 0xfc ∷ 0 ∷ 0 ∷ 2 ∷ 1 ∷ 0x40 ∷ 0x0f ∷ 0xe0 ∷ 0 ∷ 0 ∷ 0x10 ∷ 0 ∷ []
 
 abbrev pub dearestStation : Station
-dearestStation = stationOf (record { on = true; pass = Ntsc c1·0 64 } ∷ record { on = true; pass = Bloom 0 c1·0 64 } ∷ [])
+dearestStation = stationOf (carded true (Ntsc c1·0 64) ∷ carded true (Bloom 0 c1·0 64) ∷ [])
 
 -- it is accepted, and at each size that is taken each frame with enough lent reports as many
 abbrev pub SomeAsDear : Type 0

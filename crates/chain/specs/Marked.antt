@@ -9,11 +9,12 @@ use Rattle.num.specs.Const.{c0·0, c0·5, c1·0, c2·0, c3·0}
 use Rattle.num.specs.F32.{dec}
 use Rattle.num.specs.Root.{rootOf}
 use Rattle.num.specs.Steps.{roundOf}
-use Rattle.passes.specs.Flow.{Flow}
+use Rattle.passes.specs.Painted.{Painted}
 use Rattle.chain.specs.Agree.{opened}
+use Rattle.cards.specs.Records.{carded}
 use Rattle.cards.specs.Alike.{chainOf}
 use Rattle.cards.specs.Card.{stationOf, accepted, openOf}
-use Rattle.chain.specs.Chain.{chain}
+use Rattle.chain.specs.Chain.{ran, chain}
 use Rattle.chain.specs.Machine.{frame, saw}
 use Rattle.cards.specs.Written.{cardOf}
 use Rattle.cards.specs.declared.station.Pass.the-variants.{Curvature}
@@ -41,7 +42,7 @@ pub record Marked : Type 0 where
   pub root-two : rootOf c2·0 ≡ ofBits binary32 0x3fb5_04f3
   -- Card 10: empty chain, picture as given
   pub empty-card : openOf (0x10 ∷ []) ≡ accepted (stationOf [])
-  pub empty-picture : (w h : ℕ) (curve : List Float) (x : Flow) → chain w h curve (chainOf (stationOf [])) x ≡ x
+  pub empty-picture : (w h : ℕ) (curve : List Float) (x : Painted) (past : List ℕ) → chain w h curve (chainOf (stationOf [])) x past ≡ ran x [] past
   -- Card 11 AA 00 00 00 00 (scanlines, strength 2.0) normalises to 11 A9 FC 00 00 00
   pub limited-card : cardOf (openOf (0x11 ∷ 0xaa ∷ 0 ∷ 0 ∷ 0 ∷ 0 ∷ []) .station) ≡ 0x11 ∷ 0xa9 ∷ 0xfc ∷ 0 ∷ 0 ∷ 0 ∷ []
   -- Scanlines 1.0, 1 by 2, AA123456 twice: AA123456, 000000
@@ -54,7 +55,7 @@ pub record Marked : Type 0 where
       ≡ (0x868181 ∷ 0x959b95 ∷ 0x818186 ∷ 0xb0aaaa ∷ 0xc1c8c1 ∷ 0xaaaab0 ∷ 0x868181 ∷ 0x959b95 ∷ 0x818186 ∷ []) ∷ []
   -- Curvature 0.5, 3 by 3: only the centre survives; amount 0 keeps all
   pub curvature : shows (0x11 ∷ 0x69 ∷ 0xf8 ∷ 0 ∷ 0 ∷ 0 ∷ []) 3 3 (numbered ∷ []) ≡ (0 ∷ 0 ∷ 0 ∷ 0 ∷ 0xbb000005 ∷ 0 ∷ 0 ∷ 0 ∷ 0 ∷ []) ∷ []
-  pub curvature-zero-card : openOf (0x11 ∷ 0x68 ∷ 0 ∷ 0 ∷ 0 ∷ 0 ∷ []) ≡ accepted (stationOf (record { on = true; pass = Curvature c0·0 } ∷ []))
+  pub curvature-zero-card : openOf (0x11 ∷ 0x68 ∷ 0 ∷ 0 ∷ 0 ∷ 0 ∷ []) ≡ accepted (stationOf (carded true (Curvature c0·0) ∷ []))
   pub curvature-zero : shows (0x11 ∷ 0x68 ∷ 0 ∷ 0 ∷ 0 ∷ 0 ∷ []) 3 3 (numbered ∷ []) ≡ numbered ∷ []
   -- Gradient 1, 1, 0 on one black pixel: 120500
   pub gradient : shows (0x11 ∷ 0x39 ∷ 0xfc ∷ 0 ∷ 0 ∷ 1 ∷ 0xfc ∷ 0 ∷ 0 ∷ 0 ∷ 0 ∷ 0 ∷ 0 ∷ 0 ∷ []) 1 1 ((0 ∷ []) ∷ []) ≡ (0x120500 ∷ []) ∷ []

@@ -2,19 +2,21 @@
 // condition: what it cannot do it refuses, by a number of the papers' tables, and a refusal changes nothing.
 ghost use mathlib.Core.Path.{_≡_};
 ghost use Prim.Native.Nat.{_≤_, _<_};
-ghost use mathlib.Core.Bool.{true};
+ghost use mathlib.Core.Bool.{cond};
 ghost use mathlib.Core.List.{[], _∷_};
-ghost use lib.ListN.{take};
 ghost use Rattle.cards.specs.Alike.{chainOf};
 ghost use Rattle.chain.specs.Chain.{depth as depthIn};
-ghost use Rattle.chain.specs.Calls.{lacks as lacksAt, pend as pendOn, heldAfter, next as nextOf, steppedPass, presetOf, deepPass};
+ghost use Rattle.chain.specs.Calls.{pend as pendOn, forgetFrom, next as nextOf, steppedPass, presetOf, deepPass};
 ghost use Rattle.chain.specs.Calls.{resetReply, switchReply, askReply, commitReply, stepReply, depthReply, enabledReport, presetReport};
-ghost use Rattle.chain.specs.Lent.{First, Stands};
+ghost use Rattle.chain.specs.Lent.{putAt};
+ghost use Rattle.num.specs.Held.{nothing};
 ghost use Rattle.cards.specs.Passes.{kindOf};
 ghost use Rattle.chain.specs.Answers.{called, calledWith, cycled, reportedQuestion, Applies};
-ghost use Rattle.cards.specs.Records.{kinds, among};
+use super::first::place;
+use super::first::record_of;
 use super::refusals::ask_stops;
 use super::refusals::depth as depth_in;
+use super::refusals::depth_of;
 use super::refusals::depth_stops;
 use super::refusals::lacks;
 use super::refusals::stops;
@@ -27,7 +29,6 @@ use cards::station::Pending;
 use cards::station::Record;
 use cards::station::Station;
 use cards::station::few;
-use cards::station::kind_of;
 use num::size::Size;
 use num::size::area;
 use passes::persistence::resize;
@@ -66,10 +67,10 @@ pub enum Question {
     Refused(u8),
 }
 
-// Document 01's K: how many older frames the history has places for. Of a bad station, too: the depths that its first n records name,
-// ten at most, added up; who wants 13 asks for it first, as `bridge` does.
+// Document 01's K: how many older frames the histories have places for together. Of a bad station, too: the depths that its first n records name,
+// twelve at most, added up; who wants 13 asks for it first, as `bridge` does.
 pub fn places(station: Station) -> usize
-    ensures { λ r. ⌜ (r ≡ depthIn (chainOf station)) × (r ≤ 2550) ⌝ }
+    ensures { λ r. ⌜ (r ≡ depthIn (chainOf station)) × (r ≤ 3060) ⌝ }
 {
     let records = station.records;
     depth_in(records, few(station.n))
@@ -121,18 +122,50 @@ pub fn apply(
         &mut ints[..count],
         curve,
     );
-    let held = run.held;
+    let n = station.n;
+    let records = run.records;
+    let pending = station.pending;
     let clipped = run.clipped;
     let samples = run.samples;
-    let mut after = station;
-    after.held = held;
+    let after = Station {
+        records,
+        n,
+        pending,
+    };
     Applied {
         answer: FrameAnswer::Shown { clipped, samples },
         station: after,
     }
 }
 
-// Forgets what the history holds; its words stay.
+// The station whose records from `from` on hold nothing.
+pub(crate) fn forget(station: Station, from: usize) -> Station
+    requires { ⌜ (station .n ≤ 12) × (from ≤ station .n) ⌝ }
+    ensures { λ r. ⌜ r ≡ forgetFrom from station ⌝ }
+{
+    let n = station.n;
+    let mut records = station.records;
+    let mut i: usize = from;
+    while i < n {
+        let r = records[i];
+        let on = r.on;
+        let pass = r.pass;
+        let held = Size {
+            width: 0,
+            height: 0,
+        };
+        records[i] = Record { on, pass, held };
+        i += 1;
+    }
+    let pending = station.pending;
+    Station {
+        records,
+        n,
+        pending,
+    }
+}
+
+// Forgets what the histories hold; their words stay.
 pub fn reset(station: Station) -> Called
     ensures { λ r. ⌜ called r ≡ resetReply station ⌝ }
 {
@@ -143,57 +176,42 @@ pub fn reset(station: Station) -> Called
             station,
         };
     }
-    let n = station.n;
-    let records = station.records;
-    let pending = station.pending;
-    let after = Station {
-        records,
-        n,
-        held: Size {
-            width: 0,
-            height: 0,
-        },
-        pending,
-    };
     Called {
         answer: Answer::Accepted,
-        station: after,
+        station: forget(station, 0),
     }
 }
 
-// The place of the first record of that kind among the first n.
-pub(crate) fn place(records: [Record; 10], n: usize, kind: u8) -> usize
-    requires { ⌜ (n ≤ 10) × (among kind (kinds (take n records)) ≡ true) ⌝ }
-    ensures { λ r. ⌜ First kind n records r ⌝ }
+// The station with that record in that place.
+pub(crate) fn put(station: Station, at: usize, r: Record) -> Station
+    requires { ⌜ at < 12 ⌝ }
+    ensures { λ s. ⌜ s ≡ putAt at r station ⌝ }
 {
-    let mut i: usize = 0;
-    while i + 1 < n {
-        let r = records[i];
-        let pass = r.pass;
-        if kind_of(pass) == kind {
-            return i;
-        }
-        i += 1;
+    let n = station.n;
+    let mut records = station.records;
+    records[at] = r;
+    let pending = station.pending;
+    Station {
+        records,
+        n,
+        pending,
     }
-    i
 }
 
-// What is held once a pass is switched: persistence that is off holds nothing.
-pub(crate) fn held_after(kind: u8, on: bool, held: Size) -> Size
-    ensures { λ r. ⌜ r ≡ heldAfter kind on held ⌝ }
+// What a record holds once it is switched: one that is off holds nothing.
+pub(crate) fn held_while(on: bool, held: Size) -> Size
+    ensures { λ r. ⌜ r ≡ cond on held nothing ⌝ }
 {
-    if kind == 4 {
-        if !on {
-            return Size {
-                width: 0,
-                height: 0,
-            };
-        }
+    if on {
+        return held;
     }
-    held
+    Size {
+        width: 0,
+        height: 0,
+    }
 }
 
-// Switches the pass of that kind.
+// Switches the pass of that kind, the first one.
 pub fn set_enabled(station: Station, kind: u8, on: bool) -> Called
     ensures { λ r. ⌜ called r ≡ switchReply kind on station ⌝ }
 {
@@ -205,22 +223,14 @@ pub fn set_enabled(station: Station, kind: u8, on: bool) -> Called
         };
     }
     let n = station.n;
-    let mut records = station.records;
-    let held = held_after(kind, on, station.held);
+    let records = station.records;
     let at = place(records, n, kind);
     let r = records[at];
     let pass = r.pass;
-    records[at] = Record { on, pass };
-    let pending = station.pending;
-    let after = Station {
-        records,
-        n,
-        held,
-        pending,
-    };
+    let held = held_while(on, r.held);
     Called {
         answer: Answer::Accepted,
-        station: after,
+        station: put(station, at, Record { on, pass, held }),
     }
 }
 
@@ -230,11 +240,9 @@ pub(crate) fn pend(station: Station, pending: Pending) -> Station
 {
     let n = station.n;
     let records = station.records;
-    let held = station.held;
     Station {
         records,
         n,
-        held,
         pending,
     }
 }
@@ -335,24 +343,16 @@ pub fn cycle_lut(station: Station) -> Cycled
         };
     }
     let n = station.n;
-    let mut records = station.records;
-    let held = station.held;
+    let records = station.records;
     let at = place(records, n, 5);
     let r = records[at];
     let on = r.on;
     let old = r.pass;
     let pass = step_pass(old);
-    records[at] = Record { on, pass };
-    let pending = station.pending;
-    let after = Station {
-        records,
-        n,
-        held,
-        pending,
-    };
+    let held = r.held;
     Cycled {
         answer: Cycle::Preset(preset_of(pass)),
-        station: after,
+        station: put(station, at, Record { on, pass, held }),
     }
 }
 
@@ -366,8 +366,9 @@ pub(crate) fn deep_pass(pass: Pass, d: u8) -> Pass
     pass
 }
 
-// Gives persistence a new depth, by the card's rule. The newest frames of the history stay where they are; where there are more places than
-// before, the oldest frame is repeated until they are full. A history that holds nothing is not touched.
+// Gives the first persistence a new depth, by the card's rule. The newest frames of its history stay where they are; where there are more places
+// than before, the oldest frame is repeated until they are full. A history that holds nothing is not touched. With another depth those
+// behind it begin elsewhere, and are forgotten.
 pub fn set_depth(station: Station, history: &mut [u32], depth: u8) -> Called
     ensures { λ r. ⌜ calledWith r (now (history .exit)) ≡ depthReply depth station (now (history .entry)) ⌝ }
 {
@@ -379,39 +380,27 @@ pub fn set_depth(station: Station, history: &mut [u32], depth: u8) -> Called
         };
     }
     let n = station.n;
-    let mut records = station.records;
-    let held = station.held;
+    let records = station.records;
     let d = one_at_least(depth);
-    let before = depth_in(records, n);
-    resize(history, area(held), before, d as usize);
     let at = place(records, n, 4);
     let r = records[at];
     let on = r.on;
     let old = r.pass;
+    let held = r.held;
+    let before = depth_of(old);
+    resize(history, area(held), before, d as usize);
     let pass = deep_pass(old, d);
-    records[at] = Record { on, pass };
-    let pending = station.pending;
-    let after = Station {
-        records,
-        n,
-        held,
-        pending,
-    };
+    let after = put(station, at, Record { on, pass, held });
+    if before == d as usize {
+        return Called {
+            answer: Answer::Accepted,
+            station: after,
+        };
+    }
     Called {
         answer: Answer::Accepted,
-        station: after,
+        station: forget(after, at + 1),
     }
-}
-
-// The record of that kind, where `lacks` refuses nothing.
-pub(crate) fn record_of(station: Station, kind: u8) -> Record
-    requires { ⌜ lacksAt station kind ≡ 0 ⌝ }
-    ensures { λ r. ⌜ Stands kind (chainOf station) r ⌝ }
-{
-    let n = station.n;
-    let records = station.records;
-    let at = place(records, n, kind);
-    records[at]
 }
 
 // Whether the pass of that kind is on: 1, or 0 where it is off.

@@ -6,6 +6,7 @@ ghost use lib.ListN.{take};
 ghost use Rattle.passes.specs.ColorCorrection.{goodCurve};
 ghost use Rattle.chain.specs.Chain.{depthOf, depth as depthIn, reads as readsBy, readsCurve};
 ghost use Rattle.chain.specs.Calls.{stops as stopsBy, lacks as lacksAt, askStops, depthStops};
+use super::first::record_of;
 use cards::check::is_good;
 use cards::fields::one_at_least;
 use cards::station::Pass;
@@ -29,9 +30,9 @@ pub(crate) fn depth_of(pass: Pass) -> usize
 }
 
 // The sum of the depths of the first n records.
-pub(crate) fn depth(records: [Record; 10], n: usize) -> usize
-    requires { ⌜ n ≤ 10 ⌝ }
-    ensures { λ r. ⌜ (r ≡ depthIn (take n records)) × (r ≤ 2550) ⌝ }
+pub(crate) fn depth(records: [Record; 12], n: usize) -> usize
+    requires { ⌜ n ≤ 12 ⌝ }
+    ensures { λ r. ⌜ (r ≡ depthIn (take n records)) × (r ≤ 3060) ⌝ }
 {
     let mut sum: usize = 0;
     let mut i: usize = 0;
@@ -60,8 +61,8 @@ pub(crate) fn reads(pass: Pass) -> bool
 }
 
 // Whether one of the first n records does, on or off.
-pub(crate) fn reads_curve(records: [Record; 10], n: usize) -> bool
-    requires { ⌜ n ≤ 10 ⌝ }
+pub(crate) fn reads_curve(records: [Record; 12], n: usize) -> bool
+    requires { ⌜ n ≤ 12 ⌝ }
     ensures { λ r. ⌜ r ≡ readsCurve (take n records) ⌝ }
 {
     let mut i: usize = 0;
@@ -77,8 +78,8 @@ pub(crate) fn reads_curve(records: [Record; 10], n: usize) -> bool
 }
 
 // Whether the first n records read a curve and this one cannot be read.
-pub(crate) fn lacks_curve(records: [Record; 10], n: usize, curve: &[f32]) -> bool
-    requires { ⌜ n ≤ 10 ⌝ }
+pub(crate) fn lacks_curve(records: [Record; 12], n: usize, curve: &[f32]) -> bool
+    requires { ⌜ n ≤ 12 ⌝ }
     ensures { λ r. ⌜ r ≡ (readsCurve (take n records) && not (goodCurve (now (curve .entry)))) ⌝ }
 {
     reads_curve(records, n) && !is_good_curve(curve)
@@ -156,7 +157,7 @@ pub(crate) fn ask_stops(station: Station, kind: u8) -> u8
     0
 }
 
-// Of a new depth, by how many words of the history are lent. A history that holds nothing is asked for none.
+// Of a new depth, by how many words of the history are lent. Where the first persistence holds nothing none is asked for.
 pub(crate) fn depth_stops(station: Station, d: u8, history: usize) -> u8
     ensures { λ r. ⌜ r ≡ depthStops station d history ⌝ }
 {
@@ -167,8 +168,8 @@ pub(crate) fn depth_stops(station: Station, d: u8, history: usize) -> u8
     if 8 < d {
         return 6;
     }
-    let held = station.held;
-    if history < one_at_least(d) as usize * area(held) {
+    let r = record_of(station, 4);
+    if history < one_at_least(d) as usize * area(r.held) {
         return 10;
     }
     0

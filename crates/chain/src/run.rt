@@ -1,16 +1,18 @@
 // A frame's way through the chain: the passes that are on, in the card's order, each known by its promise alone. It assumes that the station
 // is good and that enough is lent, which `refusals` has tested.
 ghost use mathlib.Core.Path.{_≡_};
-ghost use lib.ListN.{length};
+ghost use lib.ListN.{length, take, drop};
 ghost use Rattle.passes.specs.Flow.{flow};
 ghost use Rattle.passes.specs.Painted.{painted};
 ghost use Rattle.cards.specs.Alike.{chainOf};
-ghost use Rattle.chain.specs.Chain.{paint as paintOf, over, turn, chain, samplesOf, recordSamples, samplesIn};
+ghost use Rattle.chain.specs.Chain.{paint as paintOf, over, turn, ran, chain, samplesOf, recordSamples, samplesIn};
 ghost use Rattle.chain.specs.Lent.{Lent, Ready, Readies};
+use super::refusals::depth_of;
 use cards::station::Pass;
 use cards::station::Record;
 use cards::station::Station;
 use num::size::Size;
+use num::size::area;
 use passes::auto_gradient;
 use passes::bloom;
 use passes::blur::Counts;
@@ -23,9 +25,16 @@ use passes::persistence;
 use passes::scanlines;
 use passes::vignette;
 
-// What passes leave besides the frame and the history: what is held, the channels that were clipped, and the samples that blurs took.
+// What a pass leaves besides the frame and its part of the history: what it holds, the channels that were clipped, and the samples that blurs took.
 pub(crate) struct Run {
     pub(crate) held: Size,
+    pub(crate) clipped: u32,
+    pub(crate) samples: u32,
+}
+
+// The same of a chain: its records, with what each holds.
+pub(crate) struct RunAll {
+    pub(crate) records: [Record; 12],
     pub(crate) clipped: u32,
     pub(crate) samples: u32,
 }
@@ -159,11 +168,10 @@ pub(crate) fn run_pass(
     }
 }
 
-// A record: its pass, where it is on.
+// A record: its pass, where it is on, with what it holds.
 pub(crate) fn run_record(
     rec: Record,
     size: Size,
-    held: Size,
     frame: &mut [u32],
     history: &mut [u32],
     floats: &mut [f32],
@@ -172,11 +180,12 @@ pub(crate) fn run_record(
 ) -> Run
     requires { ⌜ Lent size (now frame) (now floats) (now ints) ⌝ ∗ ⌜ Ready size (rec .pass) (length (now history)) (length (now curve)) ⌝ }
     ensures { λ r. ⌜ (flow (painted (now (frame .exit)) (r .clipped)) (r .held) (now (history .exit))
-        ≡ turn (size .width) (size .height) (now (curve .entry)) (flow (painted (now (frame .entry)) 0) held (now (history .entry))) rec)
+        ≡ turn (size .width) (size .height) (now (curve .entry)) rec (painted (now (frame .entry)) 0) (now (history .entry)))
         × (r .samples ≡ recordSamples (size .width) (size .height) rec) ⌝ }
 {
     let on = rec.on;
     let pass = rec.pass;
+    let held = rec.held;
     if on {
         return run_pass(pass, size, held, frame, history, floats, ints, curve);
     }
@@ -187,7 +196,7 @@ pub(crate) fn run_record(
     }
 }
 
-// A station's chain: its first n records in their order.
+// A station's chain: its first n records in their order, each with its own part of the history, one after the other.
 pub(crate) fn run_chain(
     station: Station,
     size: Size,
@@ -196,29 +205,35 @@ pub(crate) fn run_chain(
     floats: &mut [f32],
     ints: &mut [u32],
     curve: &[f32],
-) -> Run
+) -> RunAll
     requires { ⌜ Lent size (now frame) (now floats) (now ints) ⌝ ∗ ⌜ Readies size station (length (now history)) (length (now curve)) ⌝ }
-    ensures { λ r. ⌜ (flow (painted (now (frame .exit)) (r .clipped)) (r .held) (now (history .exit))
-        ≡ chain (size .width) (size .height) (now (curve .entry)) (chainOf station)
-        (flow (painted (now (frame .entry)) 0) (station .held) (now (history .entry))))
+    ensures { λ r. ⌜ (ran (painted (now (frame .exit)) (r .clipped)) (take (station .n) (r .records)) (now (history .exit))
+        ≡ chain (size .width) (size .height) (now (curve .entry)) (chainOf station) (painted (now (frame .entry)) 0) (now (history .entry)))
+        × (drop (station .n) (r .records) ≡ drop (station .n) (station .records))
         × (r .samples ≡ samplesIn (size .width) (size .height) (chainOf station)) ⌝ }
 {
     let n = station.n;
-    let records = station.records;
-    let mut held = station.held;
+    let count = area(size);
+    let mut records = station.records;
     let mut clipped: u32 = 0;
     let mut samples: u32 = 0;
+    let mut at: usize = 0;
     let mut i: usize = 0;
     while i < n {
         let r = records[i];
-        let run = run_record(r, size, held, frame, history, floats, ints, curve);
-        held = run.held;
+        let on = r.on;
+        let pass = r.pass;
+        let end = at + depth_of(pass) * count;
+        let run = run_record(r, size, frame, &mut history[at..end], floats, ints, curve);
+        let held = run.held;
+        records[i] = Record { on, pass, held };
         clipped += run.clipped;
         samples += run.samples;
+        at = end;
         i += 1;
     }
-    Run {
-        held,
+    RunAll {
+        records,
         clipped,
         samples,
     }

@@ -67,7 +67,7 @@ pub(crate) fn of_record(rec: Record, width: usize, height: usize) -> usize
 // Of a station's chain: its first n records.
 pub(crate) fn of_chain(station: Station, width: usize, height: usize) -> usize
     requires { ⌜ (goodStation station ≡ true) × (width ≤ 1024) × (height ≤ 1024) ⌝ }
-    ensures { λ s. ⌜ (s ≡ samplesIn width height (chainOf station)) × (s ≤ 2705326080) ⌝ }
+    ensures { λ s. ⌜ (s ≡ samplesIn width height (chainOf station)) × (s ≤ 3246391296) ⌝ }
 {
     let n = station.n;
     let records = station.records;

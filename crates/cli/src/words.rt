@@ -23,7 +23,7 @@ fn word(fd: i32, number: u8) {
 // Pass i, counted from 0 there and from 1 here.
 fn pass(fd: i32, i: usize) {
     io::write_all(fd, b" of pass ");
-    if i < 10 {
+    if i < 12 {
         io::print_decimal(fd, (i + 1) as u64);
     }
 }

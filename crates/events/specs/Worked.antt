@@ -13,8 +13,8 @@ use Rattle.num.specs.Steps.{cutOf, plusZeroOf, limitOf}
 use Rattle.cards.specs.Bits.{valueAt, fieldAt}
 use Rattle.chain.specs.Calls.{stops, lacks, shownBy, frameReplyBy}
 use Rattle.cards.specs.Card.{headerAt, recordsAt, endsAt, endAt, stationAt, openOf}
-use Rattle.chain.specs.Chain.{wash, overBy, turnBy, depth, readsCurve}
-use Rattle.cards.specs.Normal.{settled, normalPass, normalChain, persists, goodStation}
+use Rattle.chain.specs.Chain.{wash, overBy, turnBy, chainBy, depth, readsCurve}
+use Rattle.cards.specs.Normal.{settled, normalPass, normalChain, heldBy, holding, goodStation}
 use Rattle.cards.specs.Passes.{passAt, scanlinesAt}
 use Rattle.cards.specs.Records.{recordAt}
 use Rattle.cards.specs.Settings.{finiteAt, limitedAt}
@@ -39,7 +39,7 @@ pub worked : printed input ≡ lines
 unfolding dec ofBits ofInt sub mul div lt cutOf plusZeroOf limitOf rewrite fold sameHeld fineHeld Text.Pixel.unpack
     Text.Pixel.pack Text.Pixel.dim Text.Scanlines.scanlines Text.Scanlines.inRow openOf stationAt headerAt fieldAt
     valueAt refuseIf recordsAt endAt endsAt recordAt passAt scanlinesAt finiteAt limitedAt frameReplyBy unless shownBy
-    stops lacks badSide goodStation normalChain normalPass settled persists depth readsCurve turnBy overBy wash headWanted
-    cardIn outside frameWanted eventWanted frameFault eventFault unpacked called playedOf eventLines printed
+    stops lacks badSide goodStation normalChain normalPass settled heldBy holding depth readsCurve chainBy turnBy overBy wash
+    headWanted cardIn outside frameWanted eventWanted frameFault eventFault unpacked called playedOf eventLines printed
     decimal pixelsOf
 worked = refl

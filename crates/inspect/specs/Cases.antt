@@ -13,7 +13,7 @@ use Rattle.cards.specs.Step.{refuseIf}
 use Rattle.cards.specs.Bits.{valueAt, fieldAt}
 use Rattle.cards.specs.Settings.{finiteAt, limitedAt}
 use Rattle.cards.specs.Passes.{passAt, scanlinesAt, vignetteAt}
-use Rattle.cards.specs.Records.{recordAt}
+use Rattle.cards.specs.Records.{carded, recordAt}
 use Rattle.cards.specs.Card.{stationOf, headerAt, recordsAt, endsAt, endAt, stationAt, openOf}
 use Rattle.cards.specs.declared.station.Pass.the-variants.{Bloom, Scanlines}
 use Rattle.cards.specs.declared.station.Record.{Record}
@@ -57,10 +57,10 @@ of-cards-hold = refl
 
 -- scanlines at a strength, and bloom before them, off, with a radius
 abbrev lines : Float → Record
-lines strength = record { on = true; pass = Scanlines strength }
+lines strength = carded true (Scanlines strength)
 
 abbrev glowing : ℕ → Record
-glowing radius = record { on = false; pass = Bloom 128 c0·5 radius }
+glowing radius = carded false (Bloom 128 c0·5 radius)
 
 -- of two chains, in stations as opened
 abbrev chains : List Record → List Record → Difference

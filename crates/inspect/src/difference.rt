@@ -100,8 +100,8 @@ fn record_difference(i: usize, a: Record, b: Record) -> Difference
 }
 
 // The first difference of the first m records of one and the first n of the other.
-fn chain_difference(a: [Record; 10], m: usize, b: [Record; 10], n: usize) -> Difference
-    requires { ⌜ (m ≤ 10) × (n ≤ 10) ⌝ }
+fn chain_difference(a: [Record; 12], m: usize, b: [Record; 12], n: usize) -> Difference
+    requires { ⌜ (m ≤ 12) × (n ≤ 12) ⌝ }
     ensures { λ r. ⌜ r ≡ chainDifference 0 (take m a) (take n b) ⌝ }
 {
     let mut i: usize = 0;

@@ -1,18 +1,34 @@
 //! What may happen at a card. A comparison that does not meet all of it has failed.
 
-use super::paper::{fields, Field, Number};
+use super::paper::{self, fields, Field, Number, GLOW, GLOWS};
 use crate::met::{Listed, Met};
 
 #[derive(Clone, Copy, PartialEq, Debug)]
 pub enum Case {
     Taken,
+    /// One that is taken with so many glows, and with so many passes.
+    Glows(usize),
+    Passes(usize),
     /// Refused by this number: the card, its station (13) or the buffer (14).
     Refused(Number),
+    /// A size that is remembered: by this glow, which is on and has so many before it; and where the chain has no pass.
+    HeldBy(usize),
+    HeldPast,
+    /// One for which the station is refused: by a glow that is off, and by another pass.
+    HeldOff,
+    HeldByAnother,
+    /// Refused by 3: so many passes.
+    Overfull(u32),
     /// Refused by 15: the second kind stands after the first, which is above it.
     OutOfOrder(u32, u32),
+    /// The same of a glow that is not the first one: a second or a third, so many of them before it.
+    GlowOutOfOrder(usize),
     /// Refused by 5: the kind of the record before it, and one of an earlier record, which is below the one before it too.
     DoubledNext,
     DoubledBelow,
+    /// The same of a fourth glow.
+    FourthNext,
+    FourthBelow,
     /// The card ends with a kind that is refused by this number, or with a good one, whose on bit is torn off (1).
     EndsWithKind(Number),
     /// A gamma that is taken, as it stands on the card.
@@ -70,17 +86,60 @@ const OF_A_KIND: [Number; 4] = [4, 5, 15, 1];
 /// How many pairs ten kinds have.
 const PAIRS: usize = 45;
 
-const COUNT: usize = 6 + NUMBERS.len() + OF_A_KIND.len() + PAIRS + GAMMAS.len();
+/// How many passes a card has that is taken, at most.
+const PASSES: usize = 12;
+
+/// Those that stand by themselves.
+const FIRST: [Case; 19] = [
+    Case::Taken,
+    Case::HeldBy(0),
+    Case::HeldBy(1),
+    Case::HeldBy(2),
+    Case::HeldPast,
+    Case::HeldOff,
+    Case::HeldByAnother,
+    Case::DoubledNext,
+    Case::DoubledBelow,
+    Case::FourthNext,
+    Case::FourthBelow,
+    Case::GlowOutOfOrder(1),
+    Case::GlowOutOfOrder(2),
+    Case::Overfull(13),
+    Case::Overfull(14),
+    Case::Overfull(15),
+    Case::GammaAbove,
+    Case::GammaFarAbove,
+    Case::GammaNotFinite,
+];
+
+const COUNT: usize = FIRST.len()
+    + (GLOWS + 1)
+    + (PASSES + 1)
+    + NUMBERS.len()
+    + OF_A_KIND.len()
+    + PAIRS
+    + GAMMAS.len();
 
 const ALL: [Case; COUNT] = {
     let mut all = [Case::Taken; COUNT];
-    all[1] = Case::DoubledNext;
-    all[2] = Case::DoubledBelow;
-    all[3] = Case::GammaAbove;
-    all[4] = Case::GammaFarAbove;
-    all[5] = Case::GammaNotFinite;
-    let mut place = 6;
+    let mut place = 0;
+    while place < FIRST.len() {
+        all[place] = FIRST[place];
+        place += 1;
+    }
     let mut next = 0;
+    while next <= GLOWS {
+        all[place] = Case::Glows(next);
+        place += 1;
+        next += 1;
+    }
+    next = 0;
+    while next <= PASSES {
+        all[place] = Case::Passes(next);
+        place += 1;
+        next += 1;
+    }
+    next = 0;
     while next < NUMBERS.len() {
         all[place] = Case::Refused(NUMBERS[next]);
         place += 1;
@@ -122,21 +181,63 @@ pub fn note(card: &[u8], answer: Result<usize, Number>, stopped: usize, met: &mu
         met.note(gamma);
     }
     let number = match answer {
-        Ok(_) => return met.note(Case::Taken),
+        Ok(_) => return note_taken(card, met),
         Err(number) => number,
     };
     met.note(Case::Refused(number));
-    let kinds = kinds(card, stopped);
-    match (number, &kinds[..]) {
-        (15, &[.., before, kind]) => met.note(Case::OutOfOrder(before, kind)),
-        (5, &[.., before, kind]) if kind < before => met.note(Case::DoubledBelow),
-        (5, &[.., before, kind]) if kind == before => met.note(Case::DoubledNext),
-        _ => {}
+    if let (3, &[first, ..]) = (number, card) {
+        met.note_listed(Case::Overfull(u32::from(first) & 15));
     }
+    note_kinds(number, &kinds(card, stopped), met);
     // Reading stops at the kind, or at the on bit after it.
     let end = if number == 1 { stopped } else { stopped + 4 };
     if OF_A_KIND.contains(&number) && end == 8 * card.len() && ends_with_kind(card, end) {
         met.note(Case::EndsWithKind(number));
+    }
+}
+
+/// Notes how many glows and passes a card has that is taken.
+fn note_taken(card: &[u8], met: &mut Met<Case>) {
+    let opened = paper::open(card).expect("the card is taken");
+    met.note(Case::Taken);
+    met.note_listed(Case::Glows(opened.glows().count()));
+    met.note_listed(Case::Passes(opened.records.len()));
+}
+
+/// Notes what a size is that a place is made to remember, where the card is a good one.
+pub fn note_held(card: &[u8], at: usize, answer: Result<usize, Number>, met: &mut Met<Case>) {
+    let Ok(opened) = paper::open(card) else {
+        return;
+    };
+    let glows = opened.records.iter().take(at).filter(|r| r.kind == GLOW);
+    let case = match (opened.records.get(at), answer) {
+        (None, Ok(_)) => Case::HeldPast,
+        (Some(record), Err(13)) if record.kind != GLOW => Case::HeldByAnother,
+        (Some(record), Err(13)) if !record.on => Case::HeldOff,
+        (Some(_), Ok(_)) => Case::HeldBy(glows.count()),
+        _ => return,
+    };
+    met.note_listed(case);
+}
+
+/// Notes what was refused at the last of these kinds.
+fn note_kinds(number: Number, kinds: &[u32], met: &mut Met<Case>) {
+    let &[.., before, kind] = kinds else {
+        return;
+    };
+    let glows = kinds.iter().filter(|&&kind| kind == GLOW).count();
+    match number {
+        15 => {
+            met.note(Case::OutOfOrder(before, kind));
+            if kind == GLOW && glows > 1 {
+                met.note_listed(Case::GlowOutOfOrder(glows - 1));
+            }
+        }
+        5 if kind == GLOW && kind < before => met.note(Case::FourthBelow),
+        5 if kind == GLOW => met.note(Case::FourthNext),
+        5 if kind < before => met.note(Case::DoubledBelow),
+        5 if kind == before => met.note(Case::DoubledNext),
+        _ => {}
     }
 }
 
@@ -186,7 +287,7 @@ fn number(card: &[u8], at: usize, width: usize) -> Option<u32> {
 }
 
 /// The kinds of the records that begin up to this bit.
-fn kinds(card: &[u8], upto: usize) -> Vec<u32> {
+pub fn kinds(card: &[u8], upto: usize) -> Vec<u32> {
     places(card)
         .take_while(|&(at, _)| at <= upto)
         .map(|(_, kind)| kind)

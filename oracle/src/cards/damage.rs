@@ -1,6 +1,6 @@
 //! Cards to be opened: good ones with settings of every kind, and what may become of them.
 
-use super::paper::{fields, put, Field};
+use super::paper::{fields, put, Field, GLOW, GLOWS};
 use crate::random::Random;
 
 /// Floats where the paper's rules change, or a reader may slip.
@@ -39,16 +39,18 @@ const FINITE: usize = 22;
 /// Bytes where a count is limited or refused.
 const BYTES: [u32; 9] = [0, 1, 2, 7, 8, 9, 64, 65, 255];
 
-/// A card of records of random kinds, in most cases each kind once and ascending, then damaged or not.
+/// A card of records of random kinds, in most cases no kind too often and ascending, then damaged or not.
 pub fn card(random: &mut Random) -> Vec<u8> {
     match random.below(64) {
-        0..4 => return (0..random.below(80)).map(|_| random.word() as u8).collect(),
+        0..4 => return (0..random.below(96)).map(|_| random.word() as u8).collect(),
         4 => return cut_after_a_kind(random),
+        5 => return overfull(random),
         _ => {}
     }
     let mut kinds = match random.below(16) {
         0 => any_order(random),
         1 => swapped(random),
+        2 => four_glows(random),
         _ => chain(random),
     };
     if !kinds.is_empty() && random.one_in(16) {
@@ -56,7 +58,7 @@ pub fn card(random: &mut Random) -> Vec<u8> {
         let place = random.below(kinds.len());
         kinds[place] = random.below(16) as u32;
     }
-    // Mostly what a card may hold: else few cards of ten records would be taken.
+    // Mostly what a card may hold: else few cards of twelve records would be taken.
     let bits = written(&kinds, random, |random| random.one_in(24));
     damaged(bits, random)
 }
@@ -68,14 +70,14 @@ pub fn good(random: &mut Random) -> Vec<u8> {
     bytes(&bits)
 }
 
-/// Kinds in ascending order, each at most once: what a card may name.
+/// Kinds in ascending order, each at most once but up to three glows: what a card may name.
 pub fn chain(random: &mut Random) -> Vec<u32> {
     let mut kinds = any_order(random);
     kinds.sort();
     kinds
 }
 
-/// The same with two neighbours exchanged, where there are two: one kind alone is out of order.
+/// The same with two neighbours exchanged, where there are two: one kind alone is out of order, if they are not two glows.
 pub fn swapped(random: &mut Random) -> Vec<u32> {
     let mut kinds = chain(random);
     if kinds.len() > 1 {
@@ -85,14 +87,38 @@ pub fn swapped(random: &mut Random) -> Vec<u32> {
     kinds
 }
 
-/// Kinds in any order, each at most once.
+/// Kinds in any order, each at most once but up to three glows.
 pub fn any_order(random: &mut Random) -> Vec<u32> {
     let mut kinds: Vec<u32> = (1..=10).collect();
+    kinds.extend(vec![GLOW; random.choose(&[0, 0, 1, 2])]);
     for place in (1..kinds.len()).rev() {
         kinds.swap(place, random.below(place + 1));
     }
-    kinds.truncate(random.below(11));
+    kinds.truncate(random.below(kinds.len() + 1));
     kinds
+}
+
+/// Kinds in ascending order with one glow too many, which may stand elsewhere. There may be one pass too many, too.
+pub fn four_glows(random: &mut Random) -> Vec<u32> {
+    let mut kinds = chain(random);
+    kinds.retain(|&kind| kind != GLOW);
+    kinds.extend([GLOW; GLOWS]);
+    kinds.sort();
+    let place = if random.one_in(2) {
+        kinds.iter().position(|&kind| kind == GLOW)
+    } else {
+        None
+    };
+    let place = place.unwrap_or_else(|| random.below(kinds.len() + 1));
+    kinds.insert(place, GLOW);
+    kinds
+}
+
+/// A card that says it had more passes than a card may have.
+fn overfull(random: &mut Random) -> Vec<u8> {
+    let mut card = good(random);
+    card[0] = 0x10 | random.within(13, 15) as u8;
+    card
 }
 
 /// The bits of a card of these kinds, up to its padding. `odd` says which settings may be any.

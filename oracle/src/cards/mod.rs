@@ -1,7 +1,7 @@
-//! The card: what opening and writing give, held to a reading of document 01, and of document 02's P2 and P3, that was written
+//! The card: what opening and writing give, held to a reading of document 01, and of document 02's P2, P3 and P12, that was written
 //! from the papers alone.
 
-mod cases;
+pub mod cases;
 pub mod compare;
 pub mod damage;
 pub mod paper;

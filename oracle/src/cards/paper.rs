@@ -1,5 +1,6 @@
-//! Document 01's card, with the order of document 02's P2 and the gamma of its P3, read and written as the papers say it, with
-//! nothing of the library; and the samples of its P9, and what a new depth may be by its P11.
+//! Document 01's card, with the order of document 02's P2, the gamma of its P3 and the three persistence passes of its P12, read and
+//! written as the papers say it, with nothing of the library; and the samples of its P9, and what a new depth may be by its P11. A
+//! persistence pass is called a glow here, as P12 does.
 
 /// A refusal's number.
 pub type Number = u32;
@@ -7,8 +8,17 @@ pub type Number = u32;
 /// A width and a height.
 pub type Size = (usize, usize);
 
-/// What a station remembers whose history holds no frame.
+/// What a pass remembers that is no glow, or whose history holds no frame.
 pub const NOTHING: Size = (0, 0);
+
+/// How many passes a card may name at most: so many places has a chain.
+pub const PASSES: usize = 12;
+
+/// How many of them may be glows.
+pub const GLOWS: usize = 3;
+
+/// What the pass at each place of a chain remembers.
+pub type Held = [Size; PASSES];
 
 /// A refusal, and the first bit of the field that is refused; for 7 the bit after the last field.
 #[derive(Clone, Copy)]
@@ -67,7 +77,10 @@ pub enum Field {
     Preset,
 }
 
-/// That of persistence.
+/// The kind of a glow.
+pub const GLOW: u32 = 4;
+
+/// Its depth.
 const DEPTH: Field = Field::Count(8);
 
 /// The settings of a kind, in the order of the paper's table.
@@ -89,6 +102,15 @@ pub fn fields(kind: u32) -> Option<&'static [Field]> {
         8..=10 => &[Limited(1.0)],
         _ => return None,
     })
+}
+
+/// How often a kind may stand on a card.
+fn most(kind: u32) -> usize {
+    if kind == GLOW {
+        GLOWS
+    } else {
+        1
+    }
 }
 
 /// The bits of a card, most significant first.
@@ -159,7 +181,7 @@ pub fn read(card: &[u8]) -> Result<Opened, Refusal> {
         return Err(refusal(2, 0, Place::Version));
     }
     let n = bits.take(4, Place::Passes)?;
-    if n > 10 {
+    if n as usize > PASSES {
         return Err(refusal(3, 4, Place::Passes));
     }
     let mut records: Vec<Record> = Vec::new();
@@ -167,7 +189,8 @@ pub fn read(card: &[u8]) -> Result<Opened, Refusal> {
         let (at, place) = (bits.at, Place::Kind(pass));
         let kind = bits.take(4, place)?;
         let fields = fields(kind).ok_or(refusal(4, at, place))?;
-        if records.iter().any(|record| record.kind == kind) {
+        let times = records.iter().filter(|record| record.kind == kind).count();
+        if times >= most(kind) {
             return Err(refusal(5, at, place));
         }
         if records.last().is_some_and(|before| kind < before.kind) {
@@ -196,7 +219,7 @@ pub fn read(card: &[u8]) -> Result<Opened, Refusal> {
 
 /// A depth that is not on a card but comes by a call, by document 02's P11: the same is refused, and 0 becomes 1.
 pub fn depth(byte: u8) -> Result<Value, Number> {
-    let (card, place) = (&[byte], Place::Setting(1, 4, 1));
+    let (card, place) = (&[byte], Place::Setting(1, GLOW, 1));
     let read = DEPTH.read(&mut Bits { card, at: 0 }, place);
     read.map_err(|refusal| refusal.number)
 }
@@ -242,14 +265,28 @@ fn line_samples(length: usize, radius: usize) -> usize {
     }
 }
 
+/// Whether a pass, if there is one, may remember frames of that size, by three of the parts of refusal 13.
+fn may_remember(record: Option<&Record>, held: Size) -> bool {
+    let (width, height) = held;
+    let above = width > 1024 || height > 1024;
+    let half = (width == 0) != (height == 0);
+    let remembers = record.is_some_and(|record| record.kind == GLOW && record.on);
+    !above && !half && (held == NOTHING || remembers)
+}
+
 impl Opened {
-    /// Whether a station of this chain may remember frames of that size, by the three parts of refusal 13.
-    pub fn may_hold(&self, held: Size) -> bool {
-        let (width, height) = held;
-        let above = width > 1024 || height > 1024;
-        let half = (width == 0) != (height == 0);
-        let remembers = self.records.iter().any(|r| r.kind == 4 && r.on);
-        !above && !half && (held == NOTHING || remembers)
+    /// The glows of the chain, by their order, on and off.
+    pub fn glows(&self) -> impl Iterator<Item = &Record> {
+        self.records.iter().filter(|record| record.kind == GLOW)
+    }
+
+    /// Whether the passes of a station of this chain may remember frames of these sizes: each by itself, and no two that differ.
+    pub fn may_hold(&self, held: &Held) -> bool {
+        let mut places = held.iter().enumerate();
+        let alone = places.all(|(place, &held)| may_remember(self.records.get(place), held));
+        let mut remembered = held.iter().filter(|&&held| held != NOTHING);
+        let first = remembered.next();
+        alone && remembered.all(|other| Some(other) == first)
     }
 
     /// The normalised card.

@@ -1,6 +1,6 @@
 //! A card on both sides, with all that a frame of one size needs.
 
-use crate::bridge::{self, Lent, State};
+use crate::bridge::{self, Lent, State, STATE};
 use crate::cards::paper::{curved, Opened};
 use crate::passes::curves;
 use crate::passes::effects::{built, effect};
@@ -54,13 +54,13 @@ pub fn picture((width, height): Size) -> Vec<u32> {
 impl Stand {
     /// The card opened on both sides. The buffers have the words that a frame needs, and none past them.
     pub fn new(case: &Case, size: Size) -> Self {
-        let mut state = [0; 80];
+        let mut state = [0; STATE];
         bridge::open(&card(case), &mut state).expect("a measured card is taken");
         let depth = bridge::depth(&state).expect("an opened station has a depth") as usize;
         let count = size.0 * size.1;
         Stand {
             size,
-            pipeline: built(&case.records, effect),
+            pipeline: built(&case.records, &[], effect),
             state,
             history: vec![0; depth * count],
             floats: vec![0.0; float_room(size.0, size.1)],

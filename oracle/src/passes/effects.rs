@@ -14,7 +14,8 @@ use super::original::pipeline::PostProcessPipeline;
 use super::original::scanlines::Scanlines;
 use super::original::vignette::Vignette;
 use crate::cards::paper::{Record, Value};
-use crate::passes::chain::COLOUR;
+use crate::passes::both::Past;
+use crate::passes::chain::{COLOUR, PERSISTENCE};
 use crate::passes::curves;
 
 /// In the order of the enum: a card holds the place.
@@ -64,12 +65,15 @@ pub fn with_curve(kind: u32, values: &[f32]) -> Box<dyn PostProcessEffect> {
     }
 }
 
-/// The pipeline of a card's records, each effect made by `make` and switched as its record says.
+/// The pipeline of a card's records, each effect made by `make` and switched as its record says. What a glow is to remember, by
+/// their order, is shown to it before: it keeps the frames as they come to it, and not its pictures.
 pub fn built(
     records: &[Record],
-    make: fn(u32, &[f32]) -> Box<dyn PostProcessEffect>,
+    pasts: &[Past],
+    make: impl Fn(u32, &[f32]) -> Box<dyn PostProcessEffect>,
 ) -> PostProcessPipeline {
     let mut pipeline = PostProcessPipeline::new();
+    let mut pasts = pasts.iter();
     for record in records {
         let value = |value: &Value| match *value {
             Value::Float(x) => x,
@@ -77,6 +81,13 @@ pub fn built(
         };
         let values: Vec<f32> = record.settings.iter().map(value).collect();
         let mut effect = make(record.kind, &values);
+        if record.kind == PERSISTENCE {
+            let past = pasts.next().cloned().unwrap_or_default();
+            let (width, height) = past.size;
+            for mut frame in past.frames {
+                effect.apply(&mut frame, width, height);
+            }
+        }
         effect.set_enabled(record.on);
         pipeline.add(Boxed(effect));
     }

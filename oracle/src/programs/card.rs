@@ -4,7 +4,8 @@ use super::cards::{Given, LONGEST};
 use super::cases::{OfCard, OfPair};
 use super::process::Said;
 use super::size;
-use crate::cards::paper::{self, Opened, Place, Record, Refusal, Size, Value};
+use crate::cards::cases::kinds;
+use crate::cards::paper::{self, Opened, Place, Record, Refusal, Size, Value, GLOW};
 use crate::met::Met;
 
 pub const USAGE: &str = "usage: card [--size WIDTHxHEIGHT] CARD [CARD]   \
@@ -98,6 +99,7 @@ pub fn two(words: Option<&str>, given: &[Given; 2], met: &mut Met<OfPair>) -> Sa
                 if paper::curved(&a.records).is_some() {
                     met.note(OfPair::Curved);
                 }
+                met.note(OfPair::Lit(a.glows().filter(|glow| glow.on).count()));
                 alike(&a.records)
             }
         },
@@ -105,15 +107,16 @@ pub fn two(words: Option<&str>, given: &[Given; 2], met: &mut Met<OfPair>) -> Sa
     Said::output(titles + &last + "\n")
 }
 
-/// From when on two stations with these settings show the same picture: the point of document 01.
+/// From when on two stations with these settings show the same picture: the point of document 01, and of document 02's P12 where there
+/// are several glows.
 fn alike(records: &[Record]) -> String {
     let depth = |record: &Record| match record.settings[..] {
-        [_, Value::Whole(depth, _)] if record.kind == 4 && record.on => Some(depth),
-        _ => None,
+        [_, Value::Whole(depth, _)] if record.kind == GLOW && record.on => depth,
+        _ => 0,
     };
-    let when = match records.iter().find_map(depth) {
-        None => "from the first shared frame on".to_string(),
-        Some(depth) => format!("after {depth} shared frames, or from a shared reset on"),
+    let when = match records.iter().map(depth).sum::<u32>() {
+        0 => "from the first shared frame on".to_string(),
+        frames => format!("after {frames} shared frames, or from a shared reset on"),
     };
     // Document 02, P3: their calls also lend equal curves.
     let curve = match paper::curved(records) {
@@ -299,12 +302,24 @@ fn note_size(words: Option<&str>, met: &mut Met<OfCard>) {
     }
 }
 
+/// Whether it is a glow at which a card is refused: a fourth one by 5, one that is not the first by 15.
+fn note_glow(card: &[u8], Refusal { number, at, .. }: Refusal, met: &mut Met<OfCard>) {
+    let kinds = kinds(card, at);
+    let glows = kinds.iter().filter(|&&kind| kind == GLOW).count();
+    match (number, kinds.last()) {
+        (5, Some(&GLOW)) => met.note(OfCard::FourthGlow),
+        (15, Some(&GLOW)) if glows > 1 => met.note(OfCard::GlowOutOfOrder),
+        _ => {}
+    }
+}
+
 /// What happens at a card.
 fn note(card: &[u8], size: Option<Size>, met: &mut Met<OfCard>) {
     let opened = match paper::read(card) {
         Ok(opened) => opened,
         Err(refusal) => {
             let rest = 8 * card.len() - refusal.at;
+            note_glow(card, refusal, met);
             return met.note(match refusal.number {
                 1 if rest == 0 => OfCard::TornBefore,
                 1 => OfCard::TornInside,
@@ -319,9 +334,12 @@ fn note(card: &[u8], size: Option<Size>, met: &mut Met<OfCard>) {
     } else {
         OfCard::Limited
     });
-    if opened.records.is_empty() {
-        met.note(OfCard::NoPass);
+    match opened.records.len() {
+        0 => met.note(OfCard::NoPass),
+        12 => met.note(OfCard::TwelvePasses),
+        _ => {}
     }
+    met.note(OfCard::Glows(opened.glows().count()));
     let samples = size::samples(&opened.records, size::ALWAYS);
     met.note(OfCard::Samples(samples > 0));
     let lines = size.map(|size| size::lines(&opened.records, size));

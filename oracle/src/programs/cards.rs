@@ -3,7 +3,7 @@
 
 use super::process::{FOLDER, MISSING};
 use crate::cards::damage::{self, any_order, bytes, chain, damaged, swapped};
-use crate::cards::paper::{self, fields, put, Field, Opened, Record};
+use crate::cards::paper::{self, fields, put, Field, Opened, Record, GLOW, GLOWS};
 use crate::cards::spelling::{head, respelt};
 use crate::random::Random;
 
@@ -23,7 +23,7 @@ pub fn card(random: &mut Random) -> Vec<u8> {
         42 => {
             // Far more bytes than a card has, or than the program reads.
             let mut card = good(random);
-            card.resize(random.within(80, 5_000), random.choose(&[0, 0xff]));
+            card.resize(random.within(90, 5_000), random.choose(&[0, 0xff]));
             card
         }
         43 => bytes(&of(&swapped(random), random)),
@@ -146,8 +146,10 @@ pub fn pair(random: &mut Random) -> [Vec<u8>; 2] {
 /// Changes one thing, or nothing.
 fn change(opened: &mut Opened, random: &mut Random) {
     let records = &mut opened.records;
+    let times = |kind: u32| records.iter().filter(|record| record.kind == kind).count();
+    // Kinds that may stand there once more.
     let absent: Vec<u32> = (1..=10)
-        .filter(|&kind| records.iter().all(|record| record.kind != kind))
+        .filter(|&kind| times(kind) < if kind == GLOW { GLOWS } else { 1 })
         .collect();
     if records.is_empty() {
         records.push(record(random.choose(&absent), random));

@@ -15,6 +15,9 @@ pub enum OfCard {
     Normal,
     Limited,
     NoPass,
+    /// As many passes as a card may have; and so many glows.
+    TwelvePasses,
+    Glows(usize),
     /// A pass of this kind, off or on.
     Pass(u32, bool),
     Preset(u32),
@@ -29,6 +32,9 @@ pub enum OfCard {
     Longest,
     /// Refusals by number, apart from those below.
     Refused(u32),
+    /// A fourth glow, and a second or third one out of order.
+    FourthGlow,
+    GlowOutOfOrder,
     /// Torn: no bit of the field is there, or some are.
     TornBefore,
     TornInside,
@@ -66,6 +72,11 @@ impl Listed for OfCard {
         OfCard::Normal,
         OfCard::Limited,
         OfCard::NoPass,
+        OfCard::TwelvePasses,
+        OfCard::Glows(0),
+        OfCard::Glows(1),
+        OfCard::Glows(2),
+        OfCard::Glows(3),
         OfCard::Pass(1, false),
         OfCard::Pass(1, true),
         OfCard::Pass(2, false),
@@ -108,6 +119,8 @@ impl Listed for OfCard {
         OfCard::Refused(5),
         OfCard::Refused(6),
         OfCard::Refused(15),
+        OfCard::FourthGlow,
+        OfCard::GlowOutOfOrder,
         OfCard::Padding,
         OfCard::LeftOver,
         OfCard::Samples(false),
@@ -132,10 +145,11 @@ impl Listed for OfCard {
 /// At a pair of cards.
 #[derive(Clone, Copy, PartialEq, Debug)]
 pub enum OfPair {
-    /// Alike, with the same bytes or spelt differently; and one of these with a gamma other than 1.
+    /// Alike, with the same bytes or spelt differently; and one of these with a gamma other than 1, and with so many glows that are on.
     Same,
     Respelt,
     Curved,
+    Lit(usize),
     /// The first difference: one chain is longer, another kind, another switch, or the setting at this place.
     FirstLonger,
     SecondLonger,
@@ -159,6 +173,10 @@ impl Listed for OfPair {
         OfPair::Same,
         OfPair::Respelt,
         OfPair::Curved,
+        OfPair::Lit(0),
+        OfPair::Lit(1),
+        OfPair::Lit(2),
+        OfPair::Lit(3),
         OfPair::FirstLonger,
         OfPair::SecondLonger,
         OfPair::Kind,
@@ -191,12 +209,14 @@ mod of_run {
     pub enum OfRun {
         /// So many frames were shown.
         Frames(usize),
-        /// A frame through a chain without persistence, or with persistence off.
+        /// A frame through a chain without a glow that is on.
         Frame,
-        /// A frame that fills the history, one that meets it, and one that fills it since it has the same count in another shape.
+        /// A frame that fills the histories, one that meets them, and one that fills them since it has the same count in another shape.
         Refill,
         Blend,
         Turned,
+        /// A frame through so many glows that are on, more than one.
+        Several(usize),
         /// A frame of this size: the smallest, and the largest that are taken.
         Size(usize, usize),
         /// A header with a comment in it, one with other white bytes than space and newline, and one with neither.
@@ -246,6 +266,8 @@ mod of_run {
             OfRun::Refill,
             OfRun::Blend,
             OfRun::Turned,
+            OfRun::Several(2),
+            OfRun::Several(3),
             OfRun::Size(1, 1),
             OfRun::Size(256, 240),
             OfRun::Size(60, 1024),

@@ -165,6 +165,8 @@ mod files {
         total.add_files(&tally);
         total.unmet += met.report();
         total.add_turned(met.count(OfRun::Turned));
+        let several = [2, 3].map(|lit| met.count(OfRun::Several(lit)));
+        total.add_several(several.iter().sum());
         total.add_curved(met.count(OfRun::Curved));
         Ok(())
     }

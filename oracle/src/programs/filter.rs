@@ -10,7 +10,7 @@ use super::process::{Said, PIPE};
 use crate::cards::paper::{self, Opened, Size};
 use crate::met::Met;
 use crate::passes::both::Both;
-use crate::passes::chain::{COLOUR, PERSISTENCE};
+use crate::passes::chain::COLOUR;
 use crate::passes::curves;
 use crate::reports::Reports;
 
@@ -82,16 +82,18 @@ fn played(run: &Run, met: &mut Met<OfRun>) -> Result<(Said, Vec<usize>), Said> {
         return Err(Said::refusal(&run.files[0].name, NO_CURVE));
     }
 
-    let remembers = |r: &paper::Record| r.kind == PERSISTENCE && r.on;
-    let remembers = opened.records.iter().any(remembers);
+    let lit = opened.glows().filter(|glow| glow.on).count();
     let mut pipeline = Both::built(&opened.records);
     let mut written = Vec::new();
     let mut told = String::new();
     let mut counts = Vec::new();
     let mut held = None;
     for ((frame, bytes), file) in files.into_iter().zip(&run.files) {
-        let case = taken(&frame, held, remembers);
+        let case = taken(&frame, held, lit > 0);
         note(&frame, bytes, case, met);
+        if lit > 1 {
+            met.note(OfRun::Several(lit));
+        }
         held = Some((frame.width, frame.height));
         if case == OfRun::Turned {
             pipeline = Both::built(&opened.records);
@@ -194,10 +196,7 @@ fn note(frame: &Frame, file: &[u8], case: OfRun, met: &mut Met<OfRun>) {
         start,
     } = frame;
     met.note(case);
-    let size = OfRun::Size(width, height);
-    if met.listed(size) {
-        met.note(size);
-    }
+    met.note_listed(OfRun::Size(width, height));
     if file.len() == ppm::ROOM {
         met.note(OfRun::Full);
     }

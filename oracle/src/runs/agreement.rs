@@ -1,15 +1,15 @@
 //! Agreement by trial: two stations from cards that normalise alike, each with its own past and its own
-//! buffers, then one shared list of calls. From the point that document 01 gives, and document 02's P11 where the depth is
-//! changed, answers, reports, states and pictures have to be equal; before it they are looked at, since a trial in which
-//! nothing can differ shows nothing. The samples that a frame reports have to be equal from the first call on.
+//! buffers, then one shared list of calls. From the point that document 01 gives, document 02's P11 where the depth is
+//! changed, and its P12 where there are several glows, answers, reports, states and pictures have to be equal; before it they are looked
+//! at, since a trial in which nothing can differ shows nothing. The samples that a frame reports have to be equal from the first call on.
 
 use super::calls::{self, Call, Frame, Sizes};
 use super::cards;
 use super::cases::Point;
 use super::noise::Noise;
 use super::sides::Checked;
-use super::station::{Pending, Station, DEEPEST};
-use crate::bridge::{self, Answer, Lent, State, UNTOLD};
+use super::station::{Pending, Station};
+use crate::bridge::{self, Answer, Lent, State, STATE, UNTOLD};
 use crate::cards::paper::Size;
 use crate::cards::spelling;
 use crate::met::Met;
@@ -74,7 +74,7 @@ fn trial(random: &mut Random, tally: &mut RunTally, met: &mut Met<Point>) -> Che
     if a.station.held != b.station.held {
         met.note(Point::HeldDiffers);
     }
-    if a.station.holds() && a.station.turned(b.station.held) {
+    if a.station.holds() && a.station.turned(b.station.shape()) {
         met.note(Point::HeldTurned);
     }
     if a.station.pending.is_some() {
@@ -85,10 +85,10 @@ fn trial(random: &mut Random, tally: &mut RunTally, met: &mut Met<Point>) -> Che
 
 /// Two stations from the same card, spelt differently or alike.
 fn pair(random: &mut Random, met: &mut Met<Point>) -> Checked<(Own, Own)> {
-    let card = if random.one_in(8) {
-        cards::card(random)
-    } else {
-        cards::remembering(random)
+    let card = match random.below(8) {
+        0 => cards::card(random),
+        1..4 => cards::shallow(random),
+        _ => cards::remembering(random),
     };
     let station = Station::open(&card).expect("the card is a good one");
     let other = if random.one_in(4) {
@@ -107,7 +107,7 @@ fn pair(random: &mut Random, met: &mut Met<Point>) -> Checked<(Own, Own)> {
 }
 
 fn own(card: &[u8], station: &Station, longest: usize, random: &mut Random) -> Checked<Own> {
-    let mut state = [0xa5; 80];
+    let mut state = [0xa5; STATE];
     let answer = bridge::open(card, &mut state);
     if (answer, state) != (Ok(0), station.state()) {
         return Err(format!(
@@ -115,7 +115,7 @@ fn own(card: &[u8], station: &Station, longest: usize, random: &mut Random) -> C
         ));
     }
     // Room for every frame and every depth in most cases, and in some not.
-    let most = DEEPEST * longest * longest;
+    let most = station.frames_at_most().max(1) * longest * longest;
     let words = if random.one_in(8) {
         random.below(most + 1)
     } else {
@@ -178,7 +178,8 @@ fn turn(a: &Own, b: &mut Own, random: &mut Random, tally: &mut RunTally) -> Chec
     Ok(())
 }
 
-/// Makes the switches of `b`, one kind after another, the preset, the depth and the pending switch those of `a`.
+/// Makes the switches of `b`, one kind after another, the preset, the depth and the pending switch those of `a`. Of several glows the
+/// first alone can be switched or get another depth: the others stand as on the card.
 fn equalise(a: &Own, b: &mut Own, random: &mut Random, tally: &mut RunTally) -> Checked {
     let asked = a.station.pending;
     // A commit alone clears another record. What it switches is made equal with the others.
@@ -186,13 +187,10 @@ fn equalise(a: &Own, b: &mut Own, random: &mut Random, tally: &mut RunTally) -> 
     if another && b.station.pending.is_some() {
         b.call(&Call::Commit, random, tally)?;
     }
-    for record in a.station.records() {
-        if b.station.is_on(record.kind) != record.on {
-            b.call(
-                &Call::Switch(record.kind as u8, record.on.into()),
-                random,
-                tally,
-            )?;
+    for kind in a.station.kinds() {
+        let on = a.station.is_on(kind.into());
+        if b.station.is_on(kind.into()) != on {
+            b.call(&Call::Switch(kind, on.into()), random, tally)?;
         }
     }
     while a.station.preset() != b.station.preset() {
@@ -219,36 +217,64 @@ fn same_depth(a: &Own, b: &mut Own, random: &mut Random, tally: &mut RunTally) -
     Ok(())
 }
 
-/// Persistence to off.
+/// The first glow to off.
 const OFF: Pending = Pending {
     kind: PERSISTENCE as u8,
     on: false,
 };
 
+/// Whether the first glow is the only one that is on.
+fn first_alone(station: &Station) -> bool {
+    station.is_on(PERSISTENCE) && station.lit().len() == 1
+}
+
 /// Where a shared list stands.
 struct Course {
-    /// How many frames persistence has still to take.
+    /// How many frames are still to be taken.
     left: usize,
     /// The same as if no change of depth began the count anew, and whether one did.
     left_of_first: usize,
     anew: bool,
+    /// The same as if the deepest glow alone were counted.
+    left_of_deepest: usize,
+    /// How many glows were on as the count began.
+    lit: usize,
+    /// Whether one of several was switched off, and others stayed on; and whether the first was switched on beside others.
+    one_off: bool,
+    one_on: bool,
     agreed: bool,
 }
 
 impl Course {
-    /// At the start: with persistence off or absent there is nothing to wait for.
+    /// At the start: with no glow on there is nothing to wait for.
     fn new(station: &Station, met: &mut Met<Point>) -> Self {
         if !station.has(PERSISTENCE) {
             met.note(Point::Absent);
         } else if !station.remembers() {
             met.note(Point::Off);
         }
-        Course {
-            left: station.depth().unwrap_or_default(),
-            left_of_first: station.depth().unwrap_or_default(),
+        let mut course = Course {
+            left: 0,
+            left_of_first: 0,
             anew: false,
+            left_of_deepest: 0,
+            lit: 0,
+            one_off: false,
+            one_on: false,
             agreed: !station.remembers(),
-        }
+        };
+        course.count(station);
+        course.left_of_first = course.left;
+        course
+    }
+
+    /// Begins to count: as many frames as the depths of the glows that are on add up to.
+    fn count(&mut self, station: &Station) {
+        let lit = station.lit();
+        let depths = lit.iter().map(|&place| station.depth_at(place));
+        self.left = station.frames_of(&lit);
+        self.left_of_deepest = depths.max().unwrap_or_default();
+        self.lit = lit.len();
     }
 
     /// Before a call on this station: whether the point is reached by it.
@@ -257,17 +283,27 @@ impl Course {
             return;
         }
         let point = match call {
-            _ if self.left == 0 && self.anew => Point::FramesAnew,
-            _ if self.left == 0 => Point::Frames,
-            Call::Reset => Point::Reset,
-            // Persistence is on: these are switchings-off.
-            Call::Switch(kind, 0) if u32::from(*kind) == PERSISTENCE => Point::SwitchedOff,
-            Call::Commit if station.pending == Some(OFF) => Point::CommittedOff,
+            _ if self.left == 0 && self.anew => Point::FramesAnew(self.lit),
+            _ if self.left == 0 => Point::Frames(self.lit),
+            Call::Reset => Point::Reset(self.lit > 1),
+            // These leave no glow on.
+            Call::Switch(kind, 0) if *kind == OFF.kind && first_alone(station) => {
+                Point::SwitchedOff
+            }
+            Call::Commit if station.pending == Some(OFF) && first_alone(station) => {
+                Point::CommittedOff
+            }
             _ => return,
         };
         assert!(station.remembers());
         self.agreed = true;
         met.note(point);
+        if self.one_off {
+            met.note(Point::OneOff);
+        }
+        if self.one_on {
+            met.note(Point::OneOn);
+        }
     }
 
     /// After a call, with the stations as they were before and what they answered: whether the list goes on. It does not where, before
@@ -297,11 +333,17 @@ impl Course {
         answers[0].is_ok() == answers[1].is_ok()
     }
 
-    /// After a new depth before the point, which both took: the count begins anew, with it.
+    /// After a new depth before the point, which both took: the count begins anew, with it and with those of the other glows that are on.
     fn resized(&mut self, [here, there]: [&Station; 2], depth: u8, met: &mut Met<Point>) {
-        self.left = depth.max(1).into();
+        let mut after = here.clone();
+        let taken = after.set_depth(depth, usize::MAX);
+        assert!(taken.is_ok());
+        self.count(&after);
         self.anew = true;
         met.note(Point::ResizedBefore(here.beside(depth)));
+        if here.glows().len() > 1 {
+            met.note(Point::ResizedSeveral(here.beside(depth)));
+        }
         if here.held != there.held {
             met.note(Point::ResizedApart);
         }
@@ -313,17 +355,59 @@ impl Course {
             (Call::Frame(frame), Ok(_)) => {
                 self.left -= 1;
                 self.left_of_first = self.left_of_first.saturating_sub(1);
-                if !station.meets(frame.size) {
+                self.left_of_deepest = self.left_of_deepest.saturating_sub(1);
+                let refills = |&place: &usize| !station.meets(place, frame.size);
+                if station.lit().iter().any(refills) {
                     met.note(Point::RefillBefore);
                 }
                 if station.turned(frame.size) {
                     met.note(Point::TurnedBefore);
                 }
             }
+            (Call::Switch(kind, on), Ok(_)) => self.switched(station, *kind, *on != 0, met),
             (Call::Ask(..), Ok(_)) => met.note(Point::AskedBefore),
-            (Call::Commit, Ok(_)) => met.note(Point::CommittedBefore),
+            (Call::Commit, Ok(_)) => {
+                met.note(Point::CommittedBefore);
+                if let Some(Pending { kind, on }) = station.pending {
+                    self.switched(station, kind, on, met);
+                }
+            }
             (_, Err(_)) => met.note(Point::RefusedBefore),
             _ => {}
+        }
+    }
+
+    /// After a frame before the point of which the pictures differ.
+    fn note_different(&self, met: &mut Met<Point>) {
+        let several = self.lit > 1;
+        let cases = [
+            (self.left_of_first == 0, Point::DiffersAnew),
+            (
+                several && self.left_of_deepest == 0,
+                Point::DiffersPastDeepest(self.lit),
+            ),
+            (several && self.left == 1, Point::DiffersLast(self.lit)),
+            (self.one_off, Point::DiffersOneOff),
+            (self.one_on, Point::DiffersOneOn),
+        ];
+        for (_, case) in cases.iter().filter(|(is, _)| *is) {
+            met.note(*case);
+        }
+    }
+
+    /// After a switch before the point, on a station that stood so before it: of the first glow while others are on, it changes nothing
+    /// of the count.
+    fn switched(&mut self, station: &Station, kind: u8, on: bool, met: &mut Met<Point>) {
+        let was = station.is_on(PERSISTENCE);
+        if kind != OFF.kind || was == on {
+            return;
+        }
+        if on {
+            self.one_on = true;
+            met.note(Point::FirstOn);
+        } else {
+            self.one_off = true;
+            met.note(Point::FirstOff);
         }
     }
 }
@@ -339,7 +423,9 @@ fn shared_list(
     let room = a.history.len().min(b.history.len());
     let mut course = Course::new(&a.station, met);
     let mut differed = false;
-    for number in 0..random.within(4, 28) {
+    // Several glows take longer.
+    let more = course.left.saturating_sub(course.left_of_deepest);
+    for number in 0..random.within(4, 28) + more {
         let call = shared_call(a, b, room, random);
         course.reach(&a.station, &call, met);
         let before = a.station.clone();
@@ -354,9 +440,7 @@ fn shared_list(
         }
         if here.picture != there.picture {
             differed = true;
-            if course.left_of_first == 0 {
-                met.note(Point::DiffersAnew);
-            }
+            course.note_different(met);
         }
         if here.reports != there.reports {
             met.note(Point::ClippedDiffers);
@@ -365,7 +449,9 @@ fn shared_list(
         if let Call::Frame(frame) = &call {
             let turned = [(&before, &here), (&beside, &there)]
                 .map(|(station, seen)| turns(station, &call, seen.answer));
-            if turned[0] && beside.meets(frame.size) || turned[1] && before.meets(frame.size) {
+            let [here_meets, there_meets] =
+                [&before, &beside].map(|station| station.shape() == frame.size);
+            if turned[0] && there_meets || turned[1] && here_meets {
                 met.note(Point::OneTurned);
             }
             note_curves(a, b, here.answer, course.agreed, met);
@@ -409,10 +495,13 @@ fn note_curves(a: &Own, b: &Own, answer: Answer, agreed: bool, met: &mut Met<Poi
     });
 }
 
-/// Frames above all: a reset or a switching-off brings the point at once. A new depth asks for words of what one of the two holds.
+/// Frames above all: a reset or a switching-off brings the point at once, but not of one of several glows. A new depth asks for words of
+/// what one of the two holds.
 fn shared_call(a: &mut Own, b: &Own, room: usize, random: &mut Random) -> Call {
     if a.station.pending.is_some() && random.one_in(16) {
         Call::Commit
+    } else if a.station.glows().len() > 1 && random.one_in(16) {
+        Call::Switch(PERSISTENCE as u8, random.below(2) as u8)
     } else if random.one_in(12) {
         let own = if random.one_in(2) { &*a } else { b };
         calls::set_depth(&own.station, room, random)
@@ -458,7 +547,7 @@ impl Own {
                 (bridge::set_depth(&mut self.state, lent, *depth), asked)
             }
             Call::Write(_) | Call::Depth => {
-                let asked = self.station.depth().unwrap_or_default() as u32;
+                let asked = self.station.frames() as u32;
                 (bridge::depth(&self.state), Ok(asked))
             }
         };

@@ -3,10 +3,10 @@
 
 use super::cards;
 use super::sides::Checked;
-use super::station::HEIGHT_END;
+use super::station::{held_bytes, HELD_END, MOST_FRAMES};
 use super::still;
-use crate::bridge::{self, Answer, Lent, State, UNTOLD};
-use crate::cards::paper::{self, Size};
+use crate::bridge::{self, Answer, Lent, State, STATE, UNTOLD};
+use crate::cards::paper::{self, Record, Size};
 use crate::met::{Listed, Met};
 use crate::passes::chain::PERSISTENCE;
 use crate::passes::curves::READ;
@@ -38,16 +38,19 @@ impl Listed for Told {
     ];
 }
 
-/// Document 01's persistence of 0.5 and depth 1, then any cards.
+/// Document 01's persistence of 0.5 and depth 1 twice, both on.
+const TWICE: [u8; 13] = [0x12, 0x49, 0xf8, 0, 0, 0, 0x0a, 0x4f, 0xc0, 0, 0, 0, 0x40];
+
+/// Document 01's persistence of 0.5 and depth 1, the same twice, then any cards.
 pub fn cards(mode: Mode) -> Vec<Vec<u8>> {
     let random = &mut Random::named("asked");
     let count = match mode {
         Mode::Quick => 200,
         Mode::Full => 4_000,
     };
-    let first = still::card(0.5, 1).to_vec();
+    let first = [still::card(0.5, 1).to_vec(), TWICE.to_vec()];
     let drawn = std::iter::repeat_with(|| cards::card(random));
-    std::iter::once(first).chain(drawn).take(count).collect()
+    first.into_iter().chain(drawn).take(count).collect()
 }
 
 /// Plays every list on a station of the card.
@@ -61,13 +64,15 @@ pub fn compare(card: &Vec<u8>, at: usize, tally: &mut RunTally, met: &mut Met<To
     }
 }
 
-const LISTS: [(&str, fn(&mut Tested) -> Checked); 7] = [
+const LISTS: [(&str, fn(&mut Tested) -> Checked); 9] = [
     ("asked once", once),
     ("asked for what is not there", absent),
     ("asked for as it stands", present),
     ("switched in between", between),
     ("kept by every other call", kept),
     ("shown until the commit", shown),
+    ("the first of several glows", first),
+    ("the first of two shown until the commit", first_shown),
     ("pending switches that no station has", bad),
 ];
 
@@ -178,16 +183,59 @@ fn shown(station: &mut Tested) -> Checked {
     station.shows(0x00_0000, 0x55_5555)
 }
 
-/// A pending switch that no station has: of a kind that is not in the chain, with a position but no kind, with a position above 1, with
-/// a last byte that is not 0.
+/// Of several glows the first is switched, and forgets where it is switched off: the others stand as on the card, and what they remember
+/// stays.
+fn first(station: &mut Tested) -> Checked {
+    if station.glows().len() < 2 {
+        return Ok(());
+    }
+    let kinds = station.records().into_iter().map(|record| record.kind);
+    let place = kinds.take_while(|&kind| kind < PERSISTENCE).count();
+    for on in [0, 1, 0] {
+        station.frame()?;
+        let mut sizes = station.state[held_bytes(0).start..HELD_END].to_vec();
+        let mut asked = station.glows();
+        if asked[0] && on == 0 {
+            sizes[4 * place..][..4].fill(0);
+        }
+        asked[0] = on != 0;
+        station.ask(PERSISTENCE as u8, on)?;
+        station.commit()?;
+        same("glows", station.glows(), asked)?;
+        let here = station.state[held_bytes(0).start..HELD_END].to_vec();
+        same("remembered sizes", here, sizes)?;
+    }
+    Ok(())
+}
+
+/// The first of two glows of 0.5 and depth 1 that is to be off: both ghosts are shown up to the commit, and the second one's after it.
+fn first_shown(station: &mut Tested) -> Checked {
+    if station.state[1..14] != TWICE {
+        return Ok(());
+    }
+    station.shows(0xff_ffff, 0xff_ffff)?;
+    station.ask(PERSISTENCE as u8, 0)?;
+    // 555555 comes to the second one, which remembers white.
+    station.shows(0x00_0000, 0x8d_8d8d)?;
+    station.commit()?;
+    station.shows(0x00_0000, 0x1c_1c1c)?;
+    station.shows(0x00_0000, 0x00_0000)?;
+    // On again, the first one begins anew, and the second goes on.
+    station.ask(PERSISTENCE as u8, 1)?;
+    station.commit()?;
+    station.shows(0xff_ffff, 0xaa_aaaa)?;
+    station.shows(0x00_0000, 0x8d_8d8d)
+}
+
+/// A pending switch that no station has: of a kind that is not in the chain, with a position but no kind, with a position above 1.
 fn bad(station: &mut Tested) -> Checked {
     let kinds = station.kinds();
-    let mut switches = vec![[255, 1, 0], [0, 1, 0], [0, 2, 0], [0, 0, 1], [0, 0, 255]];
+    let mut switches = vec![[255, 1], [0, 1], [0, 2], [0, 255]];
     for kind in 1..=11 {
         switches.extend(if kinds.contains(&kind) {
-            [[kind, 2, 0], [kind, 255, 0], [kind, 1, 1], [kind, 0, 128]].to_vec()
+            [[kind, 2], [kind, 255]]
         } else {
-            [[kind, 0, 0], [kind, 1, 0]].to_vec()
+            [[kind, 0], [kind, 1]]
         });
     }
     for pending in switches {
@@ -235,15 +283,15 @@ const OTHERS: [(&str, Call); 22] = [
 const SIZE: Size = (3, 2);
 const COUNT: usize = SIZE.0 * SIZE.1;
 
-/// Words that are enough for the deepest history, and for either scratch.
-const ENOUGH: usize = 8 * COUNT;
+/// Words that are enough for the deepest histories, and for either scratch.
+const ENOUGH: usize = MOST_FRAMES * COUNT;
 
 /// What is lent to the calls, and is looked at after them.
 #[derive(Clone, PartialEq)]
 struct Buffers {
     framebuffer: [u32; COUNT],
     history: [u32; ENOUGH],
-    card: [u8; 72],
+    card: [u8; 83],
     reports: [u32; 2],
 }
 
@@ -252,7 +300,7 @@ impl Buffers {
         Buffers {
             framebuffer: [0x12_3456, 0xff_ffff, 0, 0x80_4020, 0xff_00ff, 0x01_0203],
             history: [0x55_aa33; ENOUGH],
-            card: [0xa5; 72],
+            card: [0xa5; 83],
             reports: UNTOLD,
         }
     }
@@ -277,13 +325,13 @@ impl Buffers {
     }
 }
 
-/// The three bytes in which nothing is pending.
-const NONE: [u8; 3] = [0; 3];
+/// The two bytes in which nothing is pending.
+const NONE: [u8; 2] = [0; 2];
 
 /// The state with these bytes for its pending switch.
-fn with_pending(state: &State, pending: [u8; 3]) -> State {
+fn with_pending(state: &State, pending: [u8; 2]) -> State {
     let mut state = *state;
-    state[HEIGHT_END..].copy_from_slice(&pending);
+    state[HELD_END..].copy_from_slice(&pending);
     state
 }
 
@@ -298,7 +346,7 @@ struct Tested<'a> {
 impl<'a> Tested<'a> {
     fn opened(card: &[u8], tally: &'a mut RunTally, met: &'a mut Met<Told>) -> Checked<Self> {
         let mut station = Tested {
-            state: [0xa5; 80],
+            state: [0xa5; STATE],
             lent: Buffers::new(),
             tally,
             met,
@@ -308,17 +356,31 @@ impl<'a> Tested<'a> {
         Ok(station)
     }
 
-    /// Those of the chain, by the card that the state holds.
-    fn kinds(&self) -> Vec<u8> {
+    /// The records of the chain, by the card that the state holds.
+    fn records(&self) -> Vec<Record> {
         let card = &self.state[1..][..self.state[0].into()];
-        let records = paper::open(card).map_or(Vec::new(), |opened| opened.records);
-        records.iter().map(|record| record.kind as u8).collect()
+        paper::open(card).map_or(Vec::new(), |opened| opened.records)
     }
 
-    /// The three bytes of the pending switch.
-    fn pending(&self) -> [u8; 3] {
-        let [.., kind, on, behind] = self.state;
-        [kind, on, behind]
+    /// Each kind of the chain once.
+    fn kinds(&self) -> Vec<u8> {
+        let records = self.records();
+        let mut kinds: Vec<u8> = records.iter().map(|record| record.kind as u8).collect();
+        kinds.dedup();
+        kinds
+    }
+
+    /// Whether each glow of the chain is on.
+    fn glows(&self) -> Vec<bool> {
+        let records = self.records().into_iter();
+        let glows = records.filter(|record| record.kind == PERSISTENCE);
+        glows.map(|record| record.on).collect()
+    }
+
+    /// The two bytes of the pending switch.
+    fn pending(&self) -> [u8; 2] {
+        let [.., kind, on] = self.state;
+        [kind, on]
     }
 
     /// Makes a call that has to answer this. A refused one leaves the state and what is lent.
@@ -363,7 +425,7 @@ impl<'a> Tested<'a> {
 
     /// Asks for a switch: what is pending is another, and nothing else.
     fn ask(&mut self, kind: u8, on: u8) -> Checked {
-        let after = with_pending(&self.state, [kind, u8::from(on != 0), 0]);
+        let after = with_pending(&self.state, [kind, u8::from(on != 0)]);
         let what = format!("ask {kind} {on}");
         self.takes(&what, |state, _| bridge::ask(state, kind, on))?;
         self.stands(&after)
@@ -371,7 +433,7 @@ impl<'a> Tested<'a> {
 
     /// Commits: the state is that of a switch at once, and nothing is pending.
     fn commit(&mut self) -> Checked {
-        let [kind, on, _] = self.pending();
+        let [kind, on] = self.pending();
         let mut after = with_pending(&self.state, NONE);
         same("switch", bridge::set_enabled(&mut after, kind, on), Ok(0))?;
         self.takes("commit", COMMIT)?;

@@ -203,7 +203,7 @@ fn enough(
         needed + random.choose(&[0, 1, PAST, 3 * PAST])
     };
     let framebuffer = more(count);
-    let history = more(station.depth().unwrap_or_default() * count);
+    let history = more(station.frames() * count);
     let floats = more(float_room(width, height));
     let ints = more(count);
     let all = !exact && random.one_in(2);
@@ -235,13 +235,6 @@ fn faulty(station: &Station, sizes: &mut Sizes, room: usize, random: &mut Random
     let several = random.one_in(4);
     let mut has = |fault: usize| fault == one || several && random.one_in(2);
     let faults = [0, 1, 2, 3, 4, 5].map(&mut has);
-    let short = |needed: usize, random: &mut Random| {
-        if random.one_in(4) {
-            random.below(needed + 1).min(needed.saturating_sub(1))
-        } else {
-            needed.saturating_sub(1)
-        }
-    };
     if faults[0] {
         size = bad_size(size, random);
     }
@@ -249,7 +242,7 @@ fn faulty(station: &Station, sizes: &mut Sizes, room: usize, random: &mut Random
         lent.framebuffer = short(count, random);
     }
     if faults[2] {
-        lent.history = short(station.depth().unwrap_or_default() * count, random).min(room);
+        lent.history = short_history(station, count, random).min(room);
     }
     if faults[3] {
         lent.floats = short(floats, random);
@@ -270,6 +263,30 @@ fn faulty(station: &Station, sizes: &mut Sizes, room: usize, random: &mut Random
     })
 }
 
+/// Mostly a word less than this.
+fn short(needed: usize, random: &mut Random) -> usize {
+    if random.one_in(4) {
+        random.below(needed + 1).min(needed.saturating_sub(1))
+    } else {
+        needed.saturating_sub(1)
+    }
+}
+
+/// The same of the histories of all glows: of several also what would be enough for the deepest, or for those that are on.
+fn short_history(station: &Station, count: usize, random: &mut Random) -> usize {
+    let glows = station.glows();
+    let depths = glows.iter().map(|&place| station.depth_at(place));
+    let deepest = depths.max().unwrap_or_default();
+    let lit = station.frames_of(&station.lit());
+    let less = short(station.frames() * count, random);
+    let enough = random.choose(&[deepest, lit]) * count;
+    if glows.len() > 1 && random.one_in(4) {
+        enough
+    } else {
+        less
+    }
+}
+
 /// A side of 0, one above the limit, or so long that a product of two passes all numbers.
 fn bad_size((width, height): (usize, usize), random: &mut Random) -> (usize, usize) {
     let bad = random.choose(&[
@@ -286,7 +303,7 @@ fn bad_size((width, height): (usize, usize), random: &mut Random) -> (usize, usi
     random.choose(&[(bad, height), (width, bad), (bad, bad)])
 }
 
-/// Mostly of a kind in the chain. Persistence is switched on more often than off, so that a history is met.
+/// Mostly of a kind in the chain. A glow is switched on more often than off, so that a history is met.
 fn switch(station: &Station, random: &mut Random) -> (u8, u8) {
     let any = random.word() as u8;
     let kinds = station.kinds();
@@ -303,8 +320,8 @@ fn switch(station: &Station, random: &mut Random) -> (u8, u8) {
     (kind, if off { 0 } else { on })
 }
 
-/// A new depth: mostly one that a card may name, 0 among them, often the present one, at times a number above. It is lent about as many
-/// words as it asks for, or as the present depth would.
+/// A new depth of the first glow: mostly one that a card may name, 0 among them, often the present one, at times a number above. It is
+/// lent about as many words as it asks for, or as the present depth would.
 pub fn set_depth(station: &Station, room: usize, random: &mut Random) -> Call {
     let present = station.depth().unwrap_or(1) as u8;
     let any = random.word() as u8;
@@ -332,6 +349,6 @@ pub fn set_depth(station: &Station, room: usize, random: &mut Random) -> Call {
 /// Into a buffer with room for the card, in most cases, or one byte short of it.
 fn write(station: &Station, random: &mut Random) -> Call {
     let length = station.opened.written().len();
-    let any = random.below(80);
-    Call::Write(random.choose(&[length, length - 1, length + 1, 72, any]))
+    let any = random.below(96);
+    Call::Write(random.choose(&[length, length - 1, length + 1, 83, any]))
 }

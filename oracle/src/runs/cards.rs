@@ -8,7 +8,7 @@ use crate::passes::settings::{self, Setting};
 use crate::passes::table::of_kind;
 use crate::random::Random;
 
-/// A card of any chain. Persistence is in three of four.
+/// A card of any chain. Three of four have a glow or more.
 pub fn card(random: &mut Random) -> Vec<u8> {
     let mut kinds = chain(random);
     if !kinds.contains(&PERSISTENCE) && random.one_in(2) {
@@ -18,15 +18,26 @@ pub fn card(random: &mut Random) -> Vec<u8> {
     of(&kinds, random)
 }
 
-/// A card of any chain with persistence, mostly on.
+/// A card of any chain with one to three glows, mostly on.
 pub fn remembering(random: &mut Random) -> Vec<u8> {
     let mut kinds = any_order(random);
     kinds.truncate(5);
-    if !kinds.contains(&PERSISTENCE) {
-        kinds.push(PERSISTENCE);
-    }
+    kinds.retain(|&kind| kind != PERSISTENCE);
+    kinds.extend(vec![PERSISTENCE; random.choose(&[1, 1, 1, 2, 2, 3])]);
     kinds.sort();
     of(&kinds, random)
+}
+
+/// The same whose depths are 1 or 2: what stands in a history is still seen when it is the oldest.
+pub fn shallow(random: &mut Random) -> Vec<u8> {
+    let card = remembering(random);
+    let mut opened = paper::open(&card).expect("the card is a good one");
+    for record in &mut opened.records {
+        if record.kind == PERSISTENCE {
+            record.settings[1] = Value::Whole(random.within(1, 2) as u32, 8);
+        }
+    }
+    opened.written()
 }
 
 fn of(kinds: &[u32], random: &mut Random) -> Vec<u8> {

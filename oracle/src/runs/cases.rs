@@ -9,7 +9,7 @@ use crate::passes::curves::Odd;
 #[derive(Clone, Copy, PartialEq, Debug)]
 pub enum Short {
     Framebuffer,
-    /// While persistence is on, and while it is off.
+    /// While a glow is on, and while none is.
     History,
     HistoryOff,
     Floats,
@@ -33,14 +33,13 @@ pub enum Which {
     Depth,
 }
 
-/// What is wrong with the bytes of a state that tell the pending switch: a kind that is not in the chain, a position without a kind, a
-/// position above 1, and a byte behind them that is not 0.
+/// What is wrong with the bytes of a state that tell the pending switch: a kind that is not in the chain, a position without a kind, and
+/// a position above 1.
 #[derive(Clone, Copy, PartialEq, Debug)]
 pub enum Broken {
     Kind,
     NoKind,
     Position,
-    Behind,
 }
 
 /// Why a curve that is not read could not be: it has no word, too few, or a bad one.
@@ -61,13 +60,19 @@ pub enum Line {
 
 #[derive(Clone, Copy, PartialEq, Debug)]
 pub enum Case {
-    /// A frame through a chain without persistence, with persistence off, one that fills the history, one that
+    /// A frame through a chain without a glow, with none that is on, one that fills the history of each that is on, one that
     /// meets it, and one that fills it since it has the same count in another shape.
     FrameAbsent,
     FrameOff,
     Refill,
     Blend,
     Turned,
+    /// Of several glows that are on, the first fills its history, since it was switched on or is made to hold nothing, while a later
+    /// one meets its own; and a later one fills its, since a new depth made it forget, while the first meets its own.
+    FirstRefills,
+    LaterRefills,
+    /// A frame through a chain with so many glows, of which those are on whose bit is set: the lowest bit is that of the first.
+    Glows(usize, usize),
     /// An accepted frame of which no channel was clipped, and one of which some were.
     Clipped(bool),
     /// One for which no sample was taken, one for which some were, and one for which as many were as for any frame.
@@ -97,17 +102,26 @@ pub enum Case {
     PresetRefused(u32),
     /// The only fault of a frame, of a new depth or of a writing.
     OneShort(Short),
+    /// A frame that is refused by 10 alone, of a chain with several glows: with as many words as the deepest of them takes, and with as
+    /// many as those that are on.
+    ShortOfSum,
+    ShortOfAll,
     SideZero,
     Side1025,
     /// A side whose product with the other passes all numbers.
     SideHuge,
     Reset,
-    /// A reset while something is held.
+    /// A reset while something is held, and while more than one glow holds something.
     ResetHeld,
+    ResetSeveral,
     /// A switch from one position to another.
     Switch(bool, bool),
-    /// Persistence that is switched off while something is held.
+    /// The same of the first glow, while a later one is on, or is off.
+    FirstSwitched(bool, bool),
+    FirstSwitchedAlone(bool, bool),
+    /// The first glow is switched off while it holds something, and while a later one does too, which goes on.
     Forget,
+    ForgetBeside,
     /// A kind byte that is no kind.
     SwitchUnknown,
     /// A switch that is asked for: where it stands, and where it is to stand.
@@ -117,13 +131,14 @@ pub enum Case {
     AskAbsentPending,
     /// A commit: where the switch stood, and where it stands then.
     Committed(bool, bool),
-    /// Persistence that is committed to off while something is held.
+    /// The first glow is committed to off while it holds something, and while a later one does too, which goes on.
     CommitForgets,
+    CommitForgetsBeside,
     /// An accepted, or a refused, call of a station with a pending switch, which stays pending.
     Kept(Which, bool),
     /// A plain switch of the kind that is pending, which a commit then switches again.
     SwitchBetween,
-    /// A frame that meets its history while persistence is to be switched off.
+    /// A frame that meets the history of the first glow while that is to be switched off.
     BlendPending,
     /// A card that shows another position than the pending one.
     WrittenPending,
@@ -131,11 +146,16 @@ pub enum Case {
     /// From preset 6 to 0.
     StepRound,
     StepOff,
-    /// A new depth that is less than, equal to or greater than the one before it: while frames are held, while none is, and while
-    /// persistence is off.
+    /// A new depth that is less than, equal to or greater than the one before it: while the first glow holds frames, while it holds none,
+    /// and while it is off.
     Resized(Ordering),
     ResizedEmpty(Ordering),
     ResizedOff(Ordering),
+    /// The same while a later glow holds frames, which it forgets where the depth is another: beside a first glow that holds frames too,
+    /// that holds none, and that is off.
+    ResizedBeside(Ordering),
+    ResizedEmptyBeside(Ordering),
+    ResizedOffBeside(Ordering),
     /// One of this number, which is accepted; 0 becomes 1.
     ResizedTo(u8),
     /// One that is lent not a word more than it asks for, while frames are held; and no word at all, while none is.
@@ -155,8 +175,11 @@ pub enum Case {
     AfterResizing,
     Written,
     Depth,
-    /// A pass that was told to be off, and one that was told to be on.
+    /// The depths of several glows, told as their sum.
+    DepthOfSeveral,
+    /// A pass that was told to be off, and one that was told to be on; and the first glow so, while a later one stands otherwise.
     Enabled(bool),
+    EnabledBeside(bool),
     /// A byte that is no kind, whose switch is not told: 12.
     EnabledUnknown,
     /// A preset that was told.
@@ -164,10 +187,19 @@ pub enum Case {
     /// A state with a bit changed: a bad one, and one that is another good station's.
     Bad,
     Another,
-    /// A state that remembers another size, with a side above 1024, with one side 0, and a good one.
+    /// A state in which another size is remembered at a place: with a side above 1024, with one side 0, by a glow that is off, by another
+    /// pass, where there is no pass, one that differs from what another glow remembers, nothing while another remembers something, and a
+    /// good one.
     HeldAbove,
     HeldHalf,
+    HeldOff,
+    HeldByAnother,
+    HeldPast,
+    HeldDiffers,
+    HeldForgotten,
     HeldOther,
+    /// The same of all glows that are on.
+    HeldOtherByAll,
     /// A state in whose card two records are exchanged, at this call: a bad one.
     OutOfOrder(Which),
     /// A state whose pending switch no station has, and one with another that is good.
@@ -200,6 +232,22 @@ impl Listed for Case {
         Case::Refill,
         Case::Blend,
         Case::Turned,
+        Case::FirstRefills,
+        Case::LaterRefills,
+        Case::Glows(1, 0),
+        Case::Glows(1, 1),
+        Case::Glows(2, 0),
+        Case::Glows(2, 1),
+        Case::Glows(2, 2),
+        Case::Glows(2, 3),
+        Case::Glows(3, 0),
+        Case::Glows(3, 1),
+        Case::Glows(3, 2),
+        Case::Glows(3, 3),
+        Case::Glows(3, 4),
+        Case::Glows(3, 5),
+        Case::Glows(3, 6),
+        Case::Glows(3, 7),
         Case::Clipped(false),
         Case::Clipped(true),
         Case::Sampled(false),
@@ -267,16 +315,28 @@ impl Listed for Case {
         Case::OneShort(Short::Ints),
         Case::OneShort(Short::Card),
         Case::OneShort(Short::NewDepth),
+        Case::ShortOfSum,
+        Case::ShortOfAll,
         Case::SideZero,
         Case::Side1025,
         Case::SideHuge,
         Case::Reset,
         Case::ResetHeld,
+        Case::ResetSeveral,
         Case::Switch(false, false),
         Case::Switch(false, true),
         Case::Switch(true, false),
         Case::Switch(true, true),
+        Case::FirstSwitched(false, false),
+        Case::FirstSwitched(false, true),
+        Case::FirstSwitched(true, false),
+        Case::FirstSwitched(true, true),
+        Case::FirstSwitchedAlone(false, false),
+        Case::FirstSwitchedAlone(false, true),
+        Case::FirstSwitchedAlone(true, false),
+        Case::FirstSwitchedAlone(true, true),
         Case::Forget,
+        Case::ForgetBeside,
         Case::SwitchUnknown,
         Case::Asked(false, false),
         Case::Asked(false, true),
@@ -289,6 +349,7 @@ impl Listed for Case {
         Case::Committed(true, false),
         Case::Committed(true, true),
         Case::CommitForgets,
+        Case::CommitForgetsBeside,
         Case::Kept(Which::Frame, true),
         Case::Kept(Which::Frame, false),
         Case::Kept(Which::Reset, true),
@@ -318,6 +379,15 @@ impl Listed for Case {
         Case::ResizedOff(Ordering::Less),
         Case::ResizedOff(Ordering::Equal),
         Case::ResizedOff(Ordering::Greater),
+        Case::ResizedBeside(Ordering::Less),
+        Case::ResizedBeside(Ordering::Equal),
+        Case::ResizedBeside(Ordering::Greater),
+        Case::ResizedEmptyBeside(Ordering::Less),
+        Case::ResizedEmptyBeside(Ordering::Equal),
+        Case::ResizedEmptyBeside(Ordering::Greater),
+        Case::ResizedOffBeside(Ordering::Less),
+        Case::ResizedOffBeside(Ordering::Equal),
+        Case::ResizedOffBeside(Ordering::Greater),
         Case::ResizedTo(0),
         Case::ResizedTo(1),
         Case::ResizedTo(8),
@@ -337,8 +407,11 @@ impl Listed for Case {
         Case::AfterResizing,
         Case::Written,
         Case::Depth,
+        Case::DepthOfSeveral,
         Case::Enabled(false),
         Case::Enabled(true),
+        Case::EnabledBeside(false),
+        Case::EnabledBeside(true),
         Case::EnabledUnknown,
         Case::Preset(0),
         Case::Preset(1),
@@ -351,7 +424,13 @@ impl Listed for Case {
         Case::Another,
         Case::HeldAbove,
         Case::HeldHalf,
+        Case::HeldOff,
+        Case::HeldByAnother,
+        Case::HeldPast,
+        Case::HeldDiffers,
+        Case::HeldForgotten,
         Case::HeldOther,
+        Case::HeldOtherByAll,
         Case::OutOfOrder(Which::Frame),
         Case::OutOfOrder(Which::Reset),
         Case::OutOfOrder(Which::Switch),
@@ -364,7 +443,6 @@ impl Listed for Case {
         Case::PendingBroken(Broken::Kind),
         Case::PendingBroken(Broken::NoKind),
         Case::PendingBroken(Broken::Position),
-        Case::PendingBroken(Broken::Behind),
         Case::PendingOther,
         Case::Curved(true),
         Case::Curved(false),
@@ -402,16 +480,25 @@ impl Listed for Case {
 /// How two stations come to agree, and what a trial can meet beside it.
 #[derive(Clone, Copy, PartialEq, Debug)]
 pub enum Point {
-    /// From the first call on: no persistence in the chain, or it is off.
+    /// From the first call on: no glow in the chain, or none that is on.
     Absent,
     Off,
-    /// After the K-th frame that persistence takes: from the start of the list, and from a change of depth.
-    Frames,
-    FramesAnew,
-    Reset,
-    /// Persistence is switched from on to off: at once, and by a commit.
+    /// After as many frames as the depths of the glows add up to that were on, so many of them: from the start of the list, and from a
+    /// change of depth.
+    Frames(usize),
+    FramesAnew(usize),
+    /// A reset, and one of several glows that were on.
+    Reset(bool),
+    /// The only glow that is on, the first, is switched off: at once, and by a commit.
     SwitchedOff,
     CommittedOff,
+    /// The point comes after one of several glows was switched off while others stayed on, and after the first was switched on beside
+    /// others: neither changes the count.
+    OneOff,
+    OneOn,
+    /// Such switches before the point.
+    FirstOff,
+    FirstOn,
     /// The list ends before the point.
     Never,
     /// The list leaves the claim before the point: a new depth is taken by one station and refused by the other.
@@ -433,8 +520,16 @@ pub enum Point {
     ResizedApart,
     ResizingRefused(u32),
     Resized,
+    /// One that both take before the point, of several glows.
+    ResizedSeveral(Ordering),
     /// A picture that differs though the stations would have agreed, had a change of depth not begun the count anew.
     DiffersAnew,
+    /// One that differs after as many frames as the deepest of so many glows asks for; one at the last frame before the point; and one
+    /// after one of several glows was switched off, and after the first was switched on beside others.
+    DiffersPastDeepest(usize),
+    DiffersLast(usize),
+    DiffersOneOff,
+    DiffersOneOn,
     /// The cards differ, and normalise alike.
     Respelt,
     /// One station holds frames and the other none, or frames of another size.
@@ -471,11 +566,20 @@ impl Listed for Point {
     const ALL: &'static [Point] = &[
         Point::Absent,
         Point::Off,
-        Point::Frames,
-        Point::FramesAnew,
-        Point::Reset,
+        Point::Frames(1),
+        Point::Frames(2),
+        Point::Frames(3),
+        Point::FramesAnew(1),
+        Point::FramesAnew(2),
+        Point::FramesAnew(3),
+        Point::Reset(false),
+        Point::Reset(true),
         Point::SwitchedOff,
         Point::CommittedOff,
+        Point::OneOff,
+        Point::OneOn,
+        Point::FirstOff,
+        Point::FirstOn,
         Point::Never,
         Point::Outside,
         Point::Pending,
@@ -492,7 +596,16 @@ impl Listed for Point {
         Point::ResizingRefused(6),
         Point::ResizingRefused(10),
         Point::Resized,
+        Point::ResizedSeveral(Ordering::Less),
+        Point::ResizedSeveral(Ordering::Equal),
+        Point::ResizedSeveral(Ordering::Greater),
         Point::DiffersAnew,
+        Point::DiffersPastDeepest(2),
+        Point::DiffersPastDeepest(3),
+        Point::DiffersLast(2),
+        Point::DiffersLast(3),
+        Point::DiffersOneOff,
+        Point::DiffersOneOn,
         Point::Respelt,
         Point::HeldDiffers,
         Point::HeldTurned,

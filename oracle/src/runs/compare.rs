@@ -30,9 +30,19 @@ fn runs(mode: Mode, total: &mut Total) {
     total.unmet += met.report();
     total.add_turned(met.count(Case::Turned));
     total.add_resized(met.count(Case::AfterResizing));
+    total.add_several(SEVERAL.iter().map(|&case| met.count(case)).sum());
     let curved = [true, false].map(|powers| met.count(Case::Curved(powers)));
     total.add_curved(curved.iter().sum());
 }
+
+/// A frame through more than one glow that is on.
+const SEVERAL: [Case; 5] = [
+    Case::Glows(2, 3),
+    Case::Glows(3, 3),
+    Case::Glows(3, 5),
+    Case::Glows(3, 6),
+    Case::Glows(3, 7),
+];
 
 fn switches(mode: Mode, total: &mut Total) {
     println!("Switches that are asked for and committed, by document 02");

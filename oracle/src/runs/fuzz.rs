@@ -6,23 +6,23 @@ use super::cases::Case;
 use super::noise::Noise;
 use super::run::open_both;
 use super::sides::{Checked, Sides};
-use super::station::{float_room, Lengths, Station};
-use crate::bridge::State;
+use super::station::{float_room, Lengths, Station, MOST_FRAMES};
+use crate::bridge::{State, STATE};
 use crate::cards::paper::Size;
 use crate::fuzz::{self, Tape};
 use crate::met::Met;
 use crate::passes::curves::{Curve, ODD, READ};
 use crate::passes::frames::{Picture, KINDS};
 use crate::random::Random;
-use crate::seeds::STATE;
+use crate::seeds;
 use crate::tally::RunTally;
 
 /// The words of the longest frame that is accepted, and those that an input takes in all: more would make it slow.
 const FRAME: usize = 1024;
 const ALL: usize = 4 * FRAME;
 
-/// Words of the history buffer: past those of the deepest frames too.
-const HISTORY: usize = 8 * FRAME + 64;
+/// Words of the history buffer: past those of the deepest histories too.
+const HISTORY: usize = MOST_FRAMES * FRAME + 64;
 
 /// Sides that the highest bytes stand for.
 const SIDES: [usize; 12] = [
@@ -94,9 +94,9 @@ fn play(input: &[u8], met: &mut Met<Case>) -> Checked {
 /// The state that the bytes begin with, or that of their card; none where the card is refused.
 fn begin(tape: &mut Tape, random: &mut Random, met: &mut Met<Case>) -> Checked<Option<State>> {
     let length = tape.byte();
-    if length >= STATE {
-        let mut state = [0; 80];
-        state.copy_from_slice(&tape.bytes(80));
+    if length >= seeds::STATE {
+        let mut state = [0; STATE];
+        state.copy_from_slice(&tape.bytes(STATE));
         return Ok(Some(state));
     }
     open_both(&tape.bytes(length.into()), random, met)
@@ -145,9 +145,9 @@ fn set_depth(tape: &mut Tape, sides: &Sides) -> Call {
 /// A frame with exactly what it needs, or with lengths near it. One that is too large is lent too little.
 fn frame(tape: &mut Tape, size: Size, sides: &Sides) -> Frame {
     let count = size.0.saturating_mul(size.1).min(FRAME);
-    let depth = sides.machine.station().and_then(Station::depth);
+    let frames = sides.machine.station().map_or(0, Station::frames);
     let floats = float_room(size.0.min(FRAME), 0) + 3 * count;
-    let needed = [count, depth.unwrap_or_default() * count, floats, count];
+    let needed = [count, frames * count, floats, count];
     let exact = tape.byte() % 2 == 0;
     let [framebuffer, history, floats, ints] =
         needed.map(|needed| if exact { needed } else { tape.near(needed) });

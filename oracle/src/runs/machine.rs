@@ -1,19 +1,19 @@
 //! Document 01's plain machine over the original: a station, the words of its history buffer, and the
 //! original's pipeline, which runs from call to call. The history's words are made apart from it, of the frames
-//! as the original's effects before persistence leave them. At a turned frame, which the original would mix with the frames before
+//! as they come to each of the original's persistence effects. At a turned frame, which the original would mix with the frames before
 //! the turn, its effects are built anew: that is what document 02's P1 asks. Where colour reads a curve (P3), it is the original's if
 //! the curve holds the original's powers, else a second writing of it. The original knows nothing of a switch that is asked for (P7): it
 //! is switched at the commit. Nor can it change its depth (P11): from such a call on the pictures are those of another one, which is
-//! built with the new depth and then shown what is held, oldest first. Since it keeps the frames as they come to it and not its
-//! pictures, its own history is then that of the words here, place by place. That this is so is seen at the present depth, at which
-//! nothing changes: the other one has to go on as the first would have.
+//! built with the new depth, and each glow of which is shown what its history holds, oldest first. Since it keeps the frames as they
+//! come to it and not its pictures, its own history is then that of the words here, place by place. That this is so is seen at the
+//! present depth, at which nothing changes: the other one has to go on as the first would have. Of several glows (P12) the original
+//! switches the first, as its pipeline finds it by its name.
 
 use super::station::{Lengths, Pending, Station};
 use crate::bridge::{Answer, State};
 use crate::cards::paper::Size;
-use crate::passes::both::Both;
-use crate::passes::chain::{name, preset, LUT, PERSISTENCE};
-use crate::passes::effects::{built, effect};
+use crate::passes::both::{Both, Past};
+use crate::passes::chain::{name, preset, LUT};
 use crate::reports::Reports;
 
 pub struct Machine {
@@ -58,15 +58,15 @@ impl Machine {
         let station = self.station.as_mut().ok_or(13u32)?;
         station.frame(width, height, lent, curve)?;
         let words = &mut words[..width * height];
-        if station.remembers() {
-            if station.turned(size) {
-                self.pipeline = Both::built(station.records());
-            }
-            let incoming = before_persistence(station, words, size);
-            remember(station, &mut self.history, &incoming, size);
-            station.take(size);
+        if station.turned(size) {
+            self.pipeline = Both::built(station.records());
         }
-        Ok(self.pipeline.apply(words, width, height, curve))
+        let counted = self.pipeline.apply(words, width, height, curve);
+        for (place, incoming) in station.lit().into_iter().zip(self.pipeline.came()) {
+            remember(station, place, &mut self.history, &incoming, size);
+        }
+        station.take(size);
+        Ok(counted)
     }
 
     /// The original's pipeline cannot reach a reset: its effects are built anew.
@@ -123,9 +123,10 @@ impl Machine {
         Ok(card.len() as u32)
     }
 
+    /// How many frames the histories hold together.
     pub fn depth(&self) -> Answer {
         let station = self.station.as_ref().ok_or(13u32)?;
-        Ok(station.depth().unwrap_or_default() as u32)
+        Ok(station.frames() as u32)
     }
 
     /// The original tells no switch: this is the station's own.
@@ -141,20 +142,12 @@ impl Machine {
     }
 }
 
-/// The frame as it comes to persistence.
-fn before_persistence(station: &Station, words: &[u32], (width, height): Size) -> Vec<u32> {
-    let place = station.place(PERSISTENCE).unwrap_or_default();
-    let mut words = words.to_vec();
-    built(&station.records()[..place], effect).apply(&mut words, width, height);
-    words
-}
-
-/// Fills all places, or shifts them by one and puts the frame first.
-fn remember(station: &Station, history: &mut [u32], incoming: &[u32], size: Size) {
+/// Fills the whole history of the glow at this place, or shifts it by one frame and puts the new one first.
+fn remember(station: &Station, place: usize, history: &mut [u32], incoming: &[u32], size: Size) {
     let count = incoming.len();
-    let depth = station.depth().unwrap_or_default();
-    let places = &mut history[..depth * count];
-    if station.meets(size) {
+    let (start, depth) = (station.start(place), station.depth_at(place));
+    let places = &mut history[start * count..(start + depth) * count];
+    if station.meets(place, size) {
         places.copy_within(..(depth - 1) * count, count);
         places[..count].copy_from_slice(incoming);
     } else {
@@ -164,7 +157,7 @@ fn remember(station: &Station, history: &mut [u32], incoming: &[u32], size: Size
     }
 }
 
-/// Repeats the oldest of so many frames that are held until the station's history is full. A smaller history keeps the newest, which
+/// Repeats the oldest of so many frames that the first glow holds until its history is full. A smaller history keeps the newest, which
 /// stand first: no word changes.
 fn lengthen(station: &Station, history: &mut [u32], before: usize) {
     let (count, depth) = (station.count(), station.depth().unwrap_or_default());
@@ -177,25 +170,24 @@ fn lengthen(station: &Station, history: &mut [u32], before: usize) {
     }
 }
 
-/// The original's pipeline of a station, with what is held given to its persistence frame by frame, oldest
-/// first, while all else is off.
+/// The original's pipeline of a station, with what is held given to each of its glows frame by frame, oldest first.
 fn refilled(station: &Station, history: &[u32]) -> Both {
-    let mut pipeline = Both::built(station.records());
-    let (width, height) = station.held;
-    let (count, depth) = (station.count(), station.depth().unwrap_or_default());
+    let glows = station.glows().into_iter();
+    let pasts = glows.map(|place| past(station, place, history));
+    Both::resumed(station.records(), &pasts.collect::<Vec<_>>())
+}
+
+/// What the history of the glow at this place holds.
+fn past(station: &Station, place: usize, history: &[u32]) -> Past {
+    let size = station.held[place];
+    let count = size.0 * size.1;
     // More than the buffer has room for meets no frame: the next one fills all places.
-    if count == 0 || depth * count > history.len() {
-        return pipeline;
+    if count == 0 || station.frames() * count > history.len() {
+        return Past::default();
     }
-    let others = || station.records().iter().filter(|r| r.kind != PERSISTENCE);
-    for record in others() {
-        pipeline.set_enabled(name(record.kind), false);
-    }
-    for place in history[..depth * count].chunks_exact(count).rev() {
-        pipeline.apply(&mut place.to_vec(), width, height, &[]);
-    }
-    for record in others() {
-        pipeline.set_enabled(name(record.kind), record.on);
-    }
-    pipeline
+    let (start, depth) = (station.start(place), station.depth_at(place));
+    let places = history[start * count..].chunks_exact(count).take(depth);
+    let mut frames: Vec<Vec<u32>> = places.map(<[u32]>::to_vec).collect();
+    frames.reverse();
+    Past { size, frames }
 }

@@ -5,12 +5,12 @@ use super::cards;
 use super::cases::{Broken, Case};
 use super::noise::Noise;
 use super::sides::{Checked, Sides};
-use super::station::{Station, DEEPEST, HEIGHT_END};
-use crate::bridge::{self, State};
+use super::station::{held_bytes, sized, Station, HELD_END};
+use crate::bridge::{self, State, STATE};
 use crate::cards::damage;
-use crate::cards::paper::{Opened, Record, Value};
+use crate::cards::paper::{Opened, Record, Size, Value, NOTHING, PASSES};
 use crate::met::Met;
-use crate::passes::chain::{BLOOM, NTSC};
+use crate::passes::chain::{BLOOM, NTSC, PERSISTENCE};
 use crate::random::Random;
 use crate::steps::Mode;
 use crate::tally::RunTally;
@@ -216,10 +216,13 @@ fn play(
 }
 
 fn next(run: &Run, station: &Station, sizes: &mut Sizes, room: usize, random: &mut Random) -> Call {
-    if run.resizes && random.one_in(RESIZED) {
-        calls::set_depth(station, room, random)
-    } else {
-        calls::next(station, sizes, room, random)
+    // A first glow that holds nothing beside one that does soon holds something again: it is switched on, and gets another depth.
+    let beside = station.count() == 0 && station.holds();
+    match random.below(RESIZED) {
+        0 if run.resizes => calls::set_depth(station, room, random),
+        1..4 if run.resizes && beside => calls::set_depth(station, room, random),
+        4..6 if run.resizes && beside => Call::Switch(PERSISTENCE as u8, 1),
+        _ => calls::next(station, sizes, room, random),
     }
 }
 
@@ -232,19 +235,19 @@ fn opened(run: &Run, random: &mut Random) -> Checked<Sides> {
     if (answer, state) != (Ok(0), station.state()) {
         return Err(format!("opening: here {answer:?} and {state:02x?}"));
     }
-    let depth = if run.resizes {
-        DEEPEST
+    let frames = if run.resizes {
+        station.frames_at_most()
     } else {
-        station.depth().unwrap_or(1)
+        station.frames()
     };
     let largest = run.sizes.iter().map(|(width, height)| width * height).max();
     let largest = largest.unwrap_or(run.longest * run.longest);
-    let history = Noise::any(random.next()).words(depth * largest + PAST);
+    let history = Noise::any(random.next()).words(frames.max(1) * largest + PAST);
     Ok(Sides::new(state, history))
 }
 
 fn noise_state(random: &mut Random) -> State {
-    [(); 80].map(|()| random.word() as u8)
+    [(); STATE].map(|()| random.word() as u8)
 }
 
 /// Opens a card that is damaged in most cases.
@@ -283,29 +286,39 @@ fn out_of_order(station: &Station, random: &mut Random) -> Option<State> {
     }
     let place = random.below(records.len() - 1);
     let behind = random.within(place + 1, records.len() - 1);
+    if records[place].kind == records[behind].kind {
+        // Two glows may stand in either order.
+        return None;
+    }
     records.swap(place, behind);
     Some(other.state())
 }
 
-/// The state with one bit changed; or with another byte; or with another size remembered; or with another pending switch.
+/// The state with one bit changed; or with another byte; or with another size remembered, at one place or by all glows that are on; or
+/// with another pending switch.
 fn damaged(station: &Station, random: &mut Random, met: &mut Met<Case>) -> State {
     let mut state = station.state();
     let place = random.below(state.len());
-    match random.below(5) {
+    match random.below(6) {
         0 => state[place] = random.word() as u8,
         1 => {
-            let held = another(&state, random);
-            state[73..75].copy_from_slice(&held.0.to_be_bytes());
-            state[75..77].copy_from_slice(&held.1.to_be_bytes());
-            met.note(match held {
-                (1025.., _) | (_, 1025..) => Case::HeldAbove,
-                (0, 1..) | (1.., 0) => Case::HeldHalf,
-                _ => Case::HeldOther,
-            });
+            let (place, held) = (some_place(station, random), another(station, random));
+            state[held_bytes(place)].copy_from_slice(&sized(held));
+            met.note(other_held(station, place, held));
         }
         2 => {
+            let held = another(station, random);
+            let lit = station.lit();
+            for &place in &lit {
+                state[held_bytes(place)].copy_from_slice(&sized(held));
+            }
+            if lit.len() > 1 && is_size(held) {
+                met.note(Case::HeldOtherByAll);
+            }
+        }
+        3 => {
             let (pending, case) = other_pending(station, random);
-            state[HEIGHT_END..].copy_from_slice(&pending);
+            state[HELD_END..].copy_from_slice(&pending);
             met.note(case);
         }
         _ => state[place] ^= 1 << random.below(8),
@@ -313,21 +326,35 @@ fn damaged(station: &Station, random: &mut Random, met: &mut Met<Case>) -> State
     state
 }
 
-/// A size at the limits, or the remembered one turned.
-fn another(state: &State, random: &mut Random) -> (u16, u16) {
-    let side = |place: usize| u16::from_be_bytes([state[place], state[place + 1]]);
-    let turned = (side(75), side(73));
+/// Mostly that of a glow.
+fn some_place(station: &Station, random: &mut Random) -> usize {
+    let glows = station.glows();
+    if glows.is_empty() || random.one_in(4) {
+        random.below(PASSES)
+    } else {
+        random.choose(&glows)
+    }
+}
+
+/// A size at the limits, or the remembered one, as it is or turned.
+fn another(station: &Station, random: &mut Random) -> Size {
+    const MOST: usize = u16::MAX as usize;
+    let held = station.shape();
+    let turned = (held.1, held.0);
     random.choose(&[
-        (0, 0),
+        NOTHING,
+        NOTHING,
         (1, 1),
         (1024, 1024),
         (1025, 1),
         (1, 1025),
         (0, 1),
         (1, 0),
-        (u16::MAX, 1),
-        (1, u16::MAX),
-        (u16::MAX, u16::MAX),
+        (MOST, 1),
+        (1, MOST),
+        (MOST, MOST),
+        held,
+        held,
         turned,
         turned,
         turned,
@@ -335,8 +362,32 @@ fn another(state: &State, random: &mut Random) -> (u16, u16) {
     ])
 }
 
+fn is_size((width, height): Size) -> bool {
+    let fine = |side: usize| (1..=1024).contains(&side);
+    fine(width) && fine(height)
+}
+
+/// What it is that the pass at a place, which may not be there, is made to remember this.
+fn other_held(station: &Station, place: usize, held: Size) -> Case {
+    let others = (0..PASSES).filter(|&other| other != place);
+    let mut beside = others.map(|other| station.held[other]);
+    match held {
+        (1025.., _) | (_, 1025..) => Case::HeldAbove,
+        (0, 1..) | (1.., 0) => Case::HeldHalf,
+        NOTHING if station.held[place] != NOTHING && beside.any(|held| held != NOTHING) => {
+            Case::HeldForgotten
+        }
+        NOTHING => Case::HeldOther,
+        _ if place >= station.records().len() => Case::HeldPast,
+        _ if !station.glows().contains(&place) => Case::HeldByAnother,
+        _ if !station.lit().contains(&place) => Case::HeldOff,
+        _ if beside.any(|other| other != NOTHING && other != held) => Case::HeldDiffers,
+        _ => Case::HeldOther,
+    }
+}
+
 /// The bytes of another pending switch: such as no station has, or good ones.
-fn other_pending(station: &Station, random: &mut Random) -> ([u8; 3], Case) {
+fn other_pending(station: &Station, random: &mut Random) -> ([u8; 2], Case) {
     let kinds = station.kinds();
     let absent: Vec<u8> = (1..=11).filter(|kind| !kinds.contains(kind)).collect();
     // An empty chain has no kind to be switched.
@@ -350,22 +401,21 @@ fn other_pending(station: &Station, random: &mut Random) -> ([u8; 3], Case) {
     let any = random.choose(&[2, any]);
     let broken = Case::PendingBroken;
     match random.below(8) {
-        0 | 1 => ([random.choose(&absent), on, 0], broken(Broken::Kind)),
-        2 => ([0, 1, 0], broken(Broken::NoKind)),
-        3 => ([kind, any, 0], broken(Broken::Position)),
-        4 => ([kind, on, any], broken(Broken::Behind)),
-        _ if kind == 0 => ([0, 0, 0], Case::PendingOther),
-        _ => ([kind, on, 0], Case::PendingOther),
+        0 | 1 => ([random.choose(&absent), on], broken(Broken::Kind)),
+        2 => ([0, 1], broken(Broken::NoKind)),
+        3 | 4 => ([kind, any], broken(Broken::Position)),
+        _ if kind == 0 => ([0, 0], Case::PendingOther),
+        _ => ([kind, on], Case::PendingOther),
     }
 }
 
-/// Each of the 640 bits changed in turn: the state is a bad one, or another good station's, whose card is
+/// Each of the 1,072 bits changed in turn: the state is a bad one, or another good station's, whose card is
 /// written.
 fn every_bit(state: &State, tally: &mut RunTally) -> Checked {
     for bit in 0..8 * state.len() {
         let mut state = *state;
         state[bit / 8] ^= 0x80 >> (bit % 8);
-        let (mut here, mut asked) = ([0; 72], [0; 72]);
+        let (mut here, mut asked) = ([0; 83], [0; 83]);
         let number = match Station::read(&state) {
             None => Err(13),
             Some(station) => {

@@ -1,4 +1,4 @@
-//! One station on both sides, from call to call: the library's 80 bytes and lent buffers, and the machine.
+//! One station on both sides, from call to call: the library's 134 bytes and lent buffers, and the machine.
 
 use std::cmp::Ordering;
 
@@ -8,7 +8,7 @@ use super::machine::Machine;
 use super::noise::Noise;
 use super::station::{float_room, Lengths, Pending, Station, DEEPEST};
 use crate::bridge::{self, Answer, Lent, State, UNTOLD};
-use crate::cards::paper::Size;
+use crate::cards::paper::{Size, NOTHING};
 use crate::met::Met;
 use crate::passes::chain::{BLOOM, COLOUR, LUT, NTSC, PERSISTENCE};
 use crate::passes::curves::{self, Odd, ODD};
@@ -37,7 +37,7 @@ const LOOKED_AT: [u8; 12] = [1, 2, 3, 4, 5, 6, 7, 8, 9, 10, 0, 11];
 const MARK: u8 = 0xa5;
 
 /// The bytes of the longest card.
-const CARD: usize = 72;
+const CARD: usize = 83;
 
 impl Sides {
     /// Both sides at this state, with these words in the history buffer.
@@ -125,6 +125,13 @@ impl Sides {
             Err(12) if !(1..=10).contains(&kind) => Case::EnabledUnknown,
             Err(number) => Case::EnabledRefused(number),
         });
+        if let (Ok(on), Some(station)) = (asked, self.machine.station()) {
+            let mut later = station.later_glows().into_iter();
+            let otherwise = later.any(|place| station.records()[place].on != (on != 0));
+            if u32::from(kind) == PERSISTENCE && otherwise {
+                met.note(Case::EnabledBeside(on != 0));
+            }
+        }
         Ok(())
     }
 
@@ -264,8 +271,7 @@ fn note(call: &Call, before: Option<&Station>, asked: Answer, met: &mut Met<Case
         // Noted with what was pending.
         (Call::Commit, Ok(_), Some(_)) => {}
         (Call::Commit, Err(number), _) => met.note(Case::CommitRefused(number)),
-        (Call::Reset, Ok(_), Some(before)) if before.holds() => met.note(Case::ResetHeld),
-        (Call::Reset, Ok(_), _) => met.note(Case::Reset),
+        (Call::Reset, Ok(_), Some(before)) => note_reset(before, met),
         (Call::Reset, Err(number), _) => met.note(Case::ResetRefused(number)),
         (Call::Step, Ok(preset), Some(before)) => note_step(preset, before, met),
         (Call::Step, Err(number), _) => met.note(Case::StepRefused(number)),
@@ -285,10 +291,36 @@ fn note(call: &Call, before: Option<&Station>, asked: Answer, met: &mut Met<Case
                 met.note(Case::OneShort(Short::Card));
             }
         }
-        (Call::Depth, Ok(_), _) => met.note(Case::Depth),
+        (Call::Depth, Ok(_), Some(before)) => {
+            met.note(Case::Depth);
+            if before.glows().len() > 1 {
+                met.note(Case::DepthOfSeveral);
+            }
+        }
         (Call::Depth, Err(number), _) => met.note(Case::DepthRefused(number)),
         (_, Ok(_), None) => panic!("a bad station takes no call"),
     }
+}
+
+/// Whether a glow behind the first is on.
+fn later_lit(station: &Station) -> bool {
+    let mut later = station.later_glows().into_iter();
+    later.any(|place| station.records()[place].on)
+}
+
+/// Whether one holds frames.
+fn later_holds(station: &Station) -> bool {
+    let mut later = station.later_glows().into_iter();
+    later.any(|place| station.held[place] != NOTHING)
+}
+
+fn note_reset(before: &Station, met: &mut Met<Case>) {
+    let holding = before.held.iter().filter(|&&held| held != NOTHING).count();
+    met.note(match holding {
+        0 => Case::Reset,
+        1 => Case::ResetHeld,
+        _ => Case::ResetSeveral,
+    });
 }
 
 /// The most samples of any frame, by document 02's P9: at 1024 by 1024 with both blurs on, at 64.
@@ -326,15 +358,18 @@ fn note_blurs((width, height): Size, station: &Station, met: &mut Met<Case>) {
 
 fn note_taken(frame: &Frame, before: &Station, met: &mut Met<Case>) {
     met.note(taken(frame.size, before));
+    if before.has(PERSISTENCE) {
+        let glows = before.glows();
+        let lit = before.lit().into_iter();
+        let bits = lit.map(|place| 1usize << (place - glows[0]));
+        met.note(Case::Glows(glows.len(), bits.sum()));
+    }
     note_blurs(frame.size, before, met);
     let curve = before.curved().map_or(0, |_| curves::READ);
     if (frame.lent, frame.curve.len) == (needed(before, frame.size), curve) {
         met.note(Case::Exact);
     }
-    let size = Case::Size(frame.size.0, frame.size.1);
-    if met.listed(size) {
-        met.note(size);
-    }
+    met.note_listed(Case::Size(frame.size.0, frame.size.1));
 }
 
 /// Tells the list of cases what a frame was with this curve. A frame changes no setting and no switch, so the station may be that of
@@ -362,9 +397,7 @@ fn note_read(curve: &[f32], gamma: f32, station: &Station, met: &mut Met<Case>) 
     } else {
         Case::CurveOff
     });
-    if met.listed(Case::CurveOf(curve.len())) {
-        met.note(Case::CurveOf(curve.len()));
-    }
+    met.note_listed(Case::CurveOf(curve.len()));
     if curves::has(read, Odd::MinusZero) {
         met.note(Case::CurveMinusZero);
     }
@@ -378,10 +411,7 @@ fn note_refused(curve: &[f32], station: &Station, met: &mut Met<Case>) {
         met.note(Case::CurveBadOff);
     }
     let Some(read) = curve.get(..curves::READ) else {
-        let short = Case::CurveShort(curve.len());
-        return if met.listed(short) {
-            met.note(short)
-        };
+        return met.note_listed(Case::CurveShort(curve.len()));
     };
     let mut bad = (0..).zip(read).filter(|(_, word)| !curves::is_taken(word));
     let (Some((place, &word)), None) = (bad.next(), bad.next()) else {
@@ -390,9 +420,7 @@ fn note_refused(curve: &[f32], station: &Station, met: &mut Met<Case>) {
     let odd = ODD.into_iter().find(|&odd| curves::has(&[word], odd));
     let cases = [odd.map(Case::CurveWord), Some(Case::CurveWordAt(place))];
     for case in cases.into_iter().flatten() {
-        if met.listed(case) {
-            met.note(case);
-        }
+        met.note_listed(case);
     }
 }
 
@@ -415,23 +443,42 @@ fn taken(size: Size, before: &Station) -> Case {
     if !before.has(PERSISTENCE) {
         return Case::FrameAbsent;
     }
-    if !before.remembers() {
+    let lit = before.lit();
+    let Some((&first, later)) = lit.split_first() else {
         return Case::FrameOff;
+    };
+    if before.turned(size) {
+        return Case::Turned;
     }
-    if before.meets(size) {
-        Case::Blend
-    } else if before.turned(size) {
-        Case::Turned
-    } else {
-        Case::Refill
+    let meets = before.meets(first, size);
+    let otherwise = |&place: &usize| before.meets(place, size) != meets;
+    match (meets, later.iter().any(otherwise)) {
+        (true, false) => Case::Blend,
+        (false, false) => Case::Refill,
+        (true, true) => Case::LaterRefills,
+        (false, true) => Case::FirstRefills,
     }
 }
 
 fn note_switch(kind: u32, on: bool, before: &Station, met: &mut Met<Case>) {
     let was = before.is_on(kind);
     met.note(Case::Switch(was, on));
-    if kind == PERSISTENCE && was && !on && before.holds() {
-        met.note(Case::Forget);
+    if kind != PERSISTENCE {
+        return;
+    }
+    if before.glows().len() > 1 {
+        met.note(if later_lit(before) {
+            Case::FirstSwitched(was, on)
+        } else {
+            Case::FirstSwitchedAlone(was, on)
+        });
+    }
+    if was && !on && before.count() > 0 {
+        met.note(if later_holds(before) {
+            Case::ForgetBeside
+        } else {
+            Case::Forget
+        });
     }
 }
 
@@ -444,8 +491,12 @@ fn note_pending(call: &Call, before: &Station, asked: Answer, met: &mut Met<Case
     let off = u32::from(kind) == PERSISTENCE && was && !on;
     if let Call::Commit = call {
         met.note(Case::Committed(was, on));
-        if off && before.holds() {
-            met.note(Case::CommitForgets);
+        if off && before.count() > 0 {
+            met.note(if later_holds(before) {
+                Case::CommitForgetsBeside
+            } else {
+                Case::CommitForgets
+            });
         }
         return;
     }
@@ -453,7 +504,7 @@ fn note_pending(call: &Call, before: &Station, asked: Answer, met: &mut Met<Case
     match (call, asked) {
         (Call::Ask(..), Err(12)) => met.note(Case::AskAbsentPending),
         (Call::Switch(other, _), Ok(_)) if *other == kind => met.note(Case::SwitchBetween),
-        (Call::Frame(frame), Ok(_)) if off && before.meets(frame.size) => {
+        (Call::Frame(frame), Ok(_)) if off && before.held_by_first() == frame.size => {
             met.note(Case::BlendPending);
         }
         (Call::Write(_), Ok(_)) if was != on => met.note(Case::WrittenPending),
@@ -474,21 +525,25 @@ fn note_step(preset: u32, before: &Station, met: &mut Met<Case>) {
 
 fn note_resized(depth: u8, words: usize, before: &Station, met: &mut Met<Case>) {
     let beside = before.beside(depth);
-    met.note(if before.holds() {
-        Case::Resized(beside)
-    } else if before.remembers() {
-        Case::ResizedEmpty(beside)
-    } else {
-        Case::ResizedOff(beside)
+    let holds = before.count() > 0;
+    met.note(match (holds, before.is_on(PERSISTENCE)) {
+        (true, _) => Case::Resized(beside),
+        (false, true) => Case::ResizedEmpty(beside),
+        (false, false) => Case::ResizedOff(beside),
     });
-    if met.listed(Case::ResizedTo(depth)) {
-        met.note(Case::ResizedTo(depth));
+    if later_holds(before) {
+        met.note(match (holds, before.is_on(PERSISTENCE)) {
+            (true, _) => Case::ResizedBeside(beside),
+            (false, true) => Case::ResizedEmptyBeside(beside),
+            (false, false) => Case::ResizedOffBeside(beside),
+        });
     }
+    met.note_listed(Case::ResizedTo(depth));
     let [asked, as_before] = before.words_of(depth);
-    if before.holds() && words == asked {
+    if holds && words == asked {
         met.note(Case::ResizedExact);
     }
-    if !before.holds() && words == 0 {
+    if !holds && words == 0 {
         met.note(Case::ResizedUnlent);
     }
     if words < as_before {
@@ -516,11 +571,13 @@ fn note_not_resized(depth: u8, words: usize, before: &Station, number: u32, met:
 fn note_after(beside: Ordering, call: &Call, before: &Station, met: &mut Met<Case>) {
     match call {
         Call::SetDepth(..) => met.note(Case::ResizedAgain),
-        Call::Frame(frame) if before.holds() => met.note(if before.meets(frame.size) {
-            Case::BlendResized(beside)
-        } else {
-            Case::RefillResized(beside)
-        }),
+        Call::Frame(frame) if before.count() > 0 => {
+            met.note(if before.held_by_first() == frame.size {
+                Case::BlendResized(beside)
+            } else {
+                Case::RefillResized(beside)
+            })
+        }
         _ => {}
     }
 }
@@ -530,7 +587,7 @@ fn needed(station: &Station, (width, height): (usize, usize)) -> Lengths {
     let count = width * height;
     Lengths {
         framebuffer: count,
-        history: station.depth().unwrap_or_default() * count,
+        history: station.frames() * count,
         floats: float_room(width, height),
         ints: count,
     }
@@ -567,6 +624,22 @@ fn fault(station: &Station, frame: &Frame) -> Option<Case> {
         .collect();
     match short[..] {
         [&(lent, needed, which)] if lent + 1 == needed => Some(Case::OneShort(which)),
+        [&(lent, _, Short::History | Short::HistoryOff)] => {
+            of_several(station, lent, width * height)
+        }
+        _ => None,
+    }
+}
+
+/// Which fault a history of so many words is, if there are several glows: enough for the deepest alone, or for those that are on.
+fn of_several(station: &Station, lent: usize, count: usize) -> Option<Case> {
+    let glows = station.glows();
+    let mut depths = glows.iter().map(|&place| station.depth_at(place));
+    let lit = station.frames_of(&station.lit());
+    match lent / count {
+        _ if glows.len() < 2 || lent % count != 0 => None,
+        frames if frames == lit => Some(Case::ShortOfAll),
+        frames if depths.all(|depth| depth <= frames) => Some(Case::ShortOfSum),
         _ => None,
     }
 }

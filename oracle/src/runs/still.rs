@@ -3,7 +3,7 @@
 
 use std::iter;
 
-use crate::bridge::{self, Answer, Lent, State};
+use crate::bridge::{self, Answer, Lent, State, STATE};
 use crate::met::{Listed, Met};
 use crate::passes::settings::{self, clamped, Field};
 use crate::random::Random;
@@ -87,7 +87,7 @@ fn stands(
     met: &mut Met<Shown>,
 ) -> Result<(), String> {
     let mut stand = Stand {
-        state: [0; 80],
+        state: [0; STATE],
         history: vec![0x55aa_33cc; DEEPEST * COUNT],
         floats: vec![f32::NAN; float_room(SIDE, SIDE)],
         ints: vec![u32::MAX; COUNT],

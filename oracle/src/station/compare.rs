@@ -69,6 +69,8 @@ mod generated {
         total.add_programs(&tally);
         total.unmet += met.report();
         total.add_turned(met.count(Case::Turned));
+        let several = [2, 3].map(|lit| met.count(Case::Several(lit)));
+        total.add_several(several.iter().sum());
         Ok(())
     }
 

@@ -2,10 +2,10 @@
 //! What differs between the original and the paper (docs/DIFFERENCES.md) is done here: an absent kind is
 //! refused; the card's on bit decides, also for the CRT; a reset, which the original's pipeline cannot
 //! reach, and a turned frame, which the original would mix with the frames before the turn, build the effects anew, with their
-//! present switches and preset.
+//! present switches and preset. Of several glows the original switches the first.
 
 use super::cases::Case;
-use crate::cards::paper::{self, Record, Size, Value};
+use crate::cards::paper::{self, Opened, Record, Size, Value, GLOWS};
 use crate::met::Met;
 use crate::passes::chain::{name, preset, COLOUR, LUT, PERSISTENCE};
 use crate::passes::effects::{built, effect};
@@ -69,7 +69,7 @@ fn play(
     };
     let opened = paper::open(card).inspect_err(|&number| met.note(Case::CardRefused(number)))?;
     met.note(Case::CardTaken);
-    let mut station = Station::new(opened.records);
+    let mut station = Station::new(opened);
     each(rest.len(), printed);
     while let Some((&letter, after)) = rest.split_first() {
         rest = match letter {
@@ -94,25 +94,48 @@ fn play(
     Ok(())
 }
 
+/// The history words that are lent to each frame.
+const HISTORY: usize = 8192;
+
 struct Station {
-    records: Vec<Record>,
+    opened: Opened,
     pipeline: PostProcessPipeline,
-    /// The size of the frame that persistence took last, if it holds any.
-    held: Option<Size>,
+    /// The size of the frame that each glow took last, if it holds any.
+    held: [Option<Size>; GLOWS],
 }
 
 impl Station {
-    fn new(records: Vec<Record>) -> Self {
-        let pipeline = built(&records, effect);
+    fn new(opened: Opened) -> Self {
+        let pipeline = built(&opened.records, &[], effect);
         Station {
-            records,
+            opened,
             pipeline,
-            held: None,
+            held: [None; GLOWS],
         }
     }
 
+    fn records(&self) -> &[Record] {
+        &self.opened.records
+    }
+
+    /// The place of the first record of that kind.
     fn place(&self, kind: u32) -> Option<usize> {
-        self.records.iter().position(|record| record.kind == kind)
+        self.records().iter().position(|record| record.kind == kind)
+    }
+
+    /// Which glows are on.
+    fn lit(&self) -> Vec<usize> {
+        let glows = self.opened.glows().enumerate();
+        glows.filter(|(_, r)| r.on).map(|(glow, _)| glow).collect()
+    }
+
+    /// How many frames the histories of all glows hold, on or off.
+    fn frames(&self) -> usize {
+        let depth = |record: &Record| match record.settings[..] {
+            [_, Value::Whole(depth, _)] => depth as usize,
+            _ => panic!("a glow has a depth"),
+        };
+        self.opened.glows().map(depth).sum()
     }
 
     /// Gives the bytes after the frame, or why the reading ends.
@@ -139,17 +162,15 @@ impl Station {
             met.note(Case::CutPixels);
             return Err(1);
         };
-        if paper::curved(&self.records).is_some() {
-            // The program lends an empty curve. The next event is read.
-            let on = self.records.iter().any(|r| r.kind == COLOUR && r.on);
-            met.note(Case::BadCurve(on));
-            printed.refusal(16);
+        if let Some((number, case)) = self.refuses(width * height) {
+            // The next event is read.
+            met.note(case);
+            printed.refusal(number);
             return Ok(rest);
         }
-        let case = self.taken(width, height);
-        met.note(case);
+        let case = self.taken((width, height), met);
         if case == Case::Turned {
-            self.pipeline = built(&self.records, effect);
+            self.pipeline = built(self.records(), &[], effect);
         }
         let word = |rgb: &[u8]| u32::from_be_bytes([0, rgb[0], rgb[1], rgb[2]]);
         let mut words: Vec<u32> = pixels.chunks(3).map(word).collect();
@@ -162,19 +183,48 @@ impl Station {
         Ok(rest)
     }
 
-    /// Which case a frame of this size is.
-    fn taken(&mut self, width: usize, height: usize) -> Case {
-        let on = self.place(PERSISTENCE).is_some_and(|p| self.records[p].on);
-        if !on {
-            return Case::Frame;
+    /// Why a frame of so many words is refused: what is lent is not enough for the histories, or a curve is read, which is lent empty.
+    fn refuses(&self, count: usize) -> Option<(u32, Case)> {
+        let curved = paper::curved(self.records()).is_some();
+        if self.frames() * count > HISTORY {
+            let case = match self.lit()[..] {
+                _ if curved => Case::ShortHistoryCurved,
+                [] => Case::ShortHistoryOff,
+                _ => Case::ShortHistory,
+            };
+            return Some((10, case));
         }
-        let before = self.held.replace((width, height));
-        match before {
-            Some((w, h)) if w * h != width * height => Case::Refill,
-            Some(before) if before != (width, height) => Case::Turned,
-            Some(_) => Case::Blend,
-            None => Case::Refill,
+        let on = self.records().iter().any(|r| r.kind == COLOUR && r.on);
+        curved.then_some((16, Case::BadCurve(on)))
+    }
+
+    /// Which case a frame of this size is. The glows that are on take it.
+    fn taken(&mut self, size: Size, met: &mut Met<Case>) -> Case {
+        let count = |(width, height): Size| width * height;
+        let lit = self.lit();
+        if lit.len() > 1 {
+            met.note(Case::Several(lit.len()));
         }
+        if self.frames() * count(size) == HISTORY && !lit.is_empty() {
+            met.note(Case::LongestHistory);
+        }
+        let before: Vec<Option<Size>> = lit.iter().map(|&glow| self.held[glow]).collect();
+        let turned = |held: &Option<Size>| {
+            held.is_some_and(|held| held != size && count(held) == count(size))
+        };
+        let meets = |held: &Option<Size>| *held == Some(size);
+        let case = match before[..] {
+            [] => Case::Frame,
+            _ if before.iter().any(turned) => Case::Turned,
+            _ if before.iter().all(meets) => Case::Blend,
+            _ if before.iter().any(meets) => Case::FirstRefills,
+            _ => Case::Refill,
+        };
+        met.note(case);
+        for glow in lit {
+            self.held[glow] = Some(size);
+        }
+        case
     }
 
     fn reset(&mut self, printed: &mut Printed, met: &mut Met<Case>) {
@@ -182,13 +232,13 @@ impl Station {
             met.note(Case::ResetAbsent);
             return printed.refusal(12);
         }
-        let held = self.held.take();
-        met.note(if held.is_some() {
-            Case::ResetHeld
-        } else {
-            Case::Reset
+        met.note(match self.held.iter().flatten().count() {
+            0 => Case::Reset,
+            1 => Case::ResetHeld,
+            _ => Case::ResetSeveral,
         });
-        self.pipeline = built(&self.records, effect);
+        self.held = [None; GLOWS];
+        self.pipeline = built(self.records(), &[], effect);
         printed.line("R");
     }
 
@@ -219,13 +269,19 @@ impl Station {
             printed.refusal(12);
             return Ok(rest);
         };
-        let record = &mut self.records[place];
-        met.note(Case::Switch(record.on, on));
-        if record.kind == PERSISTENCE && record.on && !on && self.held.take().is_some() {
-            met.note(Case::Forget);
+        let later = self.lit().iter().any(|&glow| glow > 0);
+        let record = &mut self.opened.records[place];
+        let was = std::mem::replace(&mut record.on, on);
+        met.note(Case::Switch(was, on));
+        if record.kind == PERSISTENCE {
+            if later {
+                met.note(Case::FirstSwitched(was, on));
+            }
+            if was && !on && self.held[0].take().is_some() {
+                met.note(Case::Forget);
+            }
         }
-        record.on = on;
-        self.pipeline.set_enabled(name(record.kind), on);
+        self.pipeline.set_enabled(name((*kind).into()), on);
         printed.line("S");
         Ok(rest)
     }
@@ -242,7 +298,7 @@ impl Station {
         } else {
             Case::Step
         });
-        self.records[place].settings[0] = Value::Whole(preset, 3);
+        self.opened.records[place].settings[0] = Value::Whole(preset, 3);
         printed.line(&format!("L {preset}"));
     }
 }

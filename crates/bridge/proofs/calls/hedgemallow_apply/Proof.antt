@@ -14,16 +14,16 @@ returns-2 c =
     let m = c .before .before .before in
     let r = m .before .before .before .before .before .before .before .before .before .before .before in
     let t = r .before .before .before .before .before in
-    frame-some _ _ _ _ _ _ _ _ _ _ (r .apply .result) _ _ _ _ _ _ _ (read _ _ (t .before .before .before .decode .ensures) (t .enum-told .given .1)) (r .apply .ensures)
-    (shows _ _ _ _ (r .apply .result) _ _ _ (m .told .given .1) (c .before .encode .ensures))
+    frame-some _ _ _ _ _ _ _ _ _ _ (r .apply .result) _ _ _ _ _ _ _ (read _ _ (t .before .before .before .decode .ensures) (t .enum-told .given .1))
+    (r .apply .ensures) (shows _ _ _ _ (r .apply .result) _ _ _ (m .told .given .1) (c .before .encode .ensures))
 
 returns-3 : tie.Need-returns-3
 returns-3 c =
     let m = c .before .before in
     let r = m .before .before .before .before .before .before .before .before .before .before .before in
     let t = r .before .before .before .before .before in
-    frame-some _ _ _ _ _ _ _ _ _ _ (r .apply .result) _ _ _ _ _ _ _ (read _ _ (t .before .before .before .decode .ensures) (t .enum-told .given .1)) (r .apply .ensures)
-    (shows-none _ _ _ _ (r .apply .result) _ _ (m .told2 .given .1) (c .refusal2 .ensures))
+    frame-some _ _ _ _ _ _ _ _ _ _ (r .apply .result) _ _ _ _ _ _ _ (read _ _ (t .before .before .before .decode .ensures) (t .enum-told .given .1))
+    (r .apply .ensures) (shows-none _ _ _ _ (r .apply .result) _ _ (m .told2 .given .1) (c .refusal2 .ensures))
 
 pub hedgemallow-apply-spec : {M : Type 1} → statement M
 hedgemallow-apply-spec =

@@ -14,7 +14,8 @@ returns-2 : tie.Need-returns-2
 returns-2 c =
     let r = c .before .before .before in
     let t = r .before in
-    on-station _ _ _ (called (r .ask .result)) _ (read _ _ (t .before .before .before .decode .ensures) (t .enum-told .given .1)) (r .ask .ensures) (c .keep .ensures)
+    on-station _ _ _ (called (r .ask .result)) _ (read _ _ (t .before .before .before .decode .ensures) (t .enum-told .given .1)) (r .ask .ensures)
+    (c .keep .ensures)
 
 pub hedgemallow-ask-spec : {M : Type 1} → statement M
 hedgemallow-ask-spec =

@@ -25,16 +25,16 @@ returns-2 c =
     let m = c .before in
     let w = m .before .before .before .before in
     let t = w .before .before in
-    write-some _ _ _ _ (w .write .result) _ (read _ _ (t .before .before .before .decode .ensures) (t .enum-told .given .1)) (w .write .ensures .0) (w .write .ensures .1)
-    (sym (ap (λ (a : Writing). told (reportedWriting a)) (m .told .given .1)))
+    write-some _ _ _ _ (w .write .result) _ (read _ _ (t .before .before .before .decode .ensures) (t .enum-told .given .1)) (w .write .ensures .0)
+    (w .write .ensures .1) (sym (ap (λ (a : Writing). told (reportedWriting a)) (m .told .given .1)))
 
 returns-3 : tie.Need-returns-3
 returns-3 c =
     let m = c .before .before in
     let w = m .before .before .before .before in
     let t = w .before .before in
-    write-some _ _ _ _ (w .write .result) _ (read _ _ (t .before .before .before .decode .ensures) (t .enum-told .given .1)) (w .write .ensures .0) (w .write .ensures .1)
-    (c .refusal2 .ensures ∙ sym (ap (λ (a : Writing). told (reportedWriting a)) (m .told2 .given .1)))
+    write-some _ _ _ _ (w .write .result) _ (read _ _ (t .before .before .before .decode .ensures) (t .enum-told .given .1)) (w .write .ensures .0)
+    (w .write .ensures .1) (c .refusal2 .ensures ∙ sym (ap (λ (a : Writing). told (reportedWriting a)) (m .told2 .given .1)))
 
 pub hedgemallow-write-spec : {M : Type 1} → statement M
 hedgemallow-write-spec =

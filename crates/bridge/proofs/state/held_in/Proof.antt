@@ -1,5 +1,6 @@
 -- `bridge::state::held_in` meets its contract: both sides. Assumes nothing.
 use borrow.Author.Needs.{needs}
+use native.Mathlib.Omega.{arith}
 use mathlib.Core.Path.{ap₂}
 use Rattle.num.specs.Held.{sized}
 use Rattle.bridge.proofs.state.held_in.Statement.{statement}
@@ -11,4 +12,5 @@ returns c = ap₂ sized (c .before .side .ensures) (c .side2 .ensures)
 pub held-in-spec : {M : Type 1} → statement M
 held-in-spec =
     tie.close
-    (tie.spec (λ c. search needs) (λ c. search needs) (λ c κs. search needs) (λ c. search needs) (λ c. search needs) (λ c κs. search needs) returns)
+    (tie.spec (λ c. omega arith) (λ c. omega arith) (λ c. omega arith) (λ c κs. search needs) (λ c. omega arith) (λ c. omega arith) (λ c. omega arith)
+    (λ c. omega arith) (λ c κs. search needs) returns)

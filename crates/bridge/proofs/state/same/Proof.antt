@@ -9,13 +9,13 @@ use Rattle.bridge.proofs.state.same.Statement.{statement}
 use Rattle.bridge.proofs.state.same.Tie as tie
 
 abbrev Inv-loop : tie.InvT-loop
-Inv-loop xs ys i₀ i = (i ≤ 80) × SameTo i xs ys
+Inv-loop xs ys i₀ i = (i ≤ 134) × SameTo i xs ys
 
 abbrev μ-loop : tie.MeasureT-loop
-μ-loop xs ys i₀ i = 80 - i
+μ-loop xs ys i₀ i = 134 - i
 
--- both are 80 bytes
-long : (c : tie.Start Inv-loop μ-loop) → (length (c .args .t1) ≡ 80) × (length (c .args .t2) ≡ 80)
+-- both are 134 bytes
+long : (c : tie.Start Inv-loop μ-loop) → (length (c .args .t1) ≡ 134) × (length (c .args .t2) ≡ 134)
 long c = (search needs, search needs)
 
 returns : tie.Need-returns Inv-loop μ-loop

@@ -1,4 +1,4 @@
--- `card::compare::is_curved` is safe and ends: ten places at most. Assumes nothing.
+-- `card::compare::is_curved` is safe and ends: twelve places at most. Assumes nothing.
 use borrow.Author.Needs.{needs}
 use Prim.Native.Nat.{_-_, _≤_}
 use native.Mathlib.Omega.{arith}
@@ -6,10 +6,10 @@ use Rattle.card.proofs.compare.is_curved.Statement.{statement}
 use Rattle.card.proofs.compare.is_curved.Tie as tie
 
 abbrev Inv-loop : tie.InvT-loop
-Inv-loop station n i₀ i = i ≤ 10
+Inv-loop station n i₀ i = i ≤ 12
 
 abbrev μ-loop : tie.MeasureT-loop
-μ-loop station n i₀ i = 10 - i
+μ-loop station n i₀ i = 12 - i
 
 pub is-curved-spec : {M : Type 1} → statement M
 is-curved-spec =

@@ -1,4 +1,4 @@
--- `card::show::passes` is safe and ends: ten places at most. Assumes nothing.
+-- `card::show::passes` is safe and ends: twelve places at most. Assumes nothing.
 use borrow.Author.Needs.{needs}
 use Prim.Native.Nat.{_-_, _≤_}
 use native.Mathlib.Omega.{arith}
@@ -6,10 +6,10 @@ use Rattle.card.proofs.show.passes.Statement.{statement}
 use Rattle.card.proofs.show.passes.Tie as tie
 
 abbrev Inv-loop : tie.InvT-loop
-Inv-loop n records i₀ i = i ≤ 10
+Inv-loop n records i₀ i = i ≤ 12
 
 abbrev μ-loop : tie.MeasureT-loop
-μ-loop n records i₀ i = 10 - i
+μ-loop n records i₀ i = 12 - i
 
 pub passes-spec : {M : Type 1} → statement M
 passes-spec =

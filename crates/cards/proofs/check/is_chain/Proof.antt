@@ -1,5 +1,5 @@
--- `cards::check::is_chain` meets its contract: a record that is not normalised, or of a kind seen before or below the last, decides; any
--- other leaves it to those after it. Assumes nothing.
+-- `cards::check::is_chain` meets its contract: a record that is not normalised, or of a kind that may not come once more or below the last, decides;
+-- any other leaves it to those after it. Assumes nothing.
 use borrow.Author.Needs.{needs}
 use Prim.Native.Nat.{ℕ, suc, _-_, _<_}
 use mathlib.Core.Path.{_≡_, ap, ap₂, sym, _∙_}
@@ -11,7 +11,7 @@ use lib.Dec.{ltb}
 use lib.ListN.{length, take, getD}
 use lib.Seq.{take-suc}
 use Rattle.cards.specs.Passes.{kindOf}
-use Rattle.cards.specs.Records.{kinds, among, lastOf}
+use Rattle.cards.specs.Records.{kinds, lastOf, full}
 use Rattle.cards.specs.Normal.{normalPass, normalChain}
 use Rattle.cards.specs.declared.station.Record.{Record}
 use Rattle.cards.specs.Laws.Scans.{past, Scanned, scanned-none, scanned-next, scanned-more, scanned-all}
@@ -32,13 +32,13 @@ abbrev μ-loop : tie.MeasureT-loop
 step : (all rest : List Record) (i : ℕ) → i < length all → let r = getD all i past in
     let k = kindOf (r .pass) in
     let seen = kinds (take i all) in
-    rule all i (r ∷ rest) ≡ (normalPass (r .pass) && not (among k seen) && not (ltb k (lastOf 0 seen)) && rule all (suc i) rest)
+    rule all i (r ∷ rest) ≡ (normalPass (r .pass) && not (full k seen) && not (ltb k (lastOf 0 seen)) && rule all (suc i) rest)
 unfolding normalChain
 step all rest i l =
     let r = getD all i past in
     let k = kindOf (r .pass) in
     let seen = kinds (take i all) in
-    ap (λ (ks : List ℕ). normalPass (r .pass) && not (among k seen) && not (ltb k (lastOf 0 seen)) && normalChain ks rest)
+    ap (λ (ks : List ℕ). normalPass (r .pass) && not (full k seen) && not (ltb k (lastOf 0 seen)) && normalChain ks rest)
     (sym (ap kinds (take-suc all i past l) ∙ map-append (λ (r : Record). kindOf (r .pass)) (take i all) (r ∷ [])))
 
 returns : tie.Need-returns Inv-loop μ-loop
@@ -49,16 +49,16 @@ returns c =
     sym (scanned-next (l .loop .inv) long (s .pre) (omega arith) ∙ step (s .args .t1) _ (l .loop .i) (omega arith)
     ∙ simp (sym (c .before .is-normal .ensures) ∙ not-true _ (c .if1 .taken)))
 
--- the record of the turn is normalised, and `is_among` says whether its kind was seen
-normal : (c : tie.After-is-among Inv-loop μ-loop) → normalPass (getD (c .before .before .before .before .before .before .before .args .t1) (c .before .before .before .before .before .before .loop .i) past .pass) ≡ true
+-- the record of the turn is normalised, and `is_full` says whether its kind may not come once more
+normal : (c : tie.After-is-full Inv-loop μ-loop) → normalPass (getD (c .before .before .before .before .before .before .before .args .t1) (c .before .before .before .before .before .before .loop .i) past .pass) ≡ true
 normal c = sym (c .before .before .before .is-normal .ensures) ∙ not-false _ (c .before .before .if1 .left)
 
-seen : (c : tie.After-is-among Inv-loop μ-loop) → let a = c .before .before .before .before .before .before .before .args in let i = c .before .before .before .before .before .before .loop .i in
-    among (kindOf (getD (a .t1) i past .pass)) (kinds (take i (a .t1))) ≡ c .is-among .result
+seen : (c : tie.After-is-full Inv-loop μ-loop) → let a = c .before .before .before .before .before .before .before .args in let i = c .before .before .before .before .before .before .loop .i in
+    full (kindOf (getD (a .t1) i past .pass)) (kinds (take i (a .t1))) ≡ c .is-full .result
 seen c =
     let a = c .before .before .before .before .before .before .before .args in
     let i = c .before .before .before .before .before .before .loop .i in
-    ap (λ (k : ℕ). among k (kinds (take i (a .t1)))) (sym (c .before .kind-of .ensures)) ∙ sym (c .is-among .ensures)
+    ap (λ (k : ℕ). full k (kinds (take i (a .t1)))) (sym (c .before .kind-of .ensures)) ∙ sym (c .is-full .ensures)
 
 returns-2 : tie.Need-returns-2 Inv-loop μ-loop
 returns-2 c =

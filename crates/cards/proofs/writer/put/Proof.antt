@@ -24,7 +24,7 @@ abbrev μ-loop : tie.MeasureT-loop
 μ-loop width v at bits₀ i₀ bits i = width - i
 
 -- the array's length
-long : (c : tie.Start Inv-loop μ-loop) → length (c .args .s .bits) ≡ 1344
+long : (c : tie.Start Inv-loop μ-loop) → length (c .args .s .bits) ≡ 1608
 long c = search needs
 
 loop-holds : tie.Need-loop-holds Inv-loop μ-loop

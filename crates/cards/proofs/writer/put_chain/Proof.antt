@@ -2,21 +2,14 @@
 use Prim.Native.Nat.{_-_}
 use native.Mathlib.Omega.{arith}
 use mathlib.Core.Path.{_≡_, refl}
-use mathlib.Core.Bool.{false}
 use lib.ListN.{length, take}
-use lib.Ieee.{nan}
 use Rattle.cards.specs.Written.{chainBits}
 use Rattle.cards.specs.Sheet.{lay, blank}
-use Rattle.cards.specs.declared.station.Pass.the-variants.{Ntsc}
-use Rattle.cards.specs.declared.station.Record.{Record}
+use Rattle.cards.specs.Laws.Scans.{past}
 use Rattle.cards.proofs.Sheets.{lays}
 use Rattle.cards.proofs.Laying.{Laying, laid-none, laid-one, laid-all}
 use Rattle.cards.proofs.writer.put_chain.Statement.{statement}
 use Rattle.cards.proofs.writer.put_chain.Tie as tie
-
--- what the rules take for a record past the end
-abbrev none : Record
-none = record { on = false; pass = Ntsc nan 0 }
 
 abbrev Inv-loop : tie.InvT-loop
 Inv-loop n records s₀ i₀ s i = Laying records n (lay blank (chainBits (take n records))) s i
@@ -26,17 +19,17 @@ abbrev μ-loop : tie.MeasureT-loop
 
 loop-holds : tie.Need-loop-holds Inv-loop μ-loop
 loop-holds c =
-    let long : length (c .before .before .args .t1) ≡ 10 = c .before .before .good .0 .1 .0 .1 in
+    let long : length (c .before .before .args .t1) ≡ 12 = c .before .before .good .0 .1 .0 .1 in
     laid-none _ _ blank _ _ refl (c .before .put-byte .ensures) (c .put-byte2 .ensures) (omega arith)
 
 loop-again : tie.Need-loop-again Inv-loop μ-loop
 loop-again c =
-    let long : length (c .before .before .before .before .before .before .args .t1) ≡ 10 = c .before .before .before .before .before .before .good .0 .1 .0 .1 in
-    laid-one _ _ _ _ _ none (c .before .before .before .loop .inv) (c .before .before .loop-test .taken) (omega arith) _ (c .put-record .ensures)
+    let long : length (c .before .before .before .before .before .before .args .t1) ≡ 12 = c .before .before .before .before .before .before .good .0 .1 .0 .1 in
+    laid-one _ _ _ _ _ past (c .before .before .before .loop .inv) (c .before .before .loop-test .taken) (omega arith) _ (c .put-record .ensures)
 
 returns : tie.Need-returns Inv-loop μ-loop
 returns c =
-    let long : length (c .before .before .before .before .args .t1) ≡ 10 = c .before .before .before .before .good .0 .1 .0 .1 in
+    let long : length (c .before .before .before .before .args .t1) ≡ 12 = c .before .before .before .before .good .0 .1 .0 .1 in
     laid-all _ _ _ _ _ (c .before .loop .inv) (c .loop-test .left) (omega arith)
 
 pub put-chain-spec : {M : Type 1} → statement M

@@ -30,13 +30,13 @@ module _ (c : tie.After-put-chain) where
   abbrev start : tie.Start
   start = c .before .before .before .before .before
 
-  abbrev few : start .args .station .n ≤ 10
+  abbrev few : start .args .station .n ≤ 12
   few = good-parts (start .args .station) (is-good-here (c .before)) .0
 
   abbrev size : length (cardOf (start .args .station)) ≡ (c .put-chain .result .at + 7) / 8
   size = card-long (start .args .station) (c .put-chain .result) (c .put-chain .ensures)
 
-  abbrev short : c .put-chain .result .at ≤ 1338
+  abbrev short : c .put-chain .result .at ≤ 1604
   short = sheet-short (start .args .station) (c .put-chain .result) (c .put-chain .ensures) few
 
 returns-2 : tie.Need-returns-2

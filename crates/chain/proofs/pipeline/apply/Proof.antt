@@ -7,12 +7,12 @@ use lib.ListN.{length}
 use lib.Seq.{length-take-le}
 use borrow.Author.Needs.{needs}
 use Rattle.num.specs.Laws.Refusals.{area-fine}
-use Rattle.cards.specs.Laws.Ten.{unmapped}
+use Rattle.cards.specs.Laws.Twelve.{unmapped}
 use Rattle.chain.proofs.Goes.{Goes, goes, lends, stays, refused-frame, shown-frame}
 use Rattle.chain.proofs.pipeline.apply.Statement.{statement}
 use Rattle.chain.proofs.pipeline.apply.Tie as tie
 
-long : (c : tie.Start) → length (c .args .station .records) ≡ 10
+long : (c : tie.Start) → length (c .args .station .records) ≡ 12
 long c = search (unmapped, needs)
 
 abbrev start : tie.Else1 → tie.Start
@@ -37,7 +37,7 @@ area c = area-fine (wide c) (high c)
 abbrev lent : tie.After-run-chain-arg4 → tie.Else1
 lent c = c .before .before .before .before
 
-abbrev ran : tie.After-held → tie.After-run-chain
+abbrev ran : tie.After-records → tie.After-run-chain
 ran c = c .before .before .before .before .before .before .before .before .before
 
 returns : tie.Need-returns
@@ -58,7 +58,7 @@ returns-2 c =
     let kept = run .run-chain .kept in
     record {
       replies = shown-frame _ (a .width) (a .height) (a .station) (a .framebuffer .now) (a .history .now) _ _ (a .curve .now)
-          (else .before .stops .ensures) (else .if1 .left) (run .run-chain .ensures .0) (run .run-chain .ensures .1);
+          (else .before .stops .ensures) (else .if1 .left) (run .run-chain .ensures .0) (run .run-chain .ensures .1) (run .run-chain .ensures .2);
       floats-stay = stays _ (left .1 .1 .1 .1 .0) (a .floats .now) (none else .floats-room) (kept .1 .1 .1 .1 .0);
       ints-stay = stays _ (left .1 .1 .1 .1 .1 .0) (a .ints .now) (none else .ints-room) (kept .1 .1 .1 .1 .1 .0);
     }

@@ -6,12 +6,12 @@ use borrow.Author.Needs.{needs}
 use lib.ListN.{length}
 use Rattle.num.specs.Laws.Refusals.{refuses}
 use Rattle.chain.specs.Calls.{lacks}
-use Rattle.cards.specs.Laws.Ten.{unmapped}
+use Rattle.cards.specs.Laws.Twelve.{unmapped}
 use Rattle.chain.proofs.Replies.{present, switches}
 use Rattle.chain.proofs.pipeline.set_enabled.Statement.{statement}
 use Rattle.chain.proofs.pipeline.set_enabled.Tie as tie
 
-long : (c : tie.Start) → length (c .args .station .records) ≡ 10
+long : (c : tie.Start) → length (c .args .station .records) ≡ 12
 long c = search (unmapped, needs)
 
 none : (c : tie.Else1) → let a = c .before .before .args in lacks (a .station) (a .kind) ≡ 0
@@ -21,23 +21,23 @@ returns : tie.Need-returns
 returns c = refuses _ _ _ (c .before .lacks .ensures) (c .if1 .taken)
 
 place-requires : tie.Need-place-requires
-place-requires c κs = let p = present _ _ (none (c .before .before)) in (p .0 .few, p .1)
+place-requires c κs = let p = present _ _ (none (c .before)) in (p .0 .few, p .1)
 
-inside : (c : tie.After-place) → c .place .result < 10
-inside c = let few = present _ _ (none (c .before .before .before)) .0 .few in omega (arith, c .place .ensures .within)
+inside : (c : tie.After-place) → c .place .result < 12
+inside c = let few = present _ _ (none (c .before .before)) .0 .few in omega (arith, c .place .ensures .within)
 
 returns-2 : tie.Need-returns-2
 returns-2 c =
-    let place = c .before in
-    let held = place .before in
-    let else = held .before .before in
+    let held = c .before in
+    let place = held .before .before in
+    let else = place .before .before in
     let start = else .before .before in
     let a = start .args in
     let few = present _ _ (none else) .0 .few in
-    switches (a .kind) (a .station) (place .place .result) (place .place .ensures) (omega (arith, long start)) (none else) (a .on) (held .held-after .ensures)
+    switches (a .kind) (a .station) (place .place .result) (place .place .ensures) (omega (arith, long start)) (none else) (a .on)
+    (held .held-while .ensures) (c .put .ensures)
 
 pub set-enabled-spec : {M : Type 1} → statement M
 set-enabled-spec =
     tie.close
-    (tie.spec (λ c κs. tt) returns (λ c κs. tt) place-requires (λ c. omega (arith, inside c)) inside (λ c. omega (arith, inside (c .before)))
-    (λ c. inside (c .before)) returns-2)
+    (tie.spec (λ c κs. tt) returns place-requires (λ c. omega (arith, inside c)) inside (λ c κs. tt) (λ c κs. inside (c .before .before)) returns-2)

@@ -24,7 +24,7 @@ loop-again : tie.Need-loop-again Inv-loop μ-loop
 loop-again c =
     let l = c .before .before .before in
     let a = l .before .args in
-    let long : length (a .t1) ≡ 10 = l .before .good .0 .1 .0 .1 in
+    let long : length (a .t1) ≡ 12 = l .before .good .0 .1 .0 .1 in
     let e : l .loop .sum ≡ depth (take (l .loop .i) (a .t1)) = l .loop .inv .1 in
     let more : depth (take (l .loop .i + 1) (a .t1)) ≡ l .loop .sum + c .depth-of .result =
     ap (λ (k : ℕ). depth (take k (a .t1))) (add-one (l .loop .i)) ∙ depth-more (a .t1) (l .loop .i) past (omega arith) ∙ omega (arith, e, c .depth-of .ensures .0) in

@@ -6,7 +6,7 @@ use borrow.Author.Needs.{needs}
 use lib.ListN.{length}
 use Rattle.cards.specs.Laws.Good.{good}
 use Rattle.cards.specs.Laws.Scans.{past}
-use Rattle.cards.specs.Laws.Ten.{unmapped}
+use Rattle.cards.specs.Laws.Twelve.{unmapped}
 use Rattle.chain.proofs.Depths.{normal-of}
 use Rattle.chain.proofs.Taken.{Summed, summed-none, summed-fits, summed-more, summed-all}
 use Rattle.chain.proofs.samples.of_chain.Statement.{statement}
@@ -18,10 +18,10 @@ Inv-loop width height n records sum₀ i₀ sum i = Summed width height n i reco
 abbrev μ-loop : tie.MeasureT-loop
 μ-loop width height n records sum₀ i₀ sum i = n - i
 
-long : (c : tie.Start Inv-loop μ-loop) → length (c .args .station .records) ≡ 10
+long : (c : tie.Start Inv-loop μ-loop) → length (c .args .station .records) ≡ 12
 long c = search (unmapped, needs)
 
-few : (c : tie.Start Inv-loop μ-loop) → c .args .station .n ≤ 10
+few : (c : tie.Start Inv-loop μ-loop) → c .args .station .n ≤ 12
 few c = good _ (c .pre .0) .few
 
 of-record-requires : tie.Need-of-record-requires Inv-loop μ-loop
@@ -30,7 +30,7 @@ of-record-requires c κs =
     (normal-of _ (start .pre .0) (long start) _ past (c .before .loop-test .taken), start .pre .1, start .pre .2)
 
 -- the sum with the record's samples
-fits : (c : tie.After-of-record Inv-loop μ-loop) → c .before .before .before .loop .sum + c .of-record .result ≤ 2705326080
+fits : (c : tie.After-of-record Inv-loop μ-loop) → c .before .before .before .loop .sum + c .of-record .result ≤ 3246391296
 fits c =
     let body = c .before .before in
     let start = body .before .before .before in

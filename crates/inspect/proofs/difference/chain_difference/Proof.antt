@@ -16,12 +16,12 @@ Inv-loop m n a b i₀ i = Walked m n a b i
 abbrev μ-loop : tie.MeasureT-loop
 μ-loop m n a b i₀ i = m - i
 
--- there are ten records of each
+-- there are twelve records of each
 a-fits : (c : tie.Start Inv-loop μ-loop) → c .args .m ≤ length (c .args .t1)
-a-fits c = let ten : length (c .args .t1) ≡ 10 = search needs in omega arith
+a-fits c = let twelve : length (c .args .t1) ≡ 12 = search needs in omega arith
 
 b-fits : (c : tie.Start Inv-loop μ-loop) → c .args .n ≤ length (c .args .t3)
-b-fits c = let ten : length (c .args .t3) ≡ 10 = search needs in omega arith
+b-fits c = let twelve : length (c .args .t3) ≡ 12 = search needs in omega arith
 
 returns : tie.Need-returns Inv-loop μ-loop
 returns c =

@@ -4,13 +4,14 @@ use native.Mathlib.Nat.{le-of-suc-le-suc, not-suc-le-zero}
 use native.Mathlib.Numerals.{add-one}
 use native.Mathlib.Omega.{arith}
 use mathlib.Core.Path.{_≡_, refl, sym, ap, subst, _∙_}
-use mathlib.Core.Bool.{Bool, true, false, _||_}
+use mathlib.Core.Bool.{Bool, true, false, _||_, cond}
 use mathlib.Core.List.{List, [], _∷_, _++_, append-nil}
 use borrow.Author.Tests.{eqb-true, eqb-false, eq-eqb, ne-eqb}
 use lib.Dec.{eqb}
 use lib.ListN.{length, take, drop, getD, set, drop-of-length-le, take-append-drop}
 use lib.Seq.{slice-cons, length-take-le}
-use Rattle.chain.specs.Calls.{onFirst, ofFirst, stepped, steppedPass, presetOf, presets}
+use Rattle.chain.specs.Calls.{onFirst, ofFirst, forget, withDepth, redepth, stepped, steppedPass, presetOf, presets}
+use Rattle.chain.specs.Chain.{depthOf}
 use Rattle.chain.specs.Lent.{First}
 use Rattle.cards.specs.Normal.{normalChain}
 use Rattle.cards.specs.Passes.{kindOf}
@@ -42,7 +43,7 @@ none-of-none kind (suc n) rs e = suc-le-suc zero-le
 pub sought-all : (kind n : ℕ) (rs : List Record) → among kind (kinds (take n rs)) ≡ true → Sought kind n rs 0
 sought-all kind n rs e = record { within = none-of-none kind n rs e; left = e; earlier = λ j l. absurd (not-suc-le-zero l) }
 
-module _ {kind n : ℕ} {rs : List Record} {i : ℕ} (t : Sought kind n rs i) (long : length rs ≡ 10) (few : n ≤ 10) where
+module _ {kind n : ℕ} {rs : List Record} {i : ℕ} (t : Sought kind n rs i) (long : length rs ≡ 12) (few : n ≤ 12) where
   -- the record at i comes next
   next-kind : (eqb (kindOf (getD rs i past .pass)) kind || among kind (kinds (drop (suc i) (take n rs)))) ≡ true
   next-kind = ap (λ (l : List Record). among kind (kinds l)) (sym (slice-cons i n rs past (t .within) (omega arith))) ∙ t .left
@@ -88,15 +89,44 @@ first-set kind (suc n) f (r ∷ rs) (suc i) d t l =
 
 -- ## Asking it
 
-pub first-told : (kind n : ℕ) (f : Record → List ℕ) (rs : List Record) (i : ℕ) (d : Record) → First kind n rs i → n ≤ length rs
-    → ofFirst kind f (take n rs) ≡ f (getD rs i d)
+pub first-told : {X : Type 0} (kind n : ℕ) (x : X) (f : Record → X) (rs : List Record) (i : ℕ) (d : Record) → First kind n rs i → n ≤ length rs
+    → ofFirst kind x f (take n rs) ≡ f (getD rs i d)
 unfolding ofFirst
-first-told kind zero f rs i d t l = absurd (not-suc-le-zero (t .within))
-first-told kind (suc n) f [] i d t l = absurd (not-suc-le-zero l)
-first-told kind (suc n) f (r ∷ rs) zero d t l = rw (eq-eqb (kindOf (r .pass)) kind (t .there d)) refl
-first-told kind (suc n) f (r ∷ rs) (suc i) d t l =
+first-told kind zero x f rs i d t l = absurd (not-suc-le-zero (t .within))
+first-told kind (suc n) x f [] i d t l = absurd (not-suc-le-zero l)
+first-told kind (suc n) x f (r ∷ rs) zero d t l = rw (eq-eqb (kindOf (r .pass)) kind (t .there d)) refl
+first-told kind (suc n) x f (r ∷ rs) (suc i) d t l =
     let other : eqb (kindOf (r .pass)) kind ≡ false = ne-eqb (kindOf (r .pass)) kind (t .earlier 0 d (suc-le-suc zero-le)) in
-    rw other (first-told kind n f rs i d (later t) (le-of-suc-le-suc l))
+    rw other (first-told kind n x f rs i d (later t) (le-of-suc-le-suc l))
+
+-- ## A new depth in its place, and those behind it forgotten where it is another
+
+pub first-redepth : (new n : ℕ) (rs : List Record) (i : ℕ) (d : Record) → First 4 n rs i → n ≤ length rs →
+    let r = getD rs i d in
+    let put = set rs i (withDepth new r) in
+    redepth new (take n rs) ++ drop n rs
+    ≡ cond (eqb new (depthOf (r .pass))) put (take (suc i) (take n put) ++ forget (drop (suc i) (take n put)) ++ drop n put)
+unfolding redepth
+first-redepth new zero rs i d t l = absurd (not-suc-le-zero (t .within))
+first-redepth new (suc n) [] i d t l = absurd (not-suc-le-zero l)
+first-redepth new (suc n) (r ∷ rs) zero d t l =
+    rw (eq-eqb (kindOf (r .pass)) 4 (t .there d)) (go (eqb new (depthOf (r .pass))))
+  where
+    go : (b : Bool) → (withDepth new r ∷ cond b (take n rs) (forget (take n rs))) ++ drop n rs
+        ≡ cond b (withDepth new r ∷ rs) ((withDepth new r ∷ []) ++ forget (take n rs) ++ drop n rs)
+    go true = ap (λ (q : List Record). withDepth new r ∷ q) (take-append-drop n rs)
+    go false = refl
+first-redepth new (suc n) (r ∷ rs) (suc i) d t l =
+    let other : eqb (kindOf (r .pass)) 4 ≡ false = ne-eqb (kindOf (r .pass)) 4 (t .earlier 0 d (suc-le-suc zero-le)) in
+    rw other (ap (λ (q : List Record). r ∷ q) (first-redepth new n rs i d (later t) (le-of-suc-le-suc l)) ∙ go (eqb new (depthOf (getD rs i d .pass))))
+  where
+    put : List Record
+    put = set rs i (withDepth new (getD rs i d))
+
+    go : (b : Bool) → r ∷ cond b put (take (suc i) (take n put) ++ forget (drop (suc i) (take n put)) ++ drop n put)
+        ≡ cond b (r ∷ put) ((r ∷ take (suc i) (take n put)) ++ forget (drop (suc i) (take n put)) ++ drop n put)
+    go true = refl
+    go false = refl
 
 -- ## The one preset
 
@@ -116,7 +146,7 @@ one-preset seen (suc n) [] i d h t l = absurd (not-suc-le-zero l)
 one-preset seen (suc n) (r ∷ rs) zero d h t l =
     let kind = t .there d in
     rw (eq-eqb (kindOf (r .pass)) 5 kind)
-    (ap (λ (q : List ℕ). presetOf (steppedPass (r .pass)) ++ q) (no-presets (take n rs) (subst (λ (k : ℕ). among k (kinds (take n rs)) ≡ false) kind (no-second seen (r .pass) (take n rs) (headed seen r (take n rs) h))))
+    (ap (λ (q : List ℕ). presetOf (steppedPass (r .pass)) ++ q) (no-presets (take n rs) (subst (λ (k : ℕ). among k (kinds (take n rs)) ≡ false) kind (no-second seen (r .pass) (take n rs) (λ e. absurd (omega arith)) (headed seen r (take n rs) h))))
     ∙ append-nil _)
 one-preset seen (suc n) (r ∷ rs) (suc i) d h t l =
     let not-5 = t .earlier 0 d (suc-le-suc zero-le) in

@@ -1,10 +1,10 @@
--- `chain::pipeline::place` meets its contract: none before i, and one from i on. Assumes nothing.
+-- `chain::first::place` meets its contract: none before i, and one from i on. Assumes nothing.
 use Prim.Native.Nat.{_-_}
 use mathlib.Core.Path.{sym, _∙_}
 use native.Mathlib.Omega.{arith}
-use Rattle.chain.proofs.First.{Sought, sought-all, sought-found, sought-more, sought-last}
-use Rattle.chain.proofs.pipeline.place.Statement.{statement}
-use Rattle.chain.proofs.pipeline.place.Tie as tie
+use Rattle.chain.proofs.FirstOf.{Sought, sought-all, sought-found, sought-more, sought-last}
+use Rattle.chain.proofs.first.place.Statement.{statement}
+use Rattle.chain.proofs.first.place.Tie as tie
 
 abbrev Inv-loop : tie.InvT-loop
 Inv-loop n kind records i₀ i = Sought kind n records i

@@ -1,4 +1,4 @@
--- A station has places for ten records: that there are ten, and that past the tenth there is none, whatever its n says. Assumes nothing.
+-- A station has places for twelve records: that there are twelve, and that past the twelfth there is none, whatever its n says. Assumes nothing.
 use Prim.Native.Nat.{ℕ, zero, suc, min}
 use native.Mathlib.Nat.{zero-min, min-zero, suc-min-suc}
 use mathlib.Core.List.{List, [], _∷_, map}
@@ -16,5 +16,5 @@ take-min zero l = ap (λ (j : ℕ). take j l) (zero-min (length l))
 take-min (suc n) [] = ap (λ (j : ℕ). take {A = Record} j []) (min-zero (suc n))
 take-min (suc n) (r ∷ l) = ap (λ (j : ℕ). take j (r ∷ l)) (suc-min-suc n (length l)) ∙ ap (λ (rs : List Record). r ∷ rs) (take-min n l)
 
-pub of-ten : (n k : ℕ) (l : List Record) → k ≡ min n 10 → length l ≡ 10 → take k l ≡ take n l
-of-ten n k l e ten = ap (λ (j : ℕ). take j l) (e ∙ ap (min n) (sym ten)) ∙ take-min n l
+pub of-twelve : (n k : ℕ) (l : List Record) → k ≡ min n 12 → length l ≡ 12 → take k l ≡ take n l
+of-twelve n k l e twelve = ap (λ (j : ℕ). take j l) (e ∙ ap (min n) (sym twelve)) ∙ take-min n l
