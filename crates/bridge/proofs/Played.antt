@@ -46,8 +46,8 @@ module _ (sheet b words past : List ℕ) (floats : List Float) (ints : List ℕ)
       let o : Outcome = playOf lent sheet (opened s past) words in
       let same : o ≡ playedOn lent sheet b words past = ap (λ (q : Station). playOf lent sheet (opened q past) words) (t .station) in
       let told : tells b old words′ past′ (r .station) (reportedPlay (r .answer)) ≡ playedShown b old o =
-          ap₂ (λ (x : Report) (q : Station). tells b old words′ past′ q x) (a .answers) (a .leaves .station)
-          ∙ ap₂ (λ (x y : List ℕ). tells b old x y (o .playing .state .station) (o .answer)) (a .leaves .words) (a .leaves .past) in
+      ap₂ (λ (x : Report) (q : Station). tells b old words′ past′ q x) (a .answers) (a .leaves .station)
+      ∙ ap₂ (λ (x y : List ℕ). tells b old x y (o .playing .state .station) (o .answer)) (a .leaves .words) (a .leaves .past) in
       record {
         replies = rw (t .sound) (e ∙ told ∙ ap (playedShown b old) same);
         floats-stay = rw (t .sound) (subst (λ (x : Outcome). drop (x .playing .freeFloats) floats′ ≡ drop (x .playing .freeFloats) floats) same (a .leaves .floats-stay));

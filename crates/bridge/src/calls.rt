@@ -151,15 +151,7 @@ pub extern "C" fn hedgemallow_play(
     if let Answer::Refused(k) = answer {
         return refusal(k);
     }
-    let played = play(
-        station,
-        sheet,
-        framebuffer,
-        history,
-        floats,
-        ints,
-        curve,
-    );
+    let played = play(station, sheet, framebuffer, history, floats, ints, curve);
     let told = played.answer;
     let after = played.station;
     match told {

@@ -1,5 +1,5 @@
 -- The events of program `station`, as the events of a sheet, and what writing them promises. Assumes nothing.
-use Prim.Native.Nat.{ℕ, zero, suc, _+_, _*_, _≤_}
+use Prim.Native.Nat.{ℕ, zero, suc, _+_, _*_, _≤_, _<_}
 use mathlib.Core.Bool.{cond}
 use mathlib.Core.List.{List, [], _∷_, _++_}
 use mathlib.Core.Path.{_≡_}
@@ -42,7 +42,8 @@ pub record Puts (input : List ℕ) (p : ℕ) (r : Put) (sheet sheet′ : List �
   pub writes : Writes eventAt (eventIn input) p (r .next) sheet sheet′
   pub inside : r .next ≤ 8 * length sheet′
 
--- all of them: the bytes are those of so many events, and the sheet is that of these
+-- all of them: the bytes are those of so many events, the program takes each, and the sheet is that of these
 pub record Packs (input : List ℕ) (r : Packed) (sheet : List ℕ) : Type 0 where
   pub all : behind (r .events) input ≡ length input
+  pub good : (k : ℕ) → k < r .events → eventFault (drop (behind k input) input) ≡ 0
   pub reads : sheetAt (take (r .length) sheet) 0 ≡ took (eventsIn (r .events) input) (r .bits)

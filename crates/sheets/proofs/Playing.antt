@@ -48,8 +48,7 @@ module _ (l : Lent) (e : Event) (p : Playing) where
   unfolding turn
   onward r words′ past′ floats₀ floats floats′ ints₀ ints ints′ f i t =
       let roomFloats : ℕ = cond (ok (answerOf l e p)) (floatsOf e) 0 in
-      let roomInts : ℕ = cond (ok (answerOf l e p)) (intsOf e) 0 in
-      (
+      let roomInts : ℕ = cond (ok (answerOf l e p)) (intsOf e) 0 in (
         record {
           station = t .leaves .station;
           words = t .leaves .words;
@@ -134,7 +133,7 @@ module _ {l : Lent} {sheet : List ℕ} {o : Outcome} {i left next : ℕ} {s : St
       → Going l sheet o (i + 1) left q (r .station) words′ past′ floats₀ floats′ ints₀ ints′ (accepted + cond (r .ok) 1 0)
   goes-on e q l′ r words′ past′ floats′ ints′ h same t =
       let t′ = subst (λ (b : Playing). Turns l e b r words′ past′ floats floats′ ints ints′) begins
-              (subst (λ (m : Lent). Turns m e (begun (opened s past) words) r words′ past′ floats floats′ ints ints′) same t) in
+      (subst (λ (m : Lent). Turns m e (begun (opened s past) words) r words′ past′ floats floats′ ints ints′) same t) in
       let x = onward l e p r words′ past′ floats₀ floats floats′ ints₀ ints ints′ (g .leaves .floats-stay) (g .leaves .ints-stay) t′ in
       let after-it = one-event sheet left next h in
       let taken : isTaken (restAt left sheet q) ≡ true = sym (ap isTaken after-it ∙ still (restAt left sheet q) (λ es. e ∷ es)) ∙ g .rest-taken in

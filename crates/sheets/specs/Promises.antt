@@ -1,5 +1,5 @@
 -- What the functions promise: an event as it is read, and what playing leaves of all that is lent. Assumes nothing.
-use Prim.Native.Nat.{ℕ, zero, suc, _+_, _*_, _^_, _≤_, _<_}
+use Prim.Native.Nat.{ℕ, zero, suc, _+_, _*_, _-_, _^_, _≤_, _<_}
 use mathlib.Core.Path.{_≡_}
 use mathlib.Core.Bool.{Bool, true, false}
 use mathlib.Core.List.{List, [], _∷_}
@@ -24,6 +24,13 @@ use Rattle.sheets.specs.declared.play.PlayAnswer.the-variants as Answer
 unfoldable pub valuesAt : ℕ → List ℕ → ℕ → List ℕ
 valuesAt zero sheet p = []
 valuesAt (suc n) sheet p = valueAt sheet p 24 ∷ valuesAt n sheet (p + 24)
+
+-- the word k behind the place where `below` bits of the four bytes from `first` on are left; and that the bytes of n such words are there
+abbrev pub wordAt : List ℕ → (first below k : ℕ) → ℕ
+wordAt sheet first below k = valueAt sheet (8 * (first + 3 * k) + 8 - below) 24
+
+abbrev pub Standing : (n : ℕ) → List ℕ → (first below : ℕ) → Type 0
+Standing n sheet first below = (below < 8) × (first + 3 * n < length sheet)
 
 -- an event as the definition has it: a frame with its words
 abbrev pub told : List ℕ → Event → Events.Event

@@ -8,4 +8,5 @@ use Rattle.sheet.proofs.lines.frame.Tie as tie
 pub frame-spec : {M : Type 1} → statement M
 frame-spec =
     tie.close
-    (tie.spec (λ c. search needs) (λ c κs. tt) (λ c κs. tt) (λ c. sym (length-take-le _ _ (c .before .if1 .taken))) (λ c κs. tt) (λ c. search needs) (λ c κs. tt) (λ c. tt))
+    (tie.spec (λ c. search needs) (λ c κs. tt) (λ c κs. tt) (λ c. sym (length-take-le _ _ (c .before .if1 .taken)))
+    (λ c κs. tt) (λ c. search needs) (λ c κs. tt) (λ c. tt))

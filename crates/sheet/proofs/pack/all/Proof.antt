@@ -1,110 +1,85 @@
+-- `sheet::pack::all` meets its contract: event after event is put behind the others, and the count is written last. Assumes nothing.
+use borrow.Author.Needs.{needs}
+use Prim.Native.Nat.{_-_}
+use mathlib.Core.Path.{_≡_, refl, _∙_}
+use native.Mathlib.Omega.{arith}
+use denote.Ref.{now}
+use lib.ListN.{length}
+use Rattle.sheet.specs.Recorded.{Near, Puts}
+use Rattle.sheet.proofs.Packing.{Stands, rest, rest-long, none-yet, one-more, some-wanted, whole, no-sheet}
 use Rattle.sheet.proofs.pack.all.Statement.{statement}
 use Rattle.sheet.proofs.pack.all.Tie as tie
-use Rattle.sheet.proofs.pack.all.Reads as reads
-use Rattle.sheet.proofs.pack.all.Lts as lts
-use Rattle.sheet.proofs.pack.event.Reads as event-reads
-use Rattle.sheet.proofs.pack.not_packed.Reads as not-packed-reads
-use Rattle.sheets.proofs.write.close.Reads as close-reads
 
 abbrev Inv-loop : tie.InvT-loop
-Inv-loop events sheet₀ from₀ p₀ n₀ sheet from p n = ?
+Inv-loop events sheet₀ from₀ p₀ n₀ sheet from p n = (length sheet ≡ length sheet₀) × Stands events n from p sheet
 
 abbrev μ-loop : tie.MeasureT-loop
-μ-loop events sheet₀ from₀ p₀ n₀ sheet from p n = ?
+μ-loop events sheet₀ from₀ p₀ n₀ sheet from p n = length events - from
 
--- src/pack.rt:185:5
 loop-holds : tie.Need-loop-holds Inv-loop μ-loop
-loop-holds c = ?
+loop-holds c = let s = c .before .before in (refl, none-yet (now (s .args .events)) (now (s .args .sheet)) (s .pre))
 
--- src/pack.rt:187:13
-not-packed-requires : tie.Need-not-packed-requires Inv-loop μ-loop
-not-packed-requires c κs = ?
-
--- src/pack.rt:187:13
-same-length : tie.Need-same-length Inv-loop μ-loop
-same-length c = ?
-
--- src/pack.rt:187:13
 returns : tie.Need-returns Inv-loop μ-loop
-returns c = ?
+returns c = no-sheet (λ e. omega (arith, e)) (c .not-packed .ensures)
 
--- src/pack.rt:189:25
-sub-event : tie.Need-sub-event Inv-loop μ-loop
-sub-event c = ?
-
--- src/pack.rt:189:25
-part-event-start : tie.Need-part-event-start Inv-loop μ-loop
-part-event-start c = ?
-
--- src/pack.rt:189:25
-part-event-end : tie.Need-part-event-end Inv-loop μ-loop
-part-event-end c = ?
-
--- src/pack.rt:189:13
 event-requires : tie.Need-event-requires Inv-loop μ-loop
-event-requires c κs = ?
+event-requires c κs =
+    let t = c .before .before .before in
+    let l = t .before in
+    let s = l .before .before .before in
+    let there = l .loop .inv .1 in
+    (omega (arith, t .loop-test .taken, rest-long (now (s .args .events)) (l .loop .from)), omega (arith, there .few, there .upper))
 
--- src/pack.rt:191:13
-not-packed-requires-2 : tie.Need-not-packed-requires-2 Inv-loop μ-loop
-not-packed-requires-2 c κs = ?
-
--- src/pack.rt:191:13
-same-length-2 : tie.Need-same-length-2 Inv-loop μ-loop
-same-length-2 c = ?
-
--- src/pack.rt:191:13
 returns-2 : tie.Need-returns-2 Inv-loop μ-loop
-returns-2 c = ?
+returns-2 c = no-sheet (c .before .if2 .taken) (c .not-packed2 .ensures)
 
--- src/pack.rt:193:9
-add-from : tie.Need-add-from Inv-loop μ-loop
-add-from c = ?
+-- an event that was put
+module _ (c : tie.After-struct-known2 Inv-loop μ-loop) where
+  abbrev put : tie.After-event Inv-loop μ-loop
+  put = c .before .before .before .before .before
 
--- src/pack.rt:195:9
-add-n : tie.Need-add-n Inv-loop μ-loop
-add-n c = ?
+  abbrev turn : tie.Else1 Inv-loop μ-loop
+  turn = put .before .before .before
 
--- src/pack.rt:185:5
+  abbrev at-loop : tie.At-loop Inv-loop μ-loop
+  at-loop = turn .before .before
+
+  abbrev start : tie.Start Inv-loop μ-loop
+  start = at-loop .before .before .before
+
+  near : Near (rest (now (start .args .events)) (at-loop .loop .from)) (at-loop .loop .p) (put .event .result)
+  near = put .event .ensures .0
+
+  puts : Puts (rest (now (start .args .events)) (at-loop .loop .from)) (at-loop .loop .p) (put .event .result) (at-loop .loop .sheet) (put .event .last .1 .0)
+  puts = put .event .ensures .1 (c .before .if2 .left)
+
 loop-less : tie.Need-loop-less Inv-loop μ-loop
-loop-less c = ?
+loop-less c =
+    omega (arith, puts c .all, some-wanted (rest (now (start c .args .events)) (at-loop c .loop .from)), turn c .before .loop-test .taken)
 
--- src/pack.rt:185:5
 loop-again : tie.Need-loop-again Inv-loop μ-loop
-loop-again c = ?
+loop-again c =
+    let kept = put c .event .kept .1 .0 in
+    (kept ∙ at-loop c .loop .inv .0, one-more (at-loop c .loop .inv .1) (near c) (puts c) kept (turn c .if1 .left))
 
--- src/pack.rt:197:9
+add-from : tie.Need-add-from Inv-loop μ-loop
+add-from c =
+    omega (arith, near c .within, rest-long (now (start c .args .events)) (at-loop c .loop .from), at-loop c .loop .inv .1 .within)
+
 close-requires : tie.Need-close-requires Inv-loop μ-loop
-close-requires c κs = ?
+close-requires c κs =
+    let there = c .before .before .loop .inv .1 in
+    (omega (arith, there .few), there .lower, there .inside, omega (arith, there .few, there .upper))
 
--- src/pack.rt:178:1
-same-length-3 : tie.Need-same-length-3 Inv-loop μ-loop
-same-length-3 c = ?
-
--- src/pack.rt:178:1
 returns-3 : tie.Need-returns-3 Inv-loop μ-loop
-returns-3 c = ?
+returns-3 c =
+    let w = c .before .before in
+    let t = w .before .before in
+    whole (t .before .loop .inv .1) (t .loop-test .left) (w .close .kept .0) (w .close .ensures)
 
 pub all-spec : {M : Type 1} → statement M
 all-spec =
     tie.close
-    (tie.spec
-    Inv-loop
-    μ-loop
-    loop-holds
-    not-packed-requires
-    same-length
-    returns
-    sub-event
-    part-event-start
-    part-event-end
-    event-requires
-    not-packed-requires-2
-    same-length-2
-    returns-2
-    add-from
-    add-n
-    loop-less
-    loop-again
-    close-requires
-    same-length-3
-    returns-3)
+    (tie.spec Inv-loop μ-loop loop-holds (λ c κs. search needs) (λ c. c .before .before .before .loop .inv .0) returns (λ c. search needs)
+    (λ c. search needs) (λ c. search needs) event-requires (λ c κs. search needs) (λ c. search needs) returns-2 add-from
+    (λ c. omega (arith, at-loop c .loop .inv .1 .few)) loop-less loop-again close-requires (λ c. search needs) returns-3)

@@ -1,149 +1,59 @@
+-- `sheet::pack::frame` meets its contract: its sides are looked at before its pixels, which are 1,024 at most. Assumes nothing.
 use borrow.Author.Needs.{needs}
+use Prim.Native.Nat.{_*_, _≤_}
+use mathlib.Core.Bool.{false}
+use mathlib.Core.Path.{_≡_, sym, _∙_}
+use native.Mathlib.Omega.{arith}
+use Rattle.events.specs.Events.{outside}
+use Rattle.sheet.proofs.Packing.{not-put, small-frame, put-frame}
 use Rattle.sheet.proofs.pack.frame.Statement.{statement}
 use Rattle.sheet.proofs.pack.frame.Tie as tie
-use Rattle.sheet.proofs.pack.frame.Reads as reads
-use Rattle.sheet.proofs.pack.frame.Lts as lts
-use Rattle.raster.proofs.pixels.at.Reads as at-reads
-use Rattle.sheet.proofs.pack.not_put.Reads as not-put-reads
-use Rattle.sheet.proofs.pack.outside.Reads as outside-reads
-use Rattle.sheets.proofs.write.frame.Reads as frame-reads
 
--- src/pack.rt:60:9
-not-put-requires : tie.Need-not-put-requires
-not-put-requires c κs = search needs
+-- once both sides were looked at, no side is bad
+module _ (c : tie.Else3) where
+  abbrev high : tie.After-at2
+  high = c .before .before .before .before
 
--- src/pack.rt:60:9
-returns : tie.Need-returns
-returns c = ?
+  abbrev wide : tie.After-at
+  wide = high .before
 
--- src/pack.rt:62:9
-at-requires : tie.Need-at-requires
-at-requires c κs = search needs
+  abbrev start : tie.Start
+  start = wide .before .before .before .before
 
--- src/pack.rt:63:9
-at-requires-2 : tie.Need-at-requires-2
-at-requires-2 c κs = search needs
+  wide-in : outside (wide .at .result) ≡ false
+  wide-in = sym (c .before .before .before .outside .ensures) ∙ c .before .before .if2 .left
 
--- src/pack.rt:64:8
-outside-requires : tie.Need-outside-requires
-outside-requires c κs = search needs
+  high-in : outside (high .at2 .result) ≡ false
+  high-in = sym (c .before .outside2 .ensures) ∙ c .if3 .left
 
--- src/pack.rt:65:9
-not-put-requires-2 : tie.Need-not-put-requires-2
-not-put-requires-2 c κs = search needs
+  few : high .at2 .result * wide .at .result ≤ 1024
+  few = small-frame (wide .at .result) (high .at2 .result) wide-in high-in
 
--- src/pack.rt:65:9
-returns-2 : tie.Need-returns-2
-returns-2 c = ?
-
--- src/pack.rt:67:8
-outside-requires-2 : tie.Need-outside-requires-2
-outside-requires-2 c κs = search needs
-
--- src/pack.rt:68:9
-not-put-requires-3 : tie.Need-not-put-requires-3
-not-put-requires-3 c κs = search needs
-
--- src/pack.rt:68:9
-returns-3 : tie.Need-returns-3
-returns-3 c = ?
-
--- src/pack.rt:70:17
-mul-count : tie.Need-mul-count
-mul-count c = ?
-
--- src/pack.rt:71:21
-mul-bytes : tie.Need-mul-bytes
-mul-bytes c = ?
-
--- src/pack.rt:71:17
-add-bytes : tie.Need-add-bytes
-add-bytes c = ?
-
--- src/pack.rt:73:9
-not-put-requires-4 : tie.Need-not-put-requires-4
-not-put-requires-4 c κs = search needs
-
--- src/pack.rt:73:9
-returns-4 : tie.Need-returns-4
-returns-4 c = ?
-
--- src/pack.rt:75:23
-add-if5 : tie.Need-add-if5
-add-if5 c = search needs
-
--- src/pack.rt:75:32
 mul-if5 : tie.Need-mul-if5
-mul-if5 c = ?
+mul-if5 c = omega (arith, few (c .before))
 
--- src/pack.rt:75:23
 add-if5-2 : tie.Need-add-if5-2
-add-if5-2 c = ?
+add-if5-2 c = omega (arith, few (c .before), start (c .before) .pre .2)
 
--- src/pack.rt:75:23
 add-if5-3 : tie.Need-add-if5-3
-add-if5-3 c = ?
+add-if5-3 c = omega (arith, few (c .before), start (c .before) .pre .2)
 
--- src/pack.rt:76:9
-not-put-requires-5 : tie.Need-not-put-requires-5
-not-put-requires-5 c κs = search needs
-
--- src/pack.rt:76:9
-returns-5 : tie.Need-returns-5
-returns-5 c = ?
-
--- src/pack.rt:78:54
-sub-frame : tie.Need-sub-frame
-sub-frame c = search needs
-
--- src/pack.rt:78:54
-part-frame-start : tie.Need-part-frame-start
-part-frame-start c = search needs
-
--- src/pack.rt:78:54
-part-frame-end : tie.Need-part-frame-end
-part-frame-end c = search needs
-
--- src/pack.rt:78:9
-frame-requires : tie.Need-frame-requires
-frame-requires c κs = search needs
-
--- src/pack.rt:55:1
-same-length : tie.Need-same-length
-same-length c = search needs
-
--- src/pack.rt:55:1
 returns-6 : tie.Need-returns-6
-returns-6 c = ?
+returns-6 c =
+    let w = c .before .before in
+    let room = w .before .before .before in
+    let long = room .before in
+    let d = long .before in
+    let p = start d .pre in
+    put-frame (p .0) (omega (arith, room .if5 .left, w .frame .ensures .1, w .frame .kept .0)) (omega (arith, wide d .before .if1 .left)) (p .1)
+    (wide d .at .ensures .0) (high d .at2 .ensures .0) (wide-in d) (high-in d) (long .if4 .left) (w .frame .ensures .1) (w .frame .ensures .0)
 
 pub frame-spec : {M : Type 1} → statement M
 frame-spec =
     tie.close
-    (tie.spec
-    not-put-requires
-    returns
-    at-requires
-    at-requires-2
-    outside-requires
-    not-put-requires-2
-    returns-2
-    outside-requires-2
-    not-put-requires-3
-    returns-3
-    mul-count
-    mul-bytes
-    add-bytes
-    not-put-requires-4
-    returns-4
-    add-if5
-    mul-if5
-    add-if5-2
-    add-if5-3
-    not-put-requires-5
-    returns-5
-    sub-frame
-    part-frame-start
-    part-frame-end
-    frame-requires
-    same-length
+    (tie.spec (λ c κs. search needs) (λ c. not-put 1 (omega arith) (c .not-put .ensures)) (λ c κs. search needs) (λ c κs. search needs) (λ c κs. search needs)
+    (λ c κs. search needs) (λ c. not-put 3 (omega arith) (c .not-put2 .ensures)) (λ c κs. search needs) (λ c κs. search needs)
+    (λ c. not-put 3 (omega arith) (c .not-put3 .ensures)) (λ c. omega (arith, few c)) (λ c. omega (arith, few c)) (λ c. omega (arith, few c))
+    (λ c κs. search needs) (λ c. not-put 1 (omega arith) (c .not-put4 .ensures)) (λ c. search needs) mul-if5 add-if5-2 add-if5-3 (λ c κs. search needs)
+    (λ c. not-put 6 (omega arith) (c .not-put5 .ensures)) (λ c. search needs) (λ c. search needs) (λ c. search needs) (λ c κs. search needs) (λ c. search needs)
     returns-6)

@@ -1,7 +1,6 @@
 -- `sheet::picture::pixels` is safe: the buffer has three bytes for each of so many words. Assumes nothing.
 use borrow.Author.Needs.{needs}
 use mathlib.Core.Path.{sym}
-use native.Mathlib.Omega.{arith}
 use lib.Seq.{length-take-le}
 use Rattle.sheet.proofs.picture.pixels.Statement.{statement}
 use Rattle.sheet.proofs.picture.pixels.Tie as tie

@@ -51,5 +51,5 @@ all-spec =
     tie.close
     (tie.spec Inv-loop μ-loop (λ c. (omega arith, omega arith, omega arith))
     (λ c κs. omega (arith, c .before .loop .inv, c .before .before .before .before .pre)) (λ c. search needs) (λ c. search needs)
-    (λ c. omega (arith, c .before .before .before .before .loop .inv)) turn-requires (λ c κs. tt) add-accepted (λ c κs. tt) (λ c. omega arith) (λ c. omega arith)
-    loop-again (λ c. omega (arith, c .before .loop .inv)))
+    (λ c. omega (arith, c .before .before .before .before .loop .inv)) turn-requires (λ c κs. tt) add-accepted (λ c κs. tt) (λ c. omega arith)
+    (λ c. omega arith) loop-again (λ c. omega (arith, c .before .loop .inv)))

@@ -18,4 +18,5 @@ pub behind-card-spec : {M : Type 1} → statement M
 behind-card-spec =
     tie.close
     (tie.spec (λ c κs. tt) (λ c κs. tt) (λ c. tt) (λ c. first (c .before)) (λ c. first (c .before)) (λ c. search needs) (λ c κs. tt) (λ c. search needs)
-    (λ c. search needs) (λ c. search needs) (λ c. search needs) (λ c κs. tt) (λ c. search needs) later later (λ c. search needs) (λ c κs. tt) (λ c. tt) (λ c. tt))
+    (λ c. search needs) (λ c. search needs) (λ c. search needs) (λ c κs. tt) (λ c. search needs) later later (λ c. search needs)
+    (λ c κs. tt) (λ c. tt) (λ c. tt))

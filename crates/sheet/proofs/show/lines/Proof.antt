@@ -25,5 +25,5 @@ loop-again c =
 pub lines-spec : {M : Type 1} → statement M
 lines-spec =
     tie.close
-    (tie.spec Inv-loop μ-loop (λ c. (omega arith, omega arith)) (λ c κs. omega (arith, c .before .loop .inv, c .before .before .before .pre)) (λ c. search needs)
-    (λ c. search needs) (λ c. tt) (λ c. omega arith) (λ c κs. tt) (λ c. tt) (λ c. omega arith) (λ c. omega arith) loop-again (λ c. tt))
+    (tie.spec Inv-loop μ-loop (λ c. (omega arith, omega arith)) (λ c κs. omega (arith, c .before .loop .inv, c .before .before .before .pre))
+    (λ c. search needs) (λ c. search needs) (λ c. tt) (λ c. omega arith) (λ c κs. tt) (λ c. tt) (λ c. omega arith) (λ c. omega arith) loop-again (λ c. tt))

@@ -1,38 +1,57 @@
--- `sheets::pixels::unpack` meets its contract: word after word, each three bytes farther. Assumes nothing.
+-- `sheets::pixels::unpack` meets its contract: as many words as there are fours, and then the rest. Assumes nothing.
+use borrow.Author.Needs.{needs}
 use Prim.Native.Nat.{ℕ, _+_, _*_, _-_, _/_}
-use mathlib.Core.Path.{ap, _∙_}
+use mathlib.Core.Path.{_≡_, sym, ap}
 use native.Mathlib.Omega.{arith}
 use denote.Ref.{now}
-use lib.ListN.{length}
-use Rattle.num.specs.Laws.Rewrite.{Rewritten, none, more, all}
+use lib.ListN.{length, take}
+use lib.Seq.{length-take-le}
 use Rattle.cards.specs.Bits.{valueAt}
-use Rattle.cards.proofs.Bits.{valueAt-lt}
+use Rattle.sheets.specs.Promises.{wordAt}
+use Rattle.sheets.proofs.Words.{two-parts}
 use Rattle.sheets.proofs.pixels.unpack.Statement.{statement}
 use Rattle.sheets.proofs.pixels.unpack.Tie as tie
 
-abbrev Inv-loop : tie.InvT-loop
-Inv-loop words₀ sheet from first below i₀ words i = Rewritten i (λ k x. valueAt sheet (from + 24 * k) 24) words₀ words
+module _ (s : tie.Start) where
+  abbrev first : ℕ
+  first = (s .args .from - 1) / 8
 
-abbrev μ-loop : tie.MeasureT-loop
-μ-loop words₀ sheet from first below i₀ words i = length words₀ - i
+  abbrev below : ℕ
+  below = 8 * first + 8 - s .args .from
 
-word-requires : tie.Need-word-requires Inv-loop μ-loop
-word-requires c κs = let s = c .before .before .before .before in (omega (arith, s .pre, c .before .loop .inv .kept), omega (arith, s .pre))
+  abbrev fours : ℕ
+  fours = length (now (s .args .words)) / 4 * 4
 
-cast-words : tie.Need-cast-words Inv-loop μ-loop
-cast-words c =
-    let s = c .before .before .before .before .before in
-    omega (arith, c .word .ensures, valueAt-lt (now (s .args .sheet)) (8 * ((s .args .from - 1) / 8 + 3 * c .before .before .loop .i) + 8 - (8 * ((s .args .from - 1) / 8) + 8 - s .args .from)) 24)
+  -- where word k stands
+  place : (k : ℕ) → 8 * (first + 3 * k) + 8 - below ≡ s .args .from + 24 * k
+  place k = omega (arith, s .pre .0)
 
-loop-again : tie.Need-loop-again Inv-loop μ-loop
-loop-again c =
-    let s = c .before .before .before .before .before in
-    more (c .before .before .loop .inv) 0 (c .before .loop-test .taken)
-    (c .word .ensures ∙ ap (λ (p : ℕ). valueAt (now (s .args .sheet)) p 24) (omega (arith, s .pre)))
+  word : (k : ℕ) → wordAt (now (s .args .sheet)) first below k ≡ valueAt (now (s .args .sheet)) (s .args .from + 24 * k) 24
+  word k = ap (λ (p : ℕ). valueAt (now (s .args .sheet)) p 24) (place k)
+
+  long : length (take fours (now (s .args .words))) ≡ fours
+  long = length-take-le fours (now (s .args .words)) (omega arith)
+
+slice-aggregate-by-four : tie.Need-slice-aggregate-by-four
+slice-aggregate-by-four c = sym (long (c .before .before .before))
+
+by-four-requires : tie.Need-by-four-requires
+by-four-requires c κs =
+    let s = c .before .before .before in
+    (omega (arith, long s), (omega (arith, s .pre), omega (arith, s .pre, long s)))
+
+returns : tie.Need-returns
+returns c =
+    let o = c .before .before in
+    let b = o .before .before .before .before in
+    let s = b .before .before .before .before in
+    two-parts (λ k. valueAt (now (s .args .sheet)) (s .args .from + 24 * k) 24) (wordAt (now (s .args .sheet)) (first s) (below s))
+    (wordAt (now (s .args .sheet)) (first s + 3 * fours s) (below s)) (fours s) (now (s .args .words)) _ _ (omega arith) (word s)
+    (λ k. ap (λ (p : ℕ). valueAt (now (s .args .sheet)) p 24) (omega (arith, s .pre .0))) (b .by-four .ensures) (o .one-by-one .ensures)
 
 pub unpack-spec : {M : Type 1} → statement M
 unpack-spec =
     tie.close
-    (tie.spec Inv-loop μ-loop (λ c. omega arith) (λ c. omega arith) (λ c. omega arith) (λ c. omega arith) (λ c. none _ _) (λ c. omega arith) (λ c. omega arith)
-    word-requires cast-words (λ c. omega arith) (λ c. omega arith) (λ c. omega arith) (λ c. omega arith) loop-again (λ c. c .before .loop .inv .kept)
-    (λ c. all (c .before .loop .inv) (c .loop-test .left)))
+    (tie.spec (λ c. search needs) (λ c. search needs) (λ c. search needs) (λ c. search needs) (λ c. search needs) (λ c. search needs) slice-aggregate-by-four
+    by-four-requires (λ c. search needs) (λ c. search needs) (λ c. search needs) (λ c. search needs) (λ c. search needs) (λ c. search needs)
+    (λ c κs. search needs) (λ c. search needs) returns)

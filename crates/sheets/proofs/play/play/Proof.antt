@@ -46,8 +46,7 @@ module _ (c : tie.After-known-told) where
 
 play-all-requires : tie.Need-play-all-requires
 play-all-requires c κs =
-    let d = c .before .before .before .before in
-    (
+    let d = c .before .before .before .before in (
       small (now (start d .args .sheet)) 16 0 (count d),
       omega (arith, next (now (start d .args .sheet)) 16 0 (count d)),
       sym (ap isTaken (counted (now (start d .args .sheet)) (count d))) ∙ sym (whole d .before .is-whole .ensures) ∙ not-false _ (whole d .if2 .left),

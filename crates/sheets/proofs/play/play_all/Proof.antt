@@ -33,8 +33,7 @@ loop-holds c =
     let s = c .before .before .before .before .before .before in
     let a = s .args in
     let g = going (lentOf (now (a .history)) (now (a .floats)) (now (a .ints)) (now (a .curve))) (now (a .sheet)) (a .n) (a .at) (a .station) (now (a .framebuffer))
-            (now (a .history)) (now (a .floats)) (now (a .ints)) (s .pre .2) in
-    (
+    (now (a .history)) (now (a .floats)) (now (a .ints)) (s .pre .2) in (
       omega arith,
       omega (arith, s .pre .1),
       refl,
@@ -93,8 +92,7 @@ loop-again c =
     let m = c .before .before .before .before .before .before .before .before .before .before in
     let k = m .before .before .before .before .before in
     let d = turning k in
-    let inv = d .before .loop .inv in
-    (
+    let inv = d .before .loop .inv in (
       omega arith,
       omega (arith, got k .2, inv .1),
       m .make .kept .1 .1 .1 .0 ∙ inv .2,
