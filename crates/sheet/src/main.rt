@@ -53,9 +53,8 @@ fn option(i: usize) -> u8 {
 }
 
 // Prints the sheet that argument 1 names.
-fn printed() {
-    let mut file = memory::bytes();
-    let loaded = files::load(1, &mut file);
+fn printed(file: &mut [u8; 2097152]) {
+    let loaded = files::load(1, file);
     if !loaded.ok {
         return;
     }
@@ -64,21 +63,21 @@ fn printed() {
 }
 
 // Plays the sheet that argument i names, with the curve that argument `named` names; 0 for none.
-fn lend(station: Station, i: usize, named: usize) {
+fn lend(station: Station, i: usize, named: usize, file: &mut [u8; 2097152]) {
     if named == 0 {
         let none: [f32; 0] = [];
-        play::play(station, i, &none);
+        play::play(station, i, &none, file);
         return;
     }
     let loaded = files::curve(named);
     if loaded.fault == 0 {
         let curve = loaded.words;
-        play::play(station, i, &curve);
+        play::play(station, i, &curve, file);
     }
 }
 
 // The card at place `at` among the arguments, and the sheet behind it.
-fn played(at: usize, count: usize, named: usize)
+fn played(at: usize, count: usize, named: usize, file: &mut [u8; 2097152])
     requires { ⌜ at ≤ 4 ⌝ }
 {
     if count != at + 2 || input::is_option(at) || input::is_option(at + 1) {
@@ -95,7 +94,7 @@ fn played(at: usize, count: usize, named: usize)
     let answer = opened.answer;
     let station = opened.station;
     match answer {
-        Answer::Accepted => lend(station, at + 1, named),
+        Answer::Accepted => lend(station, at + 1, named, file),
         Answer::Refused(k) => says::card(at, &card[..n], k),
     }
 }
@@ -110,31 +109,32 @@ fn is_last(i: usize, count: usize) -> bool
 // The options of a playing come before the card, in either order, each once.
 fn main() {
     let count = os::arg_count();
+    let mut file = memory::bytes();
     match option(1) {
         PLAY => {
             if option(2) == CURVE {
-                played(4, count, 3);
+                played(4, count, 3, &mut file);
             } else {
-                played(2, count, 0);
+                played(2, count, 0, &mut file);
             }
         }
         CURVE => {
             if option(3) == PLAY {
-                played(4, count, 2);
+                played(4, count, 2, &mut file);
             } else {
                 usage();
             }
         }
         RECORD => {
             if is_last(2, count) {
-                record::record(2);
+                record::record(2, &mut file);
             } else {
                 usage();
             }
         }
         _ => {
             if is_last(1, count) {
-                printed();
+                printed(&mut file);
             } else {
                 usage();
             }

@@ -38,9 +38,8 @@ fn behind_card(i: usize, file: &[u8]) {
 }
 
 // The file that argument i names.
-pub fn record(i: usize) {
-    let mut file = memory::bytes();
-    let loaded = files::load(i, &mut file);
+pub fn record(i: usize, file: &mut [u8; 2097152]) {
+    let loaded = files::load(i, file);
     if !loaded.ok {
         return;
     }

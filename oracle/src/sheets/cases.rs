@@ -19,7 +19,7 @@ pub enum Which {
 }
 
 impl Which {
-    fn of(event: &Event) -> Self {
+    pub fn of(event: &Event) -> Self {
         match event {
             Event::Frame(..) => Which::Frame,
             Event::Reset => Which::Reset,

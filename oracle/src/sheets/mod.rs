@@ -14,7 +14,7 @@ pub mod fuzz;
 #[cfg(with_original)]
 pub mod lists;
 #[cfg(with_original)]
-mod model;
+pub mod model;
 pub mod paper;
 #[cfg(all(with_original, not(fuzz)))]
 mod unpack;

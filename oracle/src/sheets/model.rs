@@ -46,13 +46,13 @@ pub struct Turn<'a> {
     pub answer: Answer,
 }
 
-/// Plays a sheet that was read, and keeps what happened in `turns`.
+/// Plays a sheet that was read. `each` is told of every event, with the framebuffer after it.
 pub fn play<'a>(
     machine: &mut Machine,
     read: &'a Read,
     framebuffer: &mut [u32],
     lent: &Lending,
-    turns: &mut Vec<Turn<'a>>,
+    mut each: impl FnMut(Turn<'a>, &[u32]),
 ) -> Result<Played, u32> {
     if machine.station().is_none() {
         return Err(13);
@@ -67,11 +67,12 @@ pub fn play<'a>(
         let before = before.expect("a good station stays good");
         let answer = call(machine, event, framebuffer, lent);
         played.count(event, answer);
-        turns.push(Turn {
+        let turn = Turn {
             before,
             event,
             answer,
-        });
+        };
+        each(turn, framebuffer);
     }
     Ok(played)
 }
