@@ -9,7 +9,7 @@ use cli::input::Loaded;
 use frames::curve::Loaded as LoadedCurve;
 
 // The file that argument i names; where it cannot be taken whole, it is said why.
-pub fn load(i: usize, out: &mut [u8; 2097152]) -> Loaded
+pub fn load(i: usize, out: &mut [u8]) -> Loaded
     ensures { λ r. ⌜ Counts (r .length) (now (out .exit)) ⌝ }
 {
     let loaded = input::named(i, out);

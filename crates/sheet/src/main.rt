@@ -53,7 +53,7 @@ fn option(i: usize) -> u8 {
 }
 
 // Prints the sheet that argument 1 names.
-fn printed(file: &mut [u8; 2097152]) {
+fn printed(file: &mut [u8]) {
     let loaded = files::load(1, file);
     if !loaded.ok {
         return;
@@ -63,7 +63,7 @@ fn printed(file: &mut [u8; 2097152]) {
 }
 
 // Plays the sheet that argument i names, with the curve that argument `named` names; 0 for none.
-fn lend(station: Station, i: usize, named: usize, file: &mut [u8; 2097152]) {
+fn lend(station: Station, i: usize, named: usize, file: &mut [u8]) {
     if named == 0 {
         let none: [f32; 0] = [];
         play::play(station, i, &none, file);
@@ -77,7 +77,7 @@ fn lend(station: Station, i: usize, named: usize, file: &mut [u8; 2097152]) {
 }
 
 // The card at place `at` among the arguments, and the sheet behind it.
-fn played(at: usize, count: usize, named: usize, file: &mut [u8; 2097152])
+fn played(at: usize, count: usize, named: usize, file: &mut [u8])
     requires { ⌜ at ≤ 4 ⌝ }
 {
     if count != at + 2 || input::is_option(at) || input::is_option(at + 1) {

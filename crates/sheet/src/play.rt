@@ -120,7 +120,7 @@ fn run(station: Station, sheet: &[u8], curve: &[f32]) {
 }
 
 // The sheet that argument i names.
-pub fn play(station: Station, i: usize, curve: &[f32], file: &mut [u8; 2097152]) {
+pub fn play(station: Station, i: usize, curve: &[f32], file: &mut [u8]) {
     let loaded = files::load(i, file);
     if !loaded.ok {
         return;

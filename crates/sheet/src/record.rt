@@ -38,7 +38,7 @@ fn behind_card(i: usize, file: &[u8]) {
 }
 
 // The file that argument i names.
-pub fn record(i: usize, file: &mut [u8; 2097152]) {
+pub fn record(i: usize, file: &mut [u8]) {
     let loaded = files::load(i, file);
     if !loaded.ok {
         return;
