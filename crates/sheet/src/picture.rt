@@ -1,25 +1,19 @@
 // A picture as binary PPM, on standard output.
 ghost use Prim.Native.Nat.{_≤_};
 ghost use lib.ListN.{length};
+use crate::show::number;
+use crate::show::text;
 use cli::memory;
 use libc::STDOUT_FILENO;
 use num::size::Size;
 use num::size::area;
 use raster::pixels::pack;
 
-fn text(words: &[u8]) {
-    io::write_all(STDOUT_FILENO, words);
-}
-
-fn number(n: u16) {
-    io::print_decimal(STDOUT_FILENO, n as u64);
-}
-
 fn header(size: Size) {
     text(b"P6\n");
-    number(size.width);
+    number(size.width as usize);
     text(b" ");
-    number(size.height);
+    number(size.height as usize);
     text(b"\n255\n");
 }
 

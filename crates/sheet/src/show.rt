@@ -12,11 +12,11 @@ use sheets::event::EventRead;
 use sheets::event::is_whole;
 use sheets::event::read;
 
-fn text(words: &[u8]) {
+pub fn text(words: &[u8]) {
     io::write_all(STDOUT_FILENO, words);
 }
 
-fn number(n: usize) {
+pub fn number(n: usize) {
     io::print_decimal(STDOUT_FILENO, n as u64);
 }
 
