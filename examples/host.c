@@ -1,11 +1,15 @@
 /* A host in C: opens a card and runs two rounds of frames. In the first a referee asks for a switch, which takes hold before the second.
    It prints a checksum of the last picture of each round and how the switches stand then, as a front end shows them, and of the whole
-   the channels that were clipped and the samples that blurs took on the way, and the totals of the last picture's middle. */
+   the channels that were clipped and the samples that blurs took on the way, and the totals of the last picture's middle. All that
+   happens is stored as a run sheet, which is then played on another station of that card: it shows the same picture at the end. */
 #include <stdio.h>
 #include <stdlib.h>
+#include <string.h>
 #include "hedgemallow.h"
 
 enum { WIDTH = 64, HEIGHT = 48, COUNT = WIDTH * HEIGHT, ROUND = 4, FRAMES = 6 };
+/* The numbers of the events on a sheet that are stored here. */
+enum { FRAME = 0, STEP = 3, ASK = 4, COMMIT = 5 };
 
 /* Persistence 0.5 over 3 frames, LUT preset 1 at 0.75, scanlines 0.5, all on. */
 static const uint8_t card[] = {0x13, 0x49, 0xF8, 0x00, 0x00, 0x00, 0x1A, 0xC9, 0xFA,
@@ -20,6 +24,9 @@ static uint32_t frame[COUNT], history[HEDGEMALLOW_DEPTH * COUNT], ints[COUNT];
 static float floats[HEDGEMALLOW_FLOATS(WIDTH, HEIGHT)];
 /* The card has no colour, so no word of a curve is read: its length is 0. */
 static const float curve[1];
+/* The sheet: its event count, four bytes at most for each frame beside three for each pixel, and a few for the other events. */
+static uint8_t sheet[2 + FRAMES * (4 + 3 * COUNT) + 8];
+static size_t bits = 16, events; /* what is written of it: the count comes last */
 
 /* What a call reports. A refusal ends the host, which has nothing to show then. */
 static uint32_t must(const char *what, uint32_t answer) {
@@ -32,6 +39,30 @@ static void paint(uint32_t number) {
     for (uint32_t y = 0; y < HEIGHT; y++)
         for (uint32_t x = 0; x < WIDTH; x++)
             frame[y * WIDTH + x] = (x * 4) << 16 | (y * 5) << 8 | ((number * 40 + x + y) & 255);
+}
+
+/* A field of the sheet, most significant bit first. */
+static void put(uint32_t value, int width) {
+    while (width--) {
+        sheet[bits / 8] |= (uint8_t)((value >> width & 1) << (7 - bits % 8));
+        bits++;
+    }
+}
+
+/* An event: its number, and what else it has is put behind it. */
+static void store(uint32_t number) {
+    put(number, 3);
+    events++;
+    sheet[0] = (uint8_t)(events >> 8);
+    sheet[1] = (uint8_t)events;
+}
+
+/* The frame as it is painted. */
+static void store_frame(void) {
+    store(FRAME);
+    put(WIDTH, 11);
+    put(HEIGHT, 11);
+    for (size_t i = 0; i < COUNT; i++) put(frame[i], 24);
 }
 
 /* FNV-1a over the words' bytes, least significant first. */
@@ -56,6 +87,18 @@ static void show(const uint8_t *state) {
     printf("\n");
 }
 
+/* The sheet on a station of its own, which has to end as the first one did. */
+static void look_again(const uint8_t *state, size_t words) {
+    uint8_t other[HEDGEMALLOW_STATE];
+    uint32_t reports[2];
+    memset(frame, 0, sizeof frame);
+    must("the card", hedgemallow_open(card, sizeof card, other));
+    must("the sheet", hedgemallow_play(other, sheet, (bits + 7) / 8, frame, COUNT, history, words, floats,
+                                       HEDGEMALLOW_FLOATS(WIDTH, HEIGHT), ints, COUNT, curve, 0, reports));
+    printf("sheet: %u bytes, accepted %u, refused %u, picture %08X, %s state\n", (unsigned)((bits + 7) / 8), (unsigned)reports[0],
+           (unsigned)reports[1], (unsigned)checksum(), memcmp(other, state, sizeof other) ? "another" : "the same");
+}
+
 int main(void) {
     uint8_t state[HEDGEMALLOW_STATE];
     must("the card", hedgemallow_open(card, sizeof card, state));
@@ -67,11 +110,21 @@ int main(void) {
             printf("first round: frames %d, picture %08X\n", ROUND, (unsigned)checksum());
             show(state);
             must("the commit", hedgemallow_commit(state));
+            store(COMMIT);
         }
         paint(number);
         /* During play: the pictures of this round keep their scanlines. */
-        if (number == 2) must("what is asked for", hedgemallow_ask(state, HEDGEMALLOW_SCANLINES, 0));
-        if (number == 3) preset = must("the step", hedgemallow_cycle_lut(state));
+        if (number == 2) {
+            must("what is asked for", hedgemallow_ask(state, HEDGEMALLOW_SCANLINES, 0));
+            store(ASK);
+            put(HEDGEMALLOW_SCANLINES, 4);
+            put(0, 1);
+        }
+        if (number == 3) {
+            preset = must("the step", hedgemallow_cycle_lut(state));
+            store(STEP);
+        }
+        store_frame();
         must("the frame", hedgemallow_apply(state, frame, COUNT, WIDTH, HEIGHT, history, words, floats,
                                             HEDGEMALLOW_FLOATS(WIDTH, HEIGHT), ints, COUNT, curve, 0, reports));
         clipped += reports[0];
@@ -87,5 +140,6 @@ int main(void) {
     printf("middle: %u words, red %lu, green %lu, blue %lu\n", (unsigned)read[0], (unsigned long)totals[0], (unsigned long)totals[1],
            (unsigned long)totals[2]);
     show(state);
+    look_again(state, words);
     return 0;
 }

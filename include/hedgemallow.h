@@ -56,6 +56,24 @@
  * Areas. A rectangle of a picture is four numbers of a list: left, top, width, height. It has three
  * totals: the sums of its words' red, green and blue bytes.
  *
+ * Sheets. A run sheet holds a match as events, to be looked at again: hedgemallow_play plays it on a
+ * station. It is packed as a card is, field after field without a gap, the most significant bit of each
+ * first:
+ *
+ *     16 bits   the event count, 0 to 65535
+ *     then of each event
+ *      3 bits   its number: 0 frame, 1 reset, 2 switch, 3 preset step, 4 ask, 5 commit
+ *               a frame goes on with
+ *     11 bits   its width
+ *     11 bits   its height
+ *     24 bits   for each pixel, width * height of them, whatever a station will think of that size
+ *               a switch and an ask go on with
+ *      4 bits   a kind
+ *      1 bit    a position: 1 on, 0 off
+ *     and then  zero bits up to the end of the byte, and no byte after it
+ *
+ * A pixel is 0xRRGGBB here too; on a sheet it has no top byte.
+ *
  * The caller promises, as always in C: a pointer is aligned and not null, with a length of 0 too (any
  * aligned address will do then: nothing is read there), as many elements as its length says are there
  * (134 bytes for a state), no argument that is written through overlaps another one, and no
@@ -68,9 +86,9 @@
  * subnormal numbers are flushed, a card's subnormal setting opens as 0, which normalises to another
  * card, and a state with such a setting may be refused by 13.
  *
- * Stack. hedgemallow_apply takes less than 52 KiB, whatever the card and the size of the frame, and
- * hedgemallow_areas less than 44 KiB (49,752 and 41,288 bytes were measured on 2026-11-17). A thread that is
- * made with a small stack should have 64 KiB left for either.
+ * Stack. hedgemallow_apply and hedgemallow_play take less than 52 KiB, whatever the card, the sizes of the
+ * frames and the number of events, and hedgemallow_areas less than 44 KiB (33,192, 36,344 and 41,288 bytes were
+ * measured on 2026-11-17). A thread that is made with a small stack should have 64 KiB left for each of them.
  *
  * No function keeps a pointer, allocates, or has state of its own, so calls on different buffers
  * may run at the same time.
@@ -135,9 +153,11 @@ enum hedgemallow_refusal {
                                             256 words or one of the first 256 is not in 0..1 */
     HEDGEMALLOW_ALREADY_ASKED = 273,     /* 17, already asked: a switch is asked for and not committed yet */
     HEDGEMALLOW_NOT_ASKED = 274,         /* 18, not asked: no switch is asked for */
-    HEDGEMALLOW_BAD_AREA = 275           /* 19, bad area: more than 64 areas, a list of another length than
+    HEDGEMALLOW_BAD_AREA = 275,          /* 19, bad area: more than 64 areas, a list of another length than
                                             four for each, an area that leaves the picture, or too few
                                             totals */
+    HEDGEMALLOW_BAD_SHEET = 276          /* 20, bad sheet: a field's bits run past the end, an event's number
+                                            is 6 or 7, a padding bit is set, or a byte is left over */
 };
 
 /* The kinds of passes, as a card, hedgemallow_set_enabled, hedgemallow_ask, hedgemallow_enabled and byte 132 of a state
@@ -237,6 +257,25 @@ uint32_t hedgemallow_enabled(const uint8_t state[HEDGEMALLOW_STATE], uint8_t kin
 
 /* Reports the LUT's preset, 0 to 6, whether it is on or off. Nothing is stepped. Refusals 13, 12. */
 uint32_t hedgemallow_preset(const uint8_t state[HEDGEMALLOW_STATE]);
+
+/* Plays a sheet: its events one after another, each as the call that it is: hedgemallow_apply, _reset,
+   _set_enabled, _cycle_lut, _ask or _commit, by its number 0 to 5. The buffers are those of a frame, the
+   curve among them, and are lent for all events: as many words as any of the frames takes. The sheet is
+   looked at whole before the first event, and is only read.
+   An event that its call refuses is counted, changes nothing, and the next one is played: so it is with
+   a frame of a size that is refused, or for which too little is lent, and with a kind that is not in the
+   chain. A frame's words go to the start of the framebuffer once all its checks have passed, where its
+   picture then takes their place; those of a refused frame are written nowhere. The words of the
+   framebuffer past a frame stay, and those of the scratch past what the accepted frames take. Two numbers
+   are reported, which together are the event count:
+       reports[0]  how many events were accepted
+       reports[1]  how many were refused
+   What a frame or a preset step would report is not told. A refused sheet leaves both places.
+   Refusals 13, 20, in that order. */
+uint32_t hedgemallow_play(uint8_t state[HEDGEMALLOW_STATE], const uint8_t *sheet, size_t sheet_len,
+                          uint32_t *framebuffer, size_t framebuffer_len, uint32_t *history, size_t history_len,
+                          float *floats, size_t floats_len, uint32_t *ints, size_t ints_len,
+                          const float *curve, size_t curve_len, uint32_t reports[2]);
 
 /* The totals of up to 64 areas of a picture, in one reading: three for each, in the order given, at
    the front of the result; its rest stays. A word is read if an area holds it, and then once, and

@@ -19,7 +19,7 @@ use hedgemallow::exports;
 /// What is added to a refusal's number: no call reports so much.
 const REFUSED: u32 = 256;
 
-/// What stands in the two places for what a frame reports, before it does: no frame has so much to report.
+/// What stands in the two places for what a frame or a sheet reports, before it does: none has so much to report.
 pub const UNTOLD: [u32; 2] = [0xa5a5_5a5a; 2];
 
 fn answer(given: u32) -> Answer {
@@ -29,7 +29,8 @@ fn answer(given: u32) -> Answer {
     }
 }
 
-/// The buffers that are lent to a frame, and the places for what it reports: the clipped channels, then the samples.
+/// The buffers that are lent to a frame, and the places for what it reports: the clipped channels, then the samples. A sheet is lent the
+/// same, and reports the accepted events, then the refused ones.
 pub struct Lent<'a> {
     pub framebuffer: &'a mut [u32],
     pub history: &'a mut [u32],
@@ -119,6 +120,28 @@ pub fn enabled(state: &State, kind: u8) -> Answer {
 pub fn preset(state: &State) -> Answer {
     // SAFETY: as above.
     answer(unsafe { exports::hedgemallow_preset(state.as_ptr()) })
+}
+
+pub fn play(state: &mut State, sheet: &[u8], lent: Lent) -> Answer {
+    // SAFETY: as above.
+    answer(unsafe {
+        exports::hedgemallow_play(
+            state.as_mut_ptr(),
+            sheet.as_ptr(),
+            sheet.len(),
+            lent.framebuffer.as_mut_ptr(),
+            lent.framebuffer.len(),
+            lent.history.as_mut_ptr(),
+            lent.history.len(),
+            lent.floats.as_mut_ptr(),
+            lent.floats.len(),
+            lent.ints.as_mut_ptr(),
+            lent.ints.len(),
+            lent.curve.as_ptr(),
+            lent.curve.len(),
+            lent.reports.as_mut_ptr(),
+        )
+    })
 }
 
 /// The totals of rectangles, and in `read` how many words were read. The picture is a place in memory and its words: not all of it

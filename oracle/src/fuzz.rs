@@ -1,6 +1,6 @@
 //! What the fuzz targets share. libFuzzer calls `fuzz_station` (station/fuzz.rs), `fuzz_bridge` (runs/fuzz.rs), `fuzz_card` or
-//! `fuzz_filter` (programs/fuzz.rs) with bytes of its own making, guided by the coverage of this program: the model, and
-//! the original's files. A difference is a panic, which ends the process, and libFuzzer keeps the bytes.
+//! `fuzz_filter` (programs/fuzz.rs) or `fuzz_sheet` (programs/sheet/fuzz.rs) with bytes of its own making, guided by the coverage of
+//! this program: the model, and the original's files. A difference is a panic, which ends the process, and libFuzzer keeps the bytes.
 
 use crate::met::{Listed, Met};
 

@@ -1,54 +1,20 @@
-//! The calls under comparison, as the fuzzer makes them: each twice, on copies of all that it is lent. The first copies end,
-//! the second begin at a page that nobody may touch, so an access past what was lent ends the process at once.
-//! Both calls have to give the same, in every byte and word that was lent.
+//! The calls under comparison, each made twice, on copies of all that it is lent. The first copies end, the second begin
+//! at a page that nobody may touch, so an access past what was lent ends the process at once. Both calls have to give the
+//! same, in every byte and word that was lent. So the fuzzer makes every call, and the comparison plays every sheet.
 
+#[cfg(fuzz)]
 #[path = "bridge.rs"]
 mod plain;
 
-pub use plain::{Answer, Lent, State, STATE, UNTOLD};
+#[cfg(fuzz)]
+pub use plain::{STATE, UNTOLD};
 
-use crate::pages::{self, NONE, PAGE, READ_WRITE};
+#[cfg(not(fuzz))]
+use crate::bridge as plain;
 
-/// Bytes for the longest buffer that the fuzzer lends: the histories of three glows.
-const BYTES: usize = 32 * PAGE;
+pub use plain::{Answer, Lent, State};
 
-/// Which end of a copy touches the guarded page.
-#[derive(Clone, Copy)]
-enum Guard {
-    After,
-    Before,
-}
-
-/// Pages for one copy, between two that nobody may touch.
-struct Room(*mut u8);
-
-impl Room {
-    fn new() -> Self {
-        // SAFETY: new pages, of which those between the first and the last are opened.
-        unsafe {
-            let inner = pages::map(BYTES + 2 * PAGE, NONE).byte_add(PAGE);
-            let opened = pages::mprotect(inner, BYTES, READ_WRITE);
-            assert_eq!(opened, 0, "no pages to write");
-            Room(inner.cast())
-        }
-    }
-
-    /// A copy of these, laid against a guarded page.
-    fn lay<T: Copy>(&mut self, from: &[T], guard: Guard) -> &mut [T] {
-        let bytes = size_of_val(from);
-        assert!(bytes <= BYTES, "{bytes} bytes are too many for the pages");
-        let skipped = match guard {
-            Guard::After => BYTES - bytes,
-            Guard::Before => 0,
-        };
-        // SAFETY: inside the pages, which are this room's own; a page's ends are aligned for all that is lent.
-        unsafe {
-            let start: *mut T = self.0.add(skipped).cast();
-            std::ptr::copy_nonoverlapping(from.as_ptr(), start, from.len());
-            std::slice::from_raw_parts_mut(start, from.len())
-        }
-    }
-}
+use crate::pages::{Guard, Room};
 
 /// A room for each argument of a call.
 struct Rooms {
@@ -129,8 +95,25 @@ fn bits(floats: &[f32]) -> Vec<u32> {
 }
 
 pub fn apply(state: &mut State, width: usize, height: usize, lent: Lent) -> Answer {
+    with_lent(state, &[], lent, |state, _, laid| {
+        plain::apply(state, width, height, laid)
+    })
+}
+
+pub fn play(state: &mut State, sheet: &[u8], lent: Lent) -> Answer {
+    with_lent(state, sheet, lent, plain::play)
+}
+
+/// A call that is lent a sheet and all that a frame is.
+fn with_lent(
+    state: &mut State,
+    sheet: &[u8],
+    lent: Lent,
+    call: impl Fn(&mut State, &[u8], Lent) -> Answer,
+) -> Answer {
     let (answer, after, [framebuffer, history, floats, ints, reports]) = twice(|rooms, guard| {
         let copy = array(rooms.state.lay(&*state, guard));
+        let bytes = rooms.bytes.lay(sheet, guard);
         let framebuffer = rooms.framebuffer.lay(lent.framebuffer, guard);
         let history = rooms.history.lay(lent.history, guard);
         let floats = rooms.floats.lay(lent.floats, guard);
@@ -145,7 +128,8 @@ pub fn apply(state: &mut State, width: usize, height: usize, lent: Lent) -> Answ
             curve: &*curve,
             reports: (&mut *reports).try_into().expect("there are two places"),
         };
-        let answer = plain::apply(copy, width, height, laid);
+        let answer = call(copy, bytes, laid);
+        assert!(bytes == sheet, "the sheet was written");
         assert!(bits(curve) == bits(lent.curve), "the curve was written");
         let left = [
             framebuffer.to_vec(),

@@ -1,4 +1,4 @@
-//! The steps and passes under comparison, from the static library `probe`, as safe functions. Nothing checks
+//! The steps and passes under comparison, and the reading of a sheet's words, from the static library `probe`, as safe functions. Nothing checks
 //! these declarations against the library's source in crates/probe/src, so a change there must be made here
 //! too. What a pass requires is asserted.
 
@@ -98,6 +98,13 @@ mod exports {
             held: *const u16,
             size: *const u16,
             clipped: *mut u32,
+        );
+        pub fn probe_unpack(
+            words: *mut u32,
+            words_len: usize,
+            sheet: *const u8,
+            sheet_len: usize,
+            from: usize,
         );
         pub fn probe_scanlines(
             frame: *mut u32,
@@ -200,6 +207,18 @@ pub fn root(xs: &[f32], out: &mut [f32]) {
     assert_lendable(out.as_ptr(), out.len());
     // SAFETY: the pointer comes with the length of its own slice, and the export does not keep it.
     unsafe { exports::probe_root(out.as_mut_ptr(), out.len()) }
+}
+
+/// The words of 24 bits that stand on a sheet from the bit `from` on. A sheet begins with its event count, so no frame begins at bit 0.
+pub fn unpack(words: &mut [u32], sheet: &[u8], from: usize) {
+    assert_lendable(words.as_ptr(), words.len());
+    assert_lendable(sheet.as_ptr(), sheet.len());
+    assert!(0 < from && from < 1 << 44);
+    assert!(from + 24 * words.len() <= 8 * sheet.len());
+    let (start, len) = (words.as_mut_ptr(), words.len());
+    // SAFETY: both pointers come with the length of their own slice, and a shared and a mutable
+    // slice never overlap. The export keeps neither pointer.
+    unsafe { exports::probe_unpack(start, len, sheet.as_ptr(), sheet.len(), from) }
 }
 
 // These take numbers only and are defined for all of them, so there is nothing to assert.

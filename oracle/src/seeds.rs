@@ -24,6 +24,7 @@ pub fn write(target: &str, folder: &Path) -> io::Result<()> {
         "bridge" => drawn(calls, random),
         "card" => drawn(programs::seeds::card, random),
         "filter" => drawn(programs::seeds::filter, random),
+        "sheet" => drawn(programs::seeds::sheet, random),
         _ => return Err(io::Error::other(format!("there is no target {target}"))),
     };
     for (number, input) in inputs.iter().enumerate() {

@@ -5,6 +5,7 @@ use std::fmt;
 
 use crate::cards::paper::Size;
 use crate::reports::Reports;
+use crate::sheets::paper::Event;
 
 /// How many differences of a count are printed.
 const SHOWN: usize = 5;
@@ -57,7 +58,7 @@ impl fmt::Display for Differences {
 }
 
 /// The number of the last refusal.
-const LAST: usize = 19;
+const LAST: usize = 20;
 
 /// How often a call had to be refused, by the number.
 #[derive(Default)]
@@ -764,7 +765,91 @@ impl fmt::Display for AreaTally {
     }
 }
 
-/// The count over all steps, cards, passes, calls and inputs of the programs.
+/// The count of sheets that were played on stations.
+#[derive(Default)]
+pub struct SheetTally {
+    name: &'static str,
+    sheets: u64,
+    /// Of the sheets that were not refused.
+    events: u64,
+    frames: u64,
+    words: u64,
+    history: u64,
+    refused: Refused,
+    refused_events: Refused,
+    differences: Differences,
+}
+
+impl SheetTally {
+    pub fn new(name: &'static str) -> Self {
+        SheetTally {
+            name,
+            ..SheetTally::default()
+        }
+    }
+
+    /// Counts an event with what its call had to answer.
+    pub fn event(&mut self, event: &Event, asked: Result<u32, u32>) {
+        self.events += 1;
+        match (asked, event) {
+            (Err(number), _) => self.refused_events.note(number),
+            (Ok(_), Event::Frame(_, words)) => {
+                self.frames += 1;
+                self.words += words.len() as u64;
+            }
+            _ => {}
+        }
+    }
+
+    /// Counts a sheet with what it had to be answered, after which so many history words were compared.
+    pub fn sheet(&mut self, asked: Result<u32, u32>, history: usize) {
+        self.sheets += 1;
+        self.history += history as u64;
+        if let Err(number) = asked {
+            self.refused.note(number);
+        }
+    }
+
+    /// Counts a difference, which ends what is played on its station.
+    pub fn differ(&mut self, at: usize, text: impl FnOnce() -> String) {
+        self.differences.note(at, text);
+    }
+
+    /// Adds the count of another thread.
+    pub fn join(&mut self, other: SheetTally) {
+        self.sheets += other.sheets;
+        self.events += other.events;
+        self.frames += other.frames;
+        self.words += other.words;
+        self.history += other.history;
+        self.refused.join(other.refused);
+        self.refused_events.join(other.refused_events);
+        self.differences.join(other.differences);
+    }
+}
+
+impl fmt::Display for SheetTally {
+    fn fmt(&self, f: &mut fmt::Formatter) -> fmt::Result {
+        let SheetTally {
+            name,
+            sheets,
+            events,
+            frames,
+            words,
+            history,
+            refused,
+            refused_events,
+            differences,
+        } = self;
+        write!(
+            f,
+            "{name}: {sheets} sheets of {events} events, {frames} frames of {words} words and {history} history words compared, {differences}"
+        )?;
+        writeln!(f, "    {refused}; events {refused_events}")
+    }
+}
+
+/// The count over all steps, cards, passes, calls, sheets and inputs of the programs.
 #[derive(Default)]
 pub struct Total {
     compared: u64,
@@ -774,6 +859,7 @@ pub struct Total {
     words: u64,
     inputs: u64,
     calls: u64,
+    sheets: u64,
     turned: u64,
     resized: u64,
     several: u64,
@@ -831,6 +917,15 @@ impl Total {
     pub fn add_areas(&mut self, tally: &AreaTally) {
         print!("{tally}");
         self.lists += tally.calls;
+        self.different += tally.differences.count;
+    }
+
+    /// Prints the count of sheets and adds it.
+    pub fn add_sheets(&mut self, tally: &SheetTally) {
+        print!("{tally}");
+        self.sheets += tally.sheets;
+        self.frames += tally.frames;
+        self.words += tally.words;
         self.different += tally.differences.count;
     }
 
@@ -894,6 +989,7 @@ impl fmt::Display for Total {
             words,
             inputs,
             calls,
+            sheets,
             turned,
             resized,
             several,
@@ -907,6 +1003,9 @@ impl fmt::Display for Total {
         )?;
         if *frames > 0 {
             write!(f, ", {frames} frames of {words} words, {calls} calls")?;
+        }
+        if *sheets > 0 {
+            write!(f, ", {sheets} sheets")?;
         }
         if *turned > 0 {
             write!(f, ", {turned} turned frames")?;

@@ -3,8 +3,8 @@
 //!
 //! The types see to pointers, lengths and threads. Two things are left to the caller, as the header
 //! says: the thread's control word for floats (MXCSR) rounds to nearest, keeps subnormal numbers and
-//! masks all exceptions, as Rust itself takes for granted; and a frame takes less than 52 KiB of stack,
-//! a call of `areas` less than 44 (49,752 and 41,288 bytes were measured on 2026-11-17).
+//! masks all exceptions, as Rust itself takes for granted; and a frame and a sheet take less than 52 KiB of
+//! stack, a call of `areas` less than 44 (33,192, 36,344 and 41,288 bytes were measured on 2026-11-17).
 //!
 //! ```
 //! use hedgemallow::{scratch_words, Kind, Refusal, Station};
@@ -60,6 +60,22 @@ pub(crate) mod exports {
         pub fn hedgemallow_depth(state: *const u8) -> u32;
         pub fn hedgemallow_enabled(state: *const u8, kind: u8) -> u32;
         pub fn hedgemallow_preset(state: *const u8) -> u32;
+        pub fn hedgemallow_play(
+            state: *mut u8,
+            sheet: *const u8,
+            sheet_len: usize,
+            framebuffer: *mut u32,
+            framebuffer_len: usize,
+            history: *mut u32,
+            history_len: usize,
+            floats: *mut f32,
+            floats_len: usize,
+            ints: *mut u32,
+            ints_len: usize,
+            curve: *const f32,
+            curve_len: usize,
+            reports: *mut u32,
+        ) -> u32;
         pub fn hedgemallow_areas(
             picture: *const u32,
             picture_len: usize,
@@ -96,6 +112,7 @@ pub enum Refusal {
     AlreadyAsked,
     NotAsked,
     BadArea,
+    BadSheet,
     /// A number that this library does not give: one of a later table.
     Other(u32),
 }
@@ -103,7 +120,7 @@ pub enum Refusal {
 use Refusal::*;
 
 /// With the papers' numbers and words.
-const REFUSALS: [(u32, Refusal, &str); 19] = [
+const REFUSALS: [(u32, Refusal, &str); 20] = [
     (1, TornCard, "torn card"),
     (2, ForeignCard, "foreign card"),
     (3, OverfullCard, "overfull card"),
@@ -123,6 +140,7 @@ const REFUSALS: [(u32, Refusal, &str); 19] = [
     (17, AlreadyAsked, "already asked"),
     (18, NotAsked, "not asked"),
     (19, BadArea, "bad area"),
+    (20, BadSheet, "bad sheet"),
 ];
 
 impl Refusal {
@@ -310,6 +328,13 @@ pub struct Counts {
     pub clipped: u32,
     /// The samples that blurs took: 393,019,392 at most, at 1024 by 1024 with NTSC and bloom on, both at 64.
     pub samples: u32,
+}
+
+/// How many events of a sheet were accepted and how many refused: together they are the event count.
+#[derive(Clone, Copy, Debug, PartialEq, Eq)]
+pub struct Played {
+    pub accepted: u32,
+    pub refused: u32,
 }
 
 /// A station, as the [`STATE`] bytes of its state. It is no `Copy` type: a station that was used by value is gone, so one with the older
@@ -525,6 +550,68 @@ impl Station {
         report(unsafe { exports::hedgemallow_set_depth(self.state.as_mut_ptr(), words, len, depth) }).map(|_| ())
     }
 
+    /// Plays a sheet: its events one after another, each as the call that it is. It is packed as a card is, the most significant bit of each
+    /// field first: the event count in 16 bits, then of each event its number in 3. 0 is a frame, and goes on with its width and its height
+    /// in 11 bits each and 24 bits for each pixel, whatever the station will think of that size; 1 is [`Station::reset`], 3
+    /// [`Station::cycle_lut`] and 5 [`Station::commit`]; 2 is [`Station::set_enabled`] and 4 [`Station::ask`], and both go on with a kind in 4
+    /// bits and a position in 1, which is 1 for on. Zero bits fill the last byte.
+    ///
+    /// The buffers are those of [`Station::apply`], lent for all events: as many words as any of the frames takes. A refused event is
+    /// counted, changes nothing, and the next one is played. A frame's words go to the start of the framebuffer once the station takes it,
+    /// and its picture takes their place; those of a refused frame are written nowhere.
+    ///
+    /// `BadSheet` tells that a field's bits run past the end, that an event has the number 6 or 7, that a padding bit is set or that a byte is
+    /// left over. The sheet is looked at whole before the first event, so nothing was played then.
+    ///
+    /// ```
+    /// # use hedgemallow::{Played, Refusal, Station};
+    /// // Scanlines at full strength, on.
+    /// let mut station = Station::open(&[0x11, 0xA9, 0xFC, 0x00, 0x00, 0x00])?;
+    /// let (mut frame, mut floats, mut ints) = ([7; 3], [0.0; 9], [0; 2]);
+    ///
+    /// // Two events: a frame of one pixel by two, 123456 twice, and a reset, which a chain without persistence refuses.
+    /// let sheet = [0x00, 0x02, 0x00, 0x04, 0x01, 0x09, 0x1A, 0x2B, 0x09, 0x1A, 0x2B, 0x10];
+    /// let played = station.play(&sheet, &mut frame, &mut [], &mut floats, &mut ints, &[])?;
+    /// assert_eq!(played, Played { accepted: 1, refused: 1 });
+    /// assert_eq!(frame, [0x123456, 0, 7]);
+    ///
+    /// // Its last byte is missing: the frame is not shown either.
+    /// let cut = station.play(&sheet[..11], &mut frame, &mut [], &mut floats, &mut ints, &[]);
+    /// assert_eq!(cut, Err(Refusal::BadSheet));
+    /// # Ok::<(), Refusal>(())
+    /// ```
+    pub fn play(
+        &mut self,
+        sheet: &[u8],
+        framebuffer: &mut [u32],
+        history: &mut [u32],
+        floats: &mut [f32],
+        ints: &mut [u32],
+        curve: &[f32],
+    ) -> Result<Played, Refusal> {
+        let mut reports = [0; 2];
+        let answer = unsafe {
+            exports::hedgemallow_play(
+                self.state.as_mut_ptr(),
+                sheet.as_ptr(),
+                sheet.len(),
+                framebuffer.as_mut_ptr(),
+                framebuffer.len(),
+                history.as_mut_ptr(),
+                history.len(),
+                floats.as_mut_ptr(),
+                floats.len(),
+                ints.as_mut_ptr(),
+                ints.len(),
+                curve.as_ptr(),
+                curve.len(),
+                reports.as_mut_ptr(),
+            )
+        };
+        let [accepted, refused] = reports;
+        report(answer).map(|_| Played { accepted, refused })
+    }
+
     /// How many older frames the history has room for: the sum of the depths of all persistence passes, on or off.
     ///
     /// ```
@@ -646,7 +733,7 @@ mod tests {
             assert_eq!((refusal.number(), refusal.to_string()), (number, words.to_string()));
             assert_eq!(report(256 + number), Err(refusal));
         }
-        assert_eq!(report(256 + 20), Err(Other(20)));
+        assert_eq!(report(256 + 21), Err(Other(21)));
         assert_eq!(report(256), Err(Other(0)));
         assert_eq!(report(u32::MAX), Err(Other(u32::MAX - 256)));
         assert_eq!(report(255), Ok(255));
@@ -1158,6 +1245,180 @@ mod tests {
         assert_eq!(result, [5, 7, 9, 14, 16, 18, 9]);
     }
 
+    /// An event of a sheet, as its fields: the value of each and how many bits it has.
+    type Event = Vec<(u32, usize)>;
+
+    /// A reset, a preset step and a commit.
+    const RESET: (u32, usize) = (1, 3);
+    const STEP: (u32, usize) = (3, 3);
+    const COMMIT: (u32, usize) = (5, 3);
+
+    /// The word at each place of a frame.
+    fn word(place: u32) -> u32 {
+        (0x10203 * (place + 1)) & 0xFFFFFF
+    }
+
+    fn frame_of(width: u32, height: u32) -> Event {
+        let words = (0..width * height).map(|place| (word(place), 24));
+        [(0, 3), (width, 11), (height, 11)].into_iter().chain(words).collect()
+    }
+
+    fn switch_of(kind: u32, on: u32) -> Event {
+        vec![(2, 3), (kind, 4), (on, 1)]
+    }
+
+    fn ask_of(kind: u32, on: u32) -> Event {
+        vec![(4, 3), (kind, 4), (on, 1)]
+    }
+
+    fn sheet_of(events: &[Event]) -> Vec<u8> {
+        let mut fields = vec![(events.len() as u32, 16)];
+        fields.extend(events.concat());
+        let bits = fields.iter().flat_map(|&(value, width)| (0..width).rev().map(move |place| (value >> place & 1) as u8));
+        let byte = |eight: &[u8]| (0..8).fold(0, |byte, place| byte << 1 | eight.get(place).unwrap_or(&0));
+        bits.collect::<Vec<u8>>().chunks(8).map(byte).collect()
+    }
+
+    /// Plays a sheet with the scratch that frames of two words take, and no curve.
+    fn plays(station: &mut Station, sheet: &[u8], frame: &mut [u32], history: &mut [u32]) -> Result<Played, Refusal> {
+        station.play(sheet, frame, history, &mut [0.0; 12], &mut [0; 2], &[])
+    }
+
+    fn counted(accepted: u32, refused: u32) -> Result<Played, Refusal> {
+        Ok(Played { accepted, refused })
+    }
+
+    /// Each event, frames that begin the history, meet it and are turned: all is as the calls leave it, words past a frame too.
+    #[test]
+    fn a_sheet_is_played_as_its_calls() {
+        let (mut station, mut frame, mut history) = (opened(), [0xFF000007; 3], [9; 7]);
+        let events = [
+            frame_of(2, 1),
+            ask_of(10, 0),
+            frame_of(2, 1),
+            vec![STEP],
+            frame_of(1, 2),
+            vec![COMMIT],
+            frame_of(1, 1),
+            vec![RESET],
+            switch_of(5, 0),
+            frame_of(1, 1),
+        ];
+        assert_eq!(plays(&mut station, &sheet_of(&events), &mut frame, &mut history), counted(10, 0));
+        let (mut other, mut words, mut past) = (opened(), [0xFF000007; 3], [9; 7]);
+        let mut shows = |other: &mut Station, width: usize, height: usize| {
+            words[..width * height].copy_from_slice(&[word(0), word(1)][..width * height]);
+            other.apply(&mut words, width, height, &mut past, &mut [0.0; 12], &mut [0; 2], &[]).unwrap();
+        };
+        shows(&mut other, 2, 1);
+        other.ask(Kind::Scanlines, false).unwrap();
+        shows(&mut other, 2, 1);
+        other.cycle_lut().unwrap();
+        shows(&mut other, 1, 2);
+        other.commit().unwrap();
+        shows(&mut other, 1, 1);
+        other.reset().unwrap();
+        other.set_enabled(Kind::Lut, false).unwrap();
+        shows(&mut other, 1, 1);
+        assert_eq!((station, frame, history), (other, words, past));
+        assert_eq!((frame[2], history[6]), (0xFF000007, 9));
+    }
+
+    /// A frame without a pass shows itself, row after row, whatever events come before it: its words begin at each bit of a byte.
+    #[test]
+    fn a_frame_is_read_from_any_bit() {
+        for before in 0..8 {
+            let (mut station, mut frame) = (Station::open(&[0x10]).unwrap(), [0xFF000007; 7]);
+            let mut events = vec![vec![RESET]; before];
+            events.push(frame_of(3, 2));
+            let played = station.play(&sheet_of(&events), &mut frame, &mut [], &mut [0.0; 27], &mut [0; 6], &[]);
+            assert_eq!(played, counted(1, before as u32));
+            let shown: Vec<u32> = (0..6).map(word).chain([0xFF000007]).collect();
+            assert_eq!(frame[..], shown);
+        }
+    }
+
+    /// Kinds that the card does not name and such as are none, a commit of nothing, and sides that no frame has: 12, 18 and 8. A frame of
+    /// such a size carries its words, or none.
+    #[test]
+    fn refused_events_are_counted_and_passed_over() {
+        let (mut station, mut frame, mut history) = (opened(), [7; 2], [9; 6]);
+        let absent = [0, 1, 2, 3, 6, 7, 8, 9, 11, 12, 13, 14, 15];
+        let mut events: Vec<Event> = absent.into_iter().flat_map(|kind| [switch_of(kind, 1), ask_of(kind, 0)]).collect();
+        events.push(vec![COMMIT]);
+        let sizes = [(0, 0), (0, 1), (1, 0), (0, 2047), (2047, 0), (1025, 1), (1, 1025), (2047, 1), (1, 2047)];
+        events.extend(sizes.map(|(width, height)| frame_of(width, height)));
+        let refused = events.len() as u32;
+        assert_eq!(plays(&mut station, &sheet_of(&events), &mut frame, &mut history), counted(0, refused));
+        assert_eq!((&station, frame, history), (&opened(), [7; 2], [9; 6]));
+        // The event behind them is played.
+        events.push(vec![STEP]);
+        assert_eq!(plays(&mut station, &sheet_of(&events), &mut frame, &mut history), counted(1, refused));
+        assert_eq!(station.preset(), Ok(Preset::CoolCrt));
+
+        let asked = [ask_of(5, 0), ask_of(5, 0), ask_of(10, 1)];
+        assert_eq!(plays(&mut station, &sheet_of(&asked), &mut [], &mut []), counted(1, 2));
+        assert_eq!(station.pending(), Some((Kind::Lut, false)));
+        let mut empty = Station::open(&[0x10]).unwrap();
+        assert_eq!(plays(&mut empty, &sheet_of(&[vec![RESET], vec![STEP]]), &mut [], &mut []), counted(0, 2));
+    }
+
+    /// Each buffer one word short of a frame of two words, and a bad curve: of the sheet's frames those of one word are shown, or none.
+    #[test]
+    fn the_words_of_a_refused_frame_are_not_written() {
+        let events = sheet_of(&[frame_of(1, 1), frame_of(2, 1), frame_of(1, 2)]);
+        for (frame, history, floats, ints) in [(1, 6, 12, 2), (2, 5, 12, 2), (2, 6, 8, 2), (2, 6, 12, 1)] {
+            let (mut station, mut words, mut past) = (opened(), [7; 2], [9; 6]);
+            let played = station.play(&events, &mut words[..frame], &mut past[..history], &mut vec![0.0; floats], &mut vec![0; ints], &[]);
+            assert_eq!((played, words[1], &past[3..]), (counted(1, 2), 7, &[9; 3][..]));
+            assert_eq!(station.as_bytes()[84..88], [0, 1, 0, 1]);
+        }
+        let (mut station, mut words) = (Station::open(&GAMMA_2).unwrap(), [7; 2]);
+        let mut played = |curve: &[f32]| {
+            let played = station.play(&events, &mut words, &mut [], &mut [0.0; 12], &mut [0; 2], curve);
+            (played, words)
+        };
+        assert_eq!(played(&[0.5; 255]), (counted(0, 3), [7; 2]));
+        assert_eq!(played(&[1.0; 256]), (counted(3, 0), [0xFFFFFF; 2]));
+    }
+
+    /// No event at all, one, and as many as a sheet can have; a count with too little behind it, or with nothing.
+    #[test]
+    fn a_sheet_has_as_many_events_as_it_says() {
+        let mut station = opened();
+        let mut played = |sheet: &[u8]| plays(&mut station, sheet, &mut [], &mut []);
+        assert_eq!(played(&[0, 0]), counted(0, 0));
+        assert_eq!(played(&sheet_of(&[vec![RESET]])), counted(1, 0));
+        let most = sheet_of(&vec![vec![COMMIT]; 65535]);
+        assert_eq!((most.len(), played(&most)), (24_578, counted(0, 65535)));
+        assert_eq!(played(&most[..24_577]), Err(BadSheet));
+        for sheet in [&[][..], &[0], &[0xFF], &[0, 1], &[0xFF, 0xFF], &[0, 0, 0], &[0, 0, 0x20], &[0, 1, 0x20, 0], &[0, 3, 0x24]] {
+            assert_eq!(played(sheet), Err(BadSheet));
+        }
+    }
+
+    /// Cut at each byte, a byte more, another number for the last event, a bit set behind it: no event before it is played.
+    #[test]
+    fn a_damaged_sheet_plays_nothing() {
+        let good = sheet_of(&[vec![STEP], frame_of(2, 1), ask_of(5, 0), vec![RESET]]);
+        // The reset takes three of the last four bits.
+        let (last, end) = (good.len() - 1, 0b0000_0010);
+        assert_eq!(good[last] & 0x0F, end);
+        let mut damaged: Vec<Vec<u8>> = (0..=last).map(|length| good[..length].to_vec()).collect();
+        damaged.extend([0, 1, 0x80, 0xFF].map(|byte| [&good[..], &[byte]].concat()));
+        for changed in [0b0000_0011, 0b0000_1100, 0b0000_1110] {
+            let mut sheet = good.clone();
+            sheet[last] = sheet[last] & 0xF0 | changed;
+            damaged.push(sheet);
+        }
+        let (mut station, mut frame, mut history) = (opened(), [7; 2], [9; 6]);
+        for sheet in damaged {
+            assert_eq!(plays(&mut station, &sheet, &mut frame, &mut history), Err(BadSheet));
+            assert_eq!((&station, frame, history), (&opened(), [7; 2], [9; 6]));
+        }
+        assert_eq!(plays(&mut station, &good, &mut frame, &mut history), counted(4, 0));
+    }
+
     /// Each byte changed to each other value: refused by 13 and left alone by every call, or a state
     /// that is written as itself again.
     #[test]
@@ -1187,6 +1448,9 @@ mod tests {
                         let (mut frame, mut history) = ([7], [7; 3]);
                         assert_eq!(station.apply(&mut frame, 1, 1, &mut history, &mut [0.0; 6], &mut [0], &[]), Err(BadStation));
                         assert_eq!(station.set_depth(&mut history, 3), Err(BadStation));
+                        // Of a sheet that is good, and of one that is not.
+                        assert_eq!(plays(&mut station, &[0, 0], &mut frame, &mut history), Err(BadStation));
+                        assert_eq!(plays(&mut station, &[], &mut frame, &mut history), Err(BadStation));
                         assert_eq!((station.state, frame, history), (bytes, [7], [7; 3]));
                         refused += 1;
                     }

@@ -3,7 +3,7 @@ use Prim.Native.Nat.{ℕ}
 use native.Mathlib.Omega.{arith}
 use mathlib.Core.Path.{_≡_, refl, ap, sym, subst, _∙_}
 use mathlib.Core.Bool.{Bool, true, false}
-use mathlib.Core.List.{List, []}
+use mathlib.Core.List.{List, [], _∷_}
 use lib.Ieee.{Float}
 use lib.ListN.{length, drop, replicate, length-append, length-drop}
 use lib.Seq.{length-take-le, take-length, take-at, drop-at}
@@ -21,6 +21,10 @@ use Rattle.cards.specs.declared.station.Station.{Station}
 use Rattle.cards.specs.Laws.Good.{good}
 use Rattle.num.specs.Laws.Bools.{both, false-true}
 use Rattle.bridge.specs.Claims.{Whole, Closed}
+use Rattle.sheets.specs.Events.{Event, sheetAt}
+use Rattle.sheets.specs.Play as Played
+use Rattle.sheets.specs.Play.{Lent, Playing, callOf, turn, turns, begun, playedOf, playOf}
+use Rattle.bridge.specs.Sheets.{playShown}
 use Rattle.bridge.specs.Outcomes.{opening, onState, depthSet, frameShown}
 use Rattle.bridge.specs.State.{cardIn, holdIn, stationIn, encoded, sameBytes, isState}
 use Rattle.bridge.proofs.Bytes.{same-equal}
@@ -149,6 +153,25 @@ depth-state d b past e =
     let r : Framed = depthReply d (stationIn b) past in
     rw e (left-state (r .answer) b (encoded (r .station)) e (encoded-state (r .station) (depth-whole d past (stationIn b) (state-whole b e))))
 
+-- each event keeps the station whole, and so does a sheet, played or not
+turns-whole : (l : Lent) (es : List Event) (p : Playing) → Whole (p .state .station) → Whole (turns l es p .state .station)
+unfolding turns turn
+turns-whole l [] p t = t
+turns-whole l (e ∷ es) p t = turns-whole l es (turn l e p) (call-whole (callOf l (p .words) e) (p .state) t)
+
+play-whole : (l : Lent) (z : Step (List Event)) (p : Playing) → Whole (p .state .station) → Whole (playedOf l z p .playing .state .station)
+play-whole l (took es q) p t = turns-whole l es p t
+play-whole l (refused k) p t = t
+
+play-state : (l : Lent) (sheet b words past old : List ℕ) → isState b ≡ true → isState (playShown l sheet b words past old .state) ≡ true
+unfolding playShown playOf
+play-state l sheet b words past old e =
+    let p : Playing = begun (with-past (stationIn b) past) words in
+    let o : Played.Outcome = playedOf l (sheetAt sheet 0) p in
+    let w = state-whole b e in
+    rw (e, w .good)
+    (left-state (o .answer) b (encoded (o .playing .state .station)) e (encoded-state (o .playing .state .station) (play-whole l (sheetAt sheet 0) p w)))
+
 pub closed : Closed
 closed =
     record {
@@ -161,4 +184,5 @@ closed =
       by-commit = on-state commitReply commit-whole;
       by-step = on-state stepReply step-whole;
       by-depth = depth-state;
+      by-play = play-state;
     }

@@ -14,7 +14,9 @@ use Rattle.chain.specs.Machine.{Call, State, after}
 use Rattle.cards.specs.Normal.{goodStation}
 use Rattle.cards.specs.Typed.{TypedChain}
 use Rattle.cards.specs.declared.station.Station.{Station}
+use Rattle.sheets.specs.Play.{Lent}
 use Rattle.bridge.specs.Outcomes.{opening, onState, depthSet, frameShown}
+use Rattle.bridge.specs.Sheets.{playShown}
 use Rattle.bridge.specs.State.{encoded, stationIn, isState}
 
 -- a good station of twelve typed records, whose places past n are filled as at every opening: they hold nothing
@@ -46,3 +48,4 @@ pub record Closed : Type 0 where
   pub by-commit : (b : List ℕ) → isState b ≡ true → isState (onState commitReply b .state) ≡ true
   pub by-step : (b : List ℕ) → isState b ≡ true → isState (onState stepReply b .state) ≡ true
   pub by-depth : (d : ℕ) (b past : List ℕ) → isState b ≡ true → isState (depthSet d b past .0 .state) ≡ true
+  pub by-play : (l : Lent) (sheet b words past old : List ℕ) → isState b ≡ true → isState (playShown l sheet b words past old .state) ≡ true

@@ -9,6 +9,7 @@ ghost use Rattle.cards.specs.Answers.{reply, reported, told as toldBy};
 ghost use Rattle.chain.specs.Answers.{reportedQuestion};
 ghost use Rattle.chain.specs.Calls.{resetReply, switchReply, askReply, commitReply, stepReply};
 ghost use Rattle.bridge.specs.Judged.{judgedTold};
+ghost use Rattle.bridge.specs.Sheets.{PlaysSheet};
 ghost use Rattle.bridge.specs.Outcomes.{outcome, answered, opening, onState, depthSet, depthTold, enabledTold, presetTold, writeTold, writeLeft, Frames};
 use super::state::decode;
 use super::state::encode;
@@ -21,6 +22,8 @@ use chain::pipeline;
 use chain::pipeline::Cycle;
 use chain::pipeline::FrameAnswer;
 use chain::pipeline::Question;
+use sheets::play::PlayAnswer;
+use sheets::play::play;
 
 // A refusal's number.
 fn refusal(k: u8) -> u32
@@ -123,6 +126,41 @@ pub extern "C" fn hedgemallow_apply(
             0
         }
         FrameAnswer::Refused(k) => refusal(k),
+    }
+}
+
+// Plays a sheet, with the buffers of a frame lent for all its events. How many were accepted and how many refused goes to a place of its own.
+#[no_mangle]
+pub extern "C" fn hedgemallow_play(
+    state: &mut [u8; 134],
+    sheet: &[u8],
+    framebuffer: &mut [u32],
+    history: &mut [u32],
+    floats: &mut [f32],
+    ints: &mut [u32],
+    curve: &[f32],
+    reports: &mut [u32; 2],
+) -> u32
+    ensures { λ r. ⌜ PlaysSheet (now (sheet .entry)) (now (state .entry)) (now (framebuffer .entry)) (now (history .entry)) (now (floats .entry))
+        (now (ints .entry)) (now (curve .entry)) (now (reports .entry)) r (now (state .exit)) (now (framebuffer .exit)) (now (history .exit))
+        (now (floats .exit)) (now (ints .exit)) (now (reports .exit)) ⌝ }
+{
+    let opened = decode(*state);
+    let answer = opened.answer;
+    let station = opened.station;
+    if let Answer::Refused(k) = answer {
+        return refusal(k);
+    }
+    let played = play(station, sheet, framebuffer, history, floats, ints, curve);
+    let told = played.answer;
+    let after = played.station;
+    match told {
+        PlayAnswer::Played { accepted, refused } => {
+            *state = encode(after);
+            *reports = [accepted, refused];
+            0
+        }
+        PlayAnswer::Refused(k) => refusal(k),
     }
 }
 

@@ -27,8 +27,8 @@ pub(crate) fn bit(card: &[u8], p: usize) -> u32
 }
 
 // The field of `width` bits at the place `at`.
-pub(crate) fn field(card: &[u8], at: usize, width: usize) -> FieldRead
-    requires { ⌜ (width ≤ 32) × (at < 2 ^ 32) ⌝ }
+pub fn field(card: &[u8], at: usize, width: usize) -> FieldRead
+    requires { ⌜ (width ≤ 32) × (at < 2 ^ 44) ⌝ }
     ensures { λ r. ⌜ fieldStep r ≡ fieldAt width (now (card .entry)) at ⌝ }
 {
     if (at + width + 7) / 8 <= card.len() {
@@ -49,7 +49,7 @@ pub enum ByteRead {
 
 // A field of at most 8 bits.
 pub fn byte(card: &[u8], at: usize, width: usize) -> ByteRead
-    requires { ⌜ (width ≤ 8) × (at < 2 ^ 32) ⌝ }
+    requires { ⌜ (width ≤ 8) × (at < 2 ^ 44) ⌝ }
     ensures { λ r. ⌜ byteStep r ≡ fieldAt width (now (card .entry)) at ⌝ }
 {
     let FieldRead::Value(v, next) = field(card, at, width) else {

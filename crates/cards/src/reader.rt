@@ -340,8 +340,8 @@ pub(crate) fn refused(k: Refusal) -> Reading
 }
 
 // Whether the card ends at that place: zero bits to the byte's end, and no byte after it.
-pub(crate) fn ends(card: &[u8], at: usize) -> bool
-    requires { ⌜ at < 2 ^ 32 ⌝ }
+pub fn ends(card: &[u8], at: usize) -> bool
+    requires { ⌜ at < 2 ^ 44 ⌝ }
     ensures { λ r. ⌜ r ≡ endsAt (now (card .entry)) at ⌝ }
 {
     let bytes = (at + 7) / 8;

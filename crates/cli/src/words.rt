@@ -1,4 +1,4 @@
-// Refusals in words, and why a file is no frame.
+// Refusals in words, and why a file is no frame, or holds no curve.
 use super::names;
 use cards::reader;
 use inspect::layout::Field;
@@ -96,6 +96,18 @@ pub fn no_frame(fd: i32, number: u8) {
         8 => io::write_all(fd, b"cut off: fewer pixels than its header says\n"),
         9 => io::write_all(fd, b"bytes left over after the last pixel\n"),
         _ => io::write_all(fd, b"more bytes than a frame of 61440 pixels has\n"),
+    }
+    ;
+}
+
+// A file that holds no curve, by the numbers of frames::curve.
+pub fn no_curve(fd: i32, number: u8) {
+    match number {
+        1 => io::write_all(
+            fd,
+            b"no curve: it has not 1024 bytes, which are 256 binary32, the low byte first\n",
+        ),
+        _ => io::write_all(fd, b"no curve: a number in it is not from 0 to 1\n"),
     }
     ;
 }

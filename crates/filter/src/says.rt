@@ -19,11 +19,7 @@ pub fn no_frame(i: usize, number: u8) {
 // A file that holds no curve, by the numbers of frames::curve.
 pub fn no_curve(i: usize, number: u8) {
     name(STDERR_FILENO, i);
-    if number == 1 {
-        text(b"no curve: it has not 1024 bytes, which are 256 binary32, the low byte first\n");
-        return;
-    }
-    text(b"no curve: a number in it is not from 0 to 1\n");
+    words::no_curve(STDERR_FILENO, number);
 }
 
 // A frame that the station refused. No station that a card opens refuses a frame with all that is lent here, but by 16 where no curve is named.

@@ -2,6 +2,7 @@
 // on numbers. Each is the step of crate num and nothing more. Nothing here is assumed.
 mod card;
 mod pass;
+mod sheet;
 
 ghost use mathlib.Core.Path.{_≡_};
 ghost use Prim.Native.Nat.{min};

@@ -1,5 +1,5 @@
 //! The memory that a frame takes: of what is lent and of the stack here, of the heap in the original. The stack that the
-//! totals of rectangles take.
+//! totals of rectangles take, and that a sheet takes.
 
 use std::io::{self, Write};
 use std::process::ExitCode;
@@ -9,6 +9,7 @@ use super::stand::{card, picture, Side, Size, Stand, CONSOLE};
 use super::{heap, stack};
 use crate::areas::bench::narrow;
 use crate::bridge;
+use crate::sheets::paper::{write, Event};
 
 /// The chains once more: whether the stack grows with the size.
 const LARGEST: Size = (1024, 1024);
@@ -32,6 +33,11 @@ pub fn run() -> ExitCode {
         "memory call=areas size={width}x{height} stack_bytes={}",
         stack_of_areas()
     );
+    for case in cases::chains() {
+        let (pass, setting) = (case.pass, &case.setting);
+        let stack = stack_of_sheet(&case);
+        println!("memory call=play pass={pass} size={width}x{height} setting={setting} stack_bytes={stack}");
+    }
     ExitCode::SUCCESS
 }
 
@@ -93,6 +99,23 @@ fn stack_of_areas() -> usize {
         let answer = bridge::areas(lent, width, height, &list, &mut result, &mut read);
         assert_eq!(answer, Ok(0), "the list was refused");
     })
+}
+
+/// Of a sheet with each event, and with a frame at each preset: the first fills the history, the others use it.
+fn stack_of_sheet(case: &Case) -> usize {
+    let mut stand = Stand::new(case, LARGEST);
+    let mut words = picture(LARGEST);
+    let colours = words.iter().map(|word| word & 0xff_ffff);
+    let frame = Event::Frame(LARGEST, colours.collect());
+    let mut events = vec![[frame, Event::Step]; 7].concat();
+    events.extend([
+        Event::Ask(10, false),
+        Event::Commit,
+        Event::Switch(10, true),
+        Event::Reset,
+    ]);
+    let sheet = write(&events);
+    stack::used(|| stand.play(&sheet, &mut words))
 }
 
 fn stack_of(stand: &mut Stand, given: &[u32]) -> usize {

@@ -77,18 +77,37 @@ impl Stand {
             Side::Original => self.pipeline.apply(words, width, height),
             Side::Ours => {
                 let mut reports = [0; 2];
-                let lent = Lent {
-                    framebuffer: words,
-                    history: &mut self.history,
-                    floats: &mut self.floats,
-                    ints: &mut self.ints,
-                    curve: &self.curve,
-                    reports: &mut reports,
-                };
-                let answer = bridge::apply(&mut self.state, width, height, lent);
+                let (state, lent) = self.lent(words, &mut reports);
+                let answer = bridge::apply(state, width, height, lent);
                 assert!(answer.is_ok(), "the frame was refused: {answer:?}");
                 self.samples = reports[1];
             }
         }
+    }
+
+    /// A sheet, all of whose events have to be accepted.
+    pub fn play(&mut self, sheet: &[u8], words: &mut [u32]) {
+        let mut reports = [0; 2];
+        let (state, lent) = self.lent(words, &mut reports);
+        let answer = bridge::play(state, sheet, lent);
+        assert!(answer.is_ok(), "the sheet was refused: {answer:?}");
+        assert!(reports[1] == 0, "{} events were refused", reports[1]);
+    }
+
+    /// Our state, and what a call on it is lent.
+    fn lent<'a>(
+        &'a mut self,
+        words: &'a mut [u32],
+        reports: &'a mut [u32; 2],
+    ) -> (&'a mut State, Lent<'a>) {
+        let lent = Lent {
+            framebuffer: words,
+            history: &mut self.history,
+            floats: &mut self.floats,
+            ints: &mut self.ints,
+            curve: &self.curve,
+            reports,
+        };
+        (&mut self.state, lent)
     }
 }

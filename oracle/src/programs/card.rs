@@ -191,7 +191,7 @@ fn described(opened: &Opened, size: Option<Size>) -> String {
 }
 
 /// A pass and its settings, as the paper's table calls them.
-fn names(kind: u32) -> (&'static str, &'static [&'static str]) {
+pub(super) fn names(kind: u32) -> (&'static str, &'static [&'static str]) {
     match kind {
         1 => ("NTSC", &["strength", "bleed"]),
         2 => ("bloom", &["threshold", "strength", "radius"]),
@@ -218,7 +218,7 @@ const PRESETS: [&str; 7] = [
     "high contrast",
 ];
 
-fn switch(on: bool) -> &'static str {
+pub(super) fn switch(on: bool) -> &'static str {
     if on {
         "on"
     } else {

@@ -1,4 +1,4 @@
-//! The programs `card`, `filter` and `totals`, compared on many cards, pairs of cards and runs of files.
+//! The programs `card`, `filter`, `totals` and `sheet`, compared on many cards, pairs of cards and runs of files.
 
 use std::io;
 use std::sync::atomic::{AtomicUsize, Ordering};
@@ -24,6 +24,8 @@ pub fn run(mode: Mode, total: &mut Total) -> Result<(), String> {
     files::run(mode, total)?;
     #[cfg(with_original)]
     each_total(mode, total)?;
+    #[cfg(with_original)]
+    each_sheet(mode, total)?;
     Ok(())
 }
 
@@ -106,6 +108,38 @@ fn each_total(mode: Mode, total: &mut Total) -> Result<(), String> {
     let (tally, met) = share("totals", times(mode, 600), new, ProgramTally::join, compare)?;
     total.add_programs(&tally);
     total.unmet += met.report();
+    Ok(())
+}
+
+#[cfg(with_original)]
+fn each_sheet(mode: Mode, total: &mut Total) -> Result<(), String> {
+    use super::sheet::cases::OfSheet;
+    use super::sheet::{runs, said};
+
+    println!("Program `sheet`, with a model of document 02's P13 over the original's pipeline");
+    let new = || ProgramTally::of("sheet", "runs");
+    let compare = |seed, at, folder: &Folder, tally: &mut ProgramTally, met: &mut Met<OfSheet>| {
+        let run = runs::run(seed);
+        let asked = said::run(&run, met);
+        let here = folder.run("sheet", &run.arguments(), &run.files())?;
+        let what = || format!("seed {seed:#018x}, {:?}", run.arguments());
+        let bytes = run.file.bytes.as_deref().unwrap_or_default();
+        tally.check(at, bytes, &text(&here), &text(&asked), what);
+        Ok(())
+    };
+    let (tally, met) = share(
+        "sheet",
+        times(mode, 3_000),
+        new,
+        ProgramTally::join,
+        compare,
+    )?;
+    total.add_programs(&tally);
+    total.unmet += met.report();
+    total.add_turned(met.count(OfSheet::Turned));
+    let several = [2, 3].map(|lit| met.count(OfSheet::Several(lit)));
+    total.add_several(several.iter().sum());
+    total.add_curved(met.count(OfSheet::Curved));
     Ok(())
 }
 

@@ -124,7 +124,7 @@ fn options(read: bool, random: &mut Random) -> Vec<Flag> {
 }
 
 /// A file with a curve, or with what is none in a few cases.
-fn curve(gamma: f32, random: &mut Random) -> File {
+pub(super) fn curve(gamma: f32, random: &mut Random) -> File {
     let good = Curve {
         len: READ,
         ..Curve::good(gamma, random)
@@ -165,7 +165,7 @@ fn curve(gamma: f32, random: &mut Random) -> File {
 }
 
 /// A good card, of no dearer passes than these pixels allow.
-fn card(pixels: usize, random: &mut Random) -> Vec<u8> {
+pub(super) fn card(pixels: usize, random: &mut Random) -> Vec<u8> {
     loop {
         let card = match random.below(4) {
             0 => cards::good(random),

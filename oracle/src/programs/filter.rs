@@ -4,23 +4,18 @@
 
 use super::card::refused;
 use super::cases::OfRun;
-use super::files::{File, Flag, Run};
+use super::curve::{self, Fault};
+use super::files::{Flag, Run};
 use super::ppm::{self, Frame};
 use super::process::{Said, PIPE};
 use crate::cards::paper::{self, Opened, Size};
 use crate::met::Met;
 use crate::passes::both::Both;
 use crate::passes::chain::COLOUR;
-use crate::passes::curves;
 use crate::reports::Reports;
 
 const USAGE: &str = "usage: filter [--counts] [--curve FILE] CARD FRAME..   \
     (a card as a file or in hexadecimal; frames as binary PPM, up to 61440 pixels, no side above 1024; a curve as 256 binary32)";
-
-/// Why a file holds no curve.
-const OTHER_LENGTH: &str =
-    "no curve: it has not 1024 bytes, which are 256 binary32, the low byte first";
-const BAD_WORD: &str = "no curve: a number in it is not from 0 to 1";
 
 /// Why there is no picture, where no curve is named.
 const NO_CURVE: &str = "refused: 16, bad curve: \
@@ -143,22 +138,14 @@ fn curve(run: &Run, opened: &Opened, met: &mut Met<OfRun>) -> Result<Vec<f32>, S
     if !run.has(Flag::Curve) {
         return Ok(Vec::new());
     }
-    let File { name, bytes } = &run.curve;
-    let bytes = bytes.as_ref().map_err(|why| {
-        met.note(OfRun::CurveMissing);
-        Said::refusal(name, why)
-    })?;
-    if bytes.len() != 4 * curves::READ {
-        met.note(OfRun::CurveLength(read));
-        return Err(Said::refusal(name, OTHER_LENGTH));
-    }
-    let word = |four: &[u8]| f32::from_le_bytes([four[0], four[1], four[2], four[3]]);
-    let words: Vec<f32> = bytes.chunks(4).map(word).collect();
-    if !curves::is_good(&words) {
-        met.note(OfRun::CurveWord(read));
-        return Err(Said::refusal(name, BAD_WORD));
-    }
-    Ok(words)
+    curve::taken(&run.curve).map_err(|(fault, said)| {
+        met.note(match fault {
+            Fault::Missing => OfRun::CurveMissing,
+            Fault::Length => OfRun::CurveLength(read),
+            Fault::Word => OfRun::CurveWord(read),
+        });
+        said
+    })
 }
 
 /// Whether colour is.

@@ -39,7 +39,7 @@ const OPTIONS: [&[Flag]; 8] = [
     &[Flag::Counts, Flag::Curve, Flag::Counts],
 ];
 
-type Files = Vec<(String, Bytes)>;
+pub(super) type Files = Vec<(String, Bytes)>;
 
 #[no_mangle]
 extern "C" fn fuzz_card(data: *const u8, len: usize) -> i32 {
@@ -92,7 +92,7 @@ extern "C" fn fuzz_card(data: *const u8, len: usize) -> i32 {
 }
 
 /// An argument that gives a card: any text, a card in hexadecimal, or the file of this name, with what it holds.
-fn argument(tape: &mut Tape, name: &str) -> (String, Option<(String, Bytes)>) {
+pub(super) fn argument(tape: &mut Tape, name: &str) -> (String, Option<(String, Bytes)>) {
     match tape.byte() {
         TEXT..128 => (text(tape.string()), None),
         FILE..224 => (
@@ -141,7 +141,7 @@ fn digit(byte: &u8) -> Option<u8> {
 }
 
 /// The card that an argument gives beside these files.
-fn given(argument: &str, files: &Files) -> Given {
+pub(super) fn given(argument: &str, files: &Files) -> Given {
     let there = |(name, bytes): &&(String, Bytes)| name == argument && *bytes != MISSING;
     let file = files.iter().find(there);
     let (argument, way, card) = match (argument.len(), decoded(argument.as_bytes()), file) {
@@ -213,7 +213,7 @@ extern "C" fn fuzz_filter(data: *const u8, len: usize) -> i32 {
 }
 
 /// A file with a curve: mostly one that is taken, else any bytes, no file or a folder.
-fn curve(tape: &mut Tape) -> File {
+pub(super) fn curve(tape: &mut Tape) -> File {
     let name = "a curve".to_string();
     let bytes = match tape.byte() {
         0..160 => {

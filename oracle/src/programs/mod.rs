@@ -1,10 +1,12 @@
-//! The programs `card`, `filter` and `totals`, run as processes: `card` beside a text that is made from a reading of document
-//! 01, `filter` beside the original's pipeline, `totals` beside sums of each area by itself.
+//! The programs `card`, `filter`, `totals` and `sheet`, run as processes: `card` beside a text that is made from a reading of document
+//! 01, `filter` beside the original's pipeline, `totals` beside sums of each area by itself, `sheet` beside the model of a sheet.
 
 mod card;
 mod cards;
 mod cases;
 pub mod compare;
+#[cfg(with_original)]
+mod curve;
 #[cfg(with_original)]
 mod files;
 #[cfg(with_original)]
@@ -16,6 +18,8 @@ mod ppm;
 pub mod process;
 #[cfg(with_original)]
 pub mod seeds;
+#[cfg(with_original)]
+mod sheet;
 mod size;
 #[cfg(with_original)]
 mod totals;

@@ -1,7 +1,8 @@
-//! Inputs that the fuzzer begins with, for the programs `card` and `filter`, in the form that fuzz.rs reads.
+//! Inputs that the fuzzer begins with, for the programs `card`, `filter` and `sheet`, in the form that fuzz.rs and sheet/fuzz.rs read.
 
 use super::cards;
 use super::files;
+use super::sheet::runs;
 use super::size;
 use crate::cards::paper;
 use crate::random::Random;
@@ -59,13 +60,18 @@ fn string(bytes: &[u8], seed: &mut Vec<u8>) {
     seed.extend(&bytes[..length]);
 }
 
-/// A run: its options, a card, a curve by a seed of its own, and headers of small frames.
+/// A curve by a seed of its own, and by its gamma.
+fn curve(seed: &mut Vec<u8>, random: &mut Random) {
+    seed.extend([0, random.word() as u8, random.word() as u8]);
+}
+
+/// A run: its options, a card, a curve, and headers of small frames.
 pub fn filter(random: &mut Random) -> Vec<u8> {
     // No option twice.
     let mut seed = vec![random.below(5) as u8];
     let card = cards::good(random);
     argument(&card, &mut seed, random);
-    seed.extend([0, random.word() as u8, random.word() as u8]);
+    curve(&mut seed, random);
     let count = random.within(1, 4);
     seed.push(count as u8 - 1);
     let mut size = (random.within(1, 32), random.within(1, 32));
@@ -78,5 +84,18 @@ pub fn filter(random: &mut Random) -> Vec<u8> {
         string(&files::header(size.0, size.1, random), &mut seed);
         seed.extend([0, random.word() as u8]);
     }
+    seed
+}
+
+/// A run of program `sheet`: its arguments, a card, a curve, and the bytes of its file.
+pub fn sheet(random: &mut Random) -> Vec<u8> {
+    let run = runs::run(random.next());
+    let form = runs::FORMS.iter().position(|&form| form == run.words);
+    let mut seed = vec![form.unwrap_or_default() as u8];
+    let card = run.card.card.unwrap_or_default();
+    argument(&card, &mut seed, random);
+    curve(&mut seed, random);
+    seed.push(FILE);
+    string(&run.file.bytes.unwrap_or_default(), &mut seed);
     seed
 }

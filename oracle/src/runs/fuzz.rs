@@ -1,5 +1,5 @@
-//! The library `bridge` inside the fuzzer. Its bytes are read as a card or a state and a list of calls, good and bad, which
-//! are made on both sides, as those of a run are. Buffers are lent through guarded.rs.
+//! The library `bridge` inside the fuzzer. Its bytes are read as a card or a state and a list of calls and sheets, good and
+//! bad, which are made and played on both sides, as those of a run are. Buffers are lent through guarded.rs.
 
 use super::calls::{Call, Frame};
 use super::cases::Case;
@@ -10,11 +10,12 @@ use super::station::{float_room, Lengths, Station, MOST_FRAMES};
 use crate::bridge::{State, STATE};
 use crate::cards::paper::Size;
 use crate::fuzz::{self, Tape};
-use crate::met::Met;
+use crate::met::{Listed, Met};
 use crate::passes::curves::{Curve, ODD, READ};
 use crate::passes::frames::{Picture, KINDS};
 use crate::random::Random;
 use crate::seeds;
+use crate::sheets;
 use crate::tally::RunTally;
 
 /// The words of the longest frame that is accepted, and those that an input takes in all: more would make it slow.
@@ -54,15 +55,20 @@ fn side(tape: &mut Tape) -> usize {
 extern "C" fn fuzz_bridge(data: *const u8, len: usize) -> i32 {
     // SAFETY: libFuzzer calls this.
     let input = unsafe { fuzz::input(data, len) };
-    let met = &mut Met::new();
-    if let Err(text) = play(input, met) {
+    let (met, met_by_sheets) = (&mut Met::new(), &mut Met::new());
+    if let Err(text) = play(input, met, met_by_sheets) {
         panic!("different: {text}");
     }
     fuzz::guide(met);
+    fuzz::guide_from(Case::ALL.len(), met_by_sheets);
     0
 }
 
-fn play(input: &[u8], met: &mut Met<Case>) -> Checked {
+fn play(
+    input: &[u8],
+    met: &mut Met<Case>,
+    met_by_sheets: &mut Met<sheets::cases::Case>,
+) -> Checked {
     let tape = &mut Tape { rest: input };
     let random = &mut Random::new(tape.byte().into());
     let Some(state) = begin(tape, random, met)? else {
@@ -74,11 +80,19 @@ fn play(input: &[u8], met: &mut Met<Case>) -> Checked {
     let mut size = (1, 1);
     let mut words = 0;
     while !tape.rest.is_empty() && words < ALL {
-        if tape.byte() % 16 == 15 {
-            // Another state, for good: calls on a bad one are refused from here on.
-            sides = sides.damaged(damaged(sides.state, tape));
-            let good = sides.machine.station().is_some();
-            met.note(if good { Case::Another } else { Case::Bad });
+        match tape.byte() % 16 {
+            15 => {
+                // Another state, for good: calls on a bad one are refused from here on.
+                sides = sides.damaged(damaged(sides.state, tape));
+                let good = sides.machine.station().is_some();
+                met.note(if good { Case::Another } else { Case::Bad });
+            }
+            12..15 => {
+                let curve = curve(tape, &sides);
+                words += sheets::fuzz::play(tape, &mut sides, curve, random, met_by_sheets)?;
+                continue;
+            }
+            _ => {}
         }
         let call = call(tape, &mut size, &sides);
         if let Call::Frame(frame) = &call {

@@ -4,15 +4,15 @@
 
 mod agreement;
 mod asked;
-mod calls;
+pub mod calls;
 pub mod cards;
 mod cases;
 pub mod compare;
 #[cfg(fuzz)]
 mod fuzz;
-mod machine;
-mod noise;
+pub mod machine;
+pub mod noise;
 mod run;
-mod sides;
+pub mod sides;
 pub mod station;
 mod still;

@@ -645,14 +645,15 @@ fn of_several(station: &Station, lent: usize, count: usize) -> Option<Case> {
 }
 
 /// The two scratch buffers of a call.
-struct Scratch {
-    floats: Vec<f32>,
-    ints: Vec<u32>,
+#[derive(Clone)]
+pub struct Scratch {
+    pub floats: Vec<f32>,
+    pub ints: Vec<u32>,
     noise: [Noise; 2],
 }
 
 impl Scratch {
-    fn new(lent: &Lengths, random: &mut Random) -> Self {
+    pub fn new(lent: &Lengths, random: &mut Random) -> Self {
         let noise = [Noise::of(random.next()), Noise::of(random.next())];
         Scratch {
             floats: noise[0].floats(lent.floats),
@@ -663,7 +664,11 @@ impl Scratch {
 
     /// That no word past those that a frame of that size may use was written.
     fn unchanged_past(&self, (width, height): (usize, usize)) -> Checked {
-        let (free, count) = (float_room(width, height), width * height);
+        self.unchanged_from(float_room(width, height), width * height)
+    }
+
+    /// That no word from these places on was written.
+    pub fn unchanged_from(&self, free: usize, count: usize) -> Checked {
         let floats = self.floats[free..].iter().map(|x| x.to_bits());
         let ints = self.ints[count..].iter().copied();
         if let Some(place) = self.noise[0].changed(free, floats) {
@@ -682,7 +687,7 @@ fn answered(here: Answer, asked: Answer) -> Checked<Answer> {
     Ok(asked)
 }
 
-fn same<T: PartialEq + std::fmt::Debug>(what: &str, here: T, asked: T) -> Checked {
+pub fn same<T: PartialEq + std::fmt::Debug>(what: &str, here: T, asked: T) -> Checked {
     if here == asked {
         return Ok(());
     }
@@ -691,7 +696,7 @@ fn same<T: PartialEq + std::fmt::Debug>(what: &str, here: T, asked: T) -> Checke
     ))
 }
 
-fn same_words(what: &str, here: &[u32], asked: &[u32]) -> Checked {
+pub fn same_words(what: &str, here: &[u32], asked: &[u32]) -> Checked {
     if here == asked {
         return Ok(());
     }

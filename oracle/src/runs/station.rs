@@ -52,7 +52,7 @@ pub fn sized((width, height): Size) -> [u8; SIZE] {
 }
 
 /// The words that are lent to a frame beside the curve.
-#[derive(Clone, Copy, PartialEq, Debug)]
+#[derive(Clone, Copy, Default, PartialEq, Debug)]
 pub struct Lengths {
     pub framebuffer: usize,
     pub history: usize,
