@@ -3,7 +3,7 @@ ghost use Rattle.std.specs.Prelude.{◌≡◌, ◌+◌, ◌*◌, ◌<◌, ◌≤
 ghost use Rattle.areas.specs.Areas.{area_at};
 ghost use Rattle.areas.specs.Private.{Listed, in_row, Inside, part_of};
 
-#[derive(Drop)]
+#[derive(Clone, Copy)]
 pub(crate) struct Area {
     pub(crate) left: usize,
     pub(crate) top: usize,
@@ -48,7 +48,7 @@ pub(crate) fn in_row(a: Area, y: usize) -> bool
 }
 
 // Places of a row, from one up to another.
-#[derive(Drop)]
+#[derive(Clone, Copy)]
 pub(crate) struct Part {
     pub(crate) from: usize,
     pub(crate) to: usize,

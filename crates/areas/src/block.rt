@@ -7,7 +7,7 @@ use super::lines::clear;
 use super::marks::{place, run_start};
 
 // Rows of a picture of that width, from row y on.
-#[derive(Drop)]
+#[derive(Clone, Copy)]
 pub(crate) struct Band {
     pub(crate) y: usize,
     pub(crate) rows: usize,

@@ -1,6 +1,8 @@
 // The exact red, green and blue totals of many rectangles of a picture. The picture is walked over once: in bands of rows
 // that have the same rectangles, and in a band over the runs of words that a rectangle holds. No word is read twice, and
 // none that no rectangle holds.
+#![tactic(auto)]
+
 ghost use Rattle.std.specs.Prelude.{◌≡◌};
 ghost use Rattle.areas.specs.Areas.{judged};
 
@@ -14,7 +16,7 @@ mod share; // what a band gives to each rectangle
 mod walk; // band after band
 
 // The number of words read, or a refusal's number.
-#[derive(Drop)]
+#[derive(Clone, Copy)]
 pub enum Answer {
     Read(u32),
     Refused(u8),

@@ -5,7 +5,7 @@ ghost use Rattle.areas.specs.Private.{Growing, colour_between, shared_out, Share
 use super::area::{Part, area_at, part_of};
 
 // A number for each channel.
-#[derive(Drop)]
+#[derive(Clone, Copy)]
 struct Colour {
     red: u64,
     green: u64,

@@ -1,5 +1,7 @@
 // The cabinet: a picture of numbers with its colours, each pixel enlarged to three by three, under a station's chain. It knows the station by what
 // chain's calls promise.
+#![tactic(auto)]
+
 ghost use Rattle.cabinet.specs.Promises.{Shows};
 ghost use Rattle.cabinet.specs.Source.{source_stops};
 ghost use Rattle.std.specs.Prelude.{◌≡◌};

@@ -2,6 +2,8 @@
 // (cards::reader), its normalised bytes (cards::writer), how many samples its blurs take at a size (chain::samples), its settings one by one, their exact
 // decimal digits, the size that the option --size names, and the first difference of two cards (inspect).
 // A function that writes lines says whether it wrote them; after a line that was not written no other is.
+#![tactic(auto)]
+
 ghost use Rattle.std.specs.Prelude.{◌≤◌};
 
 mod names; // passes, settings and presets by name

@@ -6,14 +6,14 @@ ghost use Rattle.cards.specs.Settings.{finite_at, limited_at, within_at, raised_
 
 // Why a card is refused, by the number of the papers, and where: `at` is the first bit of the field that is refused, and for 7 the
 // bit after the last field.
-#[derive(Drop)]
+#[derive(Clone, Copy)]
 pub struct Refusal {
     pub number: u8,
     pub at: usize,
 }
 
 // What reading a field answers: its value and the next bit place, or a refusal.
-#[derive(Drop)]
+#[derive(Clone, Copy)]
 pub enum FieldRead {
     Value(u32, usize),
     Refused(Refusal),
@@ -43,7 +43,7 @@ pub fn field(card: &[u8], at: usize, width: usize) -> FieldRead
     }
 }
 
-#[derive(Drop)]
+#[derive(Clone, Copy)]
 pub enum ByteRead {
     Value(u8, usize),
     Refused(Refusal),
@@ -60,7 +60,7 @@ pub fn byte(card: &[u8], at: usize, width: usize) -> ByteRead
     ByteRead::Value(v as u8, next)
 }
 
-#[derive(Drop)]
+#[derive(Clone, Copy)]
 pub enum RealRead {
     Value(f32, usize),
     Refused(Refusal),

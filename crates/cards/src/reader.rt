@@ -14,7 +14,7 @@ use super::fields::{
 use super::station::{Answer, Pass, Pending, Record, Station, is_full, last_kind};
 use num::size::Size;
 
-#[derive(Drop)]
+#[derive(Clone, Copy)]
 pub enum PassRead {
     Value(Pass, usize),
     Refused(Refusal),
@@ -221,7 +221,7 @@ pub(crate) fn settings(card: &[u8], at: usize, kind: u8) -> PassRead
     }
 }
 
-#[derive(Drop)]
+#[derive(Clone, Copy)]
 pub enum RecordRead {
     Value(Record, usize),
     Refused(Refusal),
@@ -280,7 +280,7 @@ pub(crate) fn read_record(card: &[u8], at: usize, records: [Record; 12], n: usiz
 }
 
 // What opening a card answers, with the station: an empty one where the card is refused.
-#[derive(Drop)]
+#[derive(Clone, Copy)]
 pub struct Opened {
     pub answer: Answer,
     pub station: Station,
@@ -303,7 +303,7 @@ pub(crate) fn filler() -> Record
 }
 
 // What reading a whole card answers, with the station and the place where it stopped. An enum cannot hold the station, which has an array.
-#[derive(Drop)]
+#[derive(Clone, Copy)]
 pub struct Reading {
     pub answer: Answer,
     pub station: Station,

@@ -8,7 +8,7 @@ ghost use Rattle.cards.specs.Records.{kinds, among, last_of, often as oftenOf, t
 use num::size::Size;
 
 // A pass with its settings.
-#[derive(Drop)]
+#[derive(Clone, Copy)]
 pub enum Pass {
     Ntsc {
         strength: f32,
@@ -53,7 +53,7 @@ pub enum Pass {
 }
 
 // A pass of the chain, with its switch and what its history holds: nothing, but for persistence that is on.
-#[derive(Drop)]
+#[derive(Clone, Copy)]
 pub struct Record {
     pub on: bool,
     pub pass: Pass,
@@ -61,13 +61,13 @@ pub struct Record {
 }
 
 // A switch that was asked for and is not committed yet: a kind and a position.
-#[derive(Drop)]
+#[derive(Clone, Copy)]
 pub enum Pending {
     Nothing,
     Switch { kind: u8, on: bool },
 }
 
-#[derive(Drop)]
+#[derive(Clone, Copy)]
 pub struct Station {
     pub records: [Record; 12],
     pub n: usize,
@@ -75,7 +75,7 @@ pub struct Station {
 }
 
 // What a call answers: accepted, or a refusal's number.
-#[derive(Drop)]
+#[derive(Clone, Copy)]
 pub enum Answer {
     Accepted,
     Refused(u8),

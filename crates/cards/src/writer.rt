@@ -11,7 +11,7 @@ use super::check::is_good;
 use super::station::{Pass, Record, Station, kind_of};
 
 // Bits laid down one after another, a bit in a byte: `at` of them so far. Twelve records of at most 133 bits have room.
-#[derive(Drop)]
+#[derive(Clone, Copy)]
 pub struct Sheet {
     pub bits: [u8; 1608],
     pub at: usize,
@@ -175,13 +175,13 @@ fn copy_bytes(buf: &mut [u8], bits: [u8; 1608], bytes: usize)
 }
 
 // What a writing answers: the card's length, or a refusal's number.
-#[derive(Drop)]
+#[derive(Clone, Copy)]
 pub enum Writing {
     Length(usize),
     Refused(u8),
 }
 
-#[derive(Drop)]
+#[derive(Clone, Copy)]
 pub struct Written {
     pub answer: Writing,
     pub station: Station,

@@ -20,40 +20,40 @@ use num::size::{Size, area};
 use passes::persistence::resize;
 
 // What a reset, a switch, asking, committing and a new depth answer, with the station.
-#[derive(Drop)]
+#[derive(Clone, Copy)]
 pub struct Called {
     pub answer: Answer,
     pub station: Station,
 }
 
 // What a frame answers: how many channels the passes that are on clipped, and how many samples their blurs took; or a refusal's number.
-#[derive(Drop)]
+#[derive(Clone, Copy)]
 pub enum FrameAnswer {
     Shown { clipped: u32, samples: u32 },
     Refused(u8),
 }
 
-#[derive(Drop)]
+#[derive(Clone, Copy)]
 pub struct Applied {
     pub answer: FrameAnswer,
     pub station: Station,
 }
 
 // What a preset step answers: the new preset, or a refusal's number.
-#[derive(Drop)]
+#[derive(Clone, Copy)]
 pub enum Cycle {
     Preset(u8),
     Refused(u8),
 }
 
-#[derive(Drop)]
+#[derive(Clone, Copy)]
 pub struct Cycled {
     pub answer: Cycle,
     pub station: Station,
 }
 
 // What a question answers: one number, or a refusal's. It gives back no station, since it gets one only to look at.
-#[derive(Drop)]
+#[derive(Clone, Copy)]
 pub enum Question {
     Number(u8),
     Refused(u8),

@@ -17,7 +17,7 @@ use passes::{
 };
 
 // What a pass leaves besides the frame and its part of the history: what it holds, the channels that were clipped, and the samples that blurs took.
-#[derive(Drop)]
+#[derive(Clone, Copy)]
 pub(crate) struct Run {
     pub(crate) held: Size,
     pub(crate) clipped: u32,
@@ -25,7 +25,7 @@ pub(crate) struct Run {
 }
 
 // The same of a chain: its records, with what each holds.
-#[derive(Drop)]
+#[derive(Clone, Copy)]
 pub(crate) struct RunAll {
     pub(crate) records: [Record; 12],
     pub(crate) clipped: u32,

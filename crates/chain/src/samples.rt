@@ -13,7 +13,7 @@ use cards::station::{Pass, Record, Station};
 use num::size::bad_side;
 
 // What the question answers: how many samples, or a refusal's number.
-#[derive(Drop)]
+#[derive(Clone, Copy)]
 pub enum Sampling {
     Number(u32),
     Refused(u8),

@@ -7,7 +7,7 @@ use inspect::hexadecimal::Decoded;
 use libc::STDERR_FILENO;
 
 // What was read into a buffer.
-#[derive(Drop)]
+#[derive(Clone, Copy)]
 pub struct Loaded {
     // Whether it could be read.
     pub ok: bool,

@@ -1,5 +1,7 @@
 // What the programs `card`, `filter`, `totals` and `sheet` share: arguments and files, a card that an argument gives, the buffers of a frame's file, lines
 // of standard output, and refusals in words.
+#![tactic(auto)]
+
 pub mod input; // arguments, files, cards
 pub mod memory; // the buffers that a frame's file is read into
 pub mod names; // passes and settings by name

@@ -20,7 +20,7 @@ use chain::pipeline::{Cycle, FrameAnswer};
 use chain::refusals::stops;
 use raster::pixels::{at, unpack};
 
-#[derive(Drop)]
+#[derive(Clone, Copy)]
 pub struct Played {
     pub station: Station,
     // How many bytes the line has, at the start of the buffer that was lent for it.

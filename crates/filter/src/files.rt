@@ -27,7 +27,7 @@ pub fn taken(i: usize, file: &mut [u8]) -> usize
 }
 
 // The station after a frame, and whether to go on.
-#[derive(Drop)]
+#[derive(Clone, Copy)]
 pub struct Turn {
     pub station: Station,
     pub more: bool,

@@ -3,6 +3,8 @@
 // its frame with other pixels. Every file is looked at before anything is written. With the option --counts it is said on standard error of each picture
 // how many channels were clipped and how many samples were taken. The option --curve names a file with the curve that is lent to each frame; without it
 // none is lent. What becomes of a file is decided by crate `frames`.
+#![tactic(auto)]
+
 ghost use Rattle.std.specs.Prelude.{◌≤◌};
 
 mod memory; // the buffers that are lent

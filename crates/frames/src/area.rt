@@ -10,7 +10,7 @@ const NOT_FOUR: u8 = 1; // not four numbers with a comma between two
 const TOO_LARGE: u8 = 2; // a number above 65535
 
 // Left, top, width and height; or a fault by its number.
-#[derive(Drop)]
+#[derive(Clone, Copy)]
 pub enum Named {
     Area(u16, u16, u16, u16),
     Fault(u8),
@@ -18,7 +18,7 @@ pub enum Named {
 
 // What was read: the number that stands now, the three before it, how many commas there were, and whether that number has a
 // digit. Four commas stand for anything that no rectangle has.
-#[derive(Drop)]
+#[derive(Clone, Copy)]
 struct Reading {
     first: u32,
     second: u32,

@@ -7,7 +7,7 @@ use passes::color_correction::is_good_curve;
 use raster::pixels::at;
 
 // What a file holds: a curve, where the fault is 0.
-#[derive(Drop)]
+#[derive(Clone, Copy)]
 pub struct Loaded {
     pub fault: u8,
     pub words: [f32; 256],

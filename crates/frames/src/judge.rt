@@ -9,7 +9,7 @@ use raster::ppm::Parsed;
 use raster::{pixels, ppm};
 
 // What became of a file.
-#[derive(Drop)]
+#[derive(Clone, Copy)]
 pub enum Judged {
     // The totals are there; how many words were read.
     Read(u32),

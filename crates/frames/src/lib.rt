@@ -1,4 +1,6 @@
 // A file that holds one frame as binary PPM, under a station: the frame's pixels are replaced by the picture's, and the header stays.
+#![tactic(auto)]
+
 ghost use Rattle.std.specs.Prelude.{◌≡◌, ◌*◌, length};
 ghost use Rattle.raster.specs.Ppm.{parse_of};
 ghost use Rattle.chain.specs.Answers.{reported_frame};
@@ -16,7 +18,7 @@ use raster::ppm::Parsed;
 use raster::{pixels, ppm};
 
 // What became of a file.
-#[derive(Drop)]
+#[derive(Clone, Copy)]
 pub enum Outcome {
     // It holds the picture; so many channels were clipped, and so many samples taken.
     Shown { clipped: u32, samples: u32 },
@@ -26,7 +28,7 @@ pub enum Outcome {
     Refused(u8),
 }
 
-#[derive(Drop)]
+#[derive(Clone, Copy)]
 pub struct Filtered {
     pub outcome: Outcome,
     pub station: Station,

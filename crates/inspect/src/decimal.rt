@@ -48,7 +48,7 @@ fn spell(digits: &mut [u8], m: u32)
 }
 
 // n / 2^p.
-#[derive(Drop)]
+#[derive(Clone, Copy)]
 struct Fraction {
     n: u32,
     p: usize,
@@ -71,7 +71,7 @@ fn reduced(n: u32, p: usize) -> Fraction
 }
 
 // A finite pattern without its sign: m * 2^e units, a unit being the smallest positive value, 2^-149.
-#[derive(Drop)]
+#[derive(Clone, Copy)]
 struct Parts {
     m: u32,
     e: usize,
@@ -108,7 +108,7 @@ fn units(digits: &mut [u8], m: u32, e: usize) -> usize
 }
 
 // Where the point stands among the digits, and the sign.
-#[derive(Drop)]
+#[derive(Clone, Copy)]
 pub struct Point {
     pub negative: bool,
     // How many digits stand behind the point.

@@ -8,7 +8,7 @@ use cards::station::{Pass, Record, Station, few, kind_of};
 use cards::writer::real_bits;
 
 // Where two chains differ first; places are counted from 0.
-#[derive(Drop)]
+#[derive(Clone, Copy)]
 pub enum Difference {
     // Nowhere.
     Alike,

@@ -6,14 +6,14 @@ use super::hexadecimal::digit;
 use num::size::bad_side;
 
 // Width and height; or that the words are no size.
-#[derive(Drop)]
+#[derive(Clone, Copy)]
 pub enum Extent {
     Sides(usize, usize),
     NoSize,
 }
 
 // What was read: the number before the `x`, the one that stands now, and how many `x` there were. Two stand for anything that no size has.
-#[derive(Drop)]
+#[derive(Clone, Copy)]
 struct Reading {
     width: usize,
     value: usize,

@@ -4,7 +4,7 @@ ghost use Rattle.inspect.specs.Hexadecimal.{digit_of, hex_of, is_hex, bytes_of, 
 ghost use Rattle.inspect.specs.Private.{pair_of, token_of, count_of};
 
 // What decoding answers: how many bytes stand at the start of the buffer; that the text is not hexadecimal; that the buffer has no room for its bytes.
-#[derive(Drop)]
+#[derive(Clone, Copy)]
 pub enum Decoded {
     Bytes(usize),
     Text,
@@ -12,7 +12,7 @@ pub enum Decoded {
 }
 
 // A space, the byte of a pair of digits, or anything else.
-#[derive(Drop)]
+#[derive(Clone, Copy)]
 enum Token {
     Space,
     Pair(u8),
@@ -20,7 +20,7 @@ enum Token {
 }
 
 // A number of bytes, or that the text is not hexadecimal.
-#[derive(Drop)]
+#[derive(Clone, Copy)]
 enum Counted {
     Bytes(usize),
     Text,

@@ -6,7 +6,7 @@ ghost use Rattle.inspect.specs.Layout.{Narrow, nibble_at, widths_of, setting_in,
 use cards::fields::{ByteRead, byte};
 
 // Passes and their settings are counted from 0.
-#[derive(Drop)]
+#[derive(Clone, Copy)]
 pub enum Field {
     Version,
     // The number of passes.
@@ -22,7 +22,7 @@ pub enum Field {
 }
 
 // The bits of a pass's settings, 0 where it has no more.
-#[derive(Drop)]
+#[derive(Clone, Copy)]
 struct Widths {
     first: usize,
     second: usize,

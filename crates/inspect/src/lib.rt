@@ -1,5 +1,7 @@
 // What a desk program decides about cards: the settings of a pass one by one, exact decimal digits, the first difference of two cards,
 // hexadecimal text, the field of a card that a bit lies in, a size in words.
+#![tactic(auto)]
+
 pub mod settings; // the settings of a pass
 pub mod decimal; // a binary32 number exactly, in decimal digits
 pub mod difference; // the first difference of two chains

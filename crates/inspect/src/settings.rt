@@ -5,7 +5,7 @@ ghost use Rattle.inspect.specs.Settings.{setting_of, placed};
 use cards::station::Pass;
 
 // A binary32 number, a whole number, or none where the pass has no setting.
-#[derive(Drop)]
+#[derive(Clone, Copy)]
 pub enum Setting {
     Real(f32),
     Whole(u8),

@@ -14,7 +14,7 @@ ghost use Rattle.num.specs.Private.{operand, Makes, Answers, Readied, HasDigits,
 ghost use Rattle.num.specs.Private.{AllReadied, AllDigits, MoreDigits, Wholes, WholeRoots, AllAnswer};
 
 // A positive finite value: m * 2^(e - 150).
-#[derive(Drop)]
+#[derive(Clone, Copy)]
 struct Parts {
     m: u32,
     e: u32,
@@ -51,7 +51,7 @@ fn finite(b: u32) -> u32
 }
 
 // The digits of an operand, scaled, and the pattern of the power of two that goes with their root.
-#[derive(Drop)]
+#[derive(Clone, Copy)]
 struct Scaled {
     digits: u32,
     power: u32,
@@ -104,7 +104,7 @@ fn clear(line: &mut [u32])
 
 // Twice what is found of a root, its digits from the first down to some place, and what their square leaves of the operand, in
 // units of half that place.
-#[derive(Drop)]
+#[derive(Clone, Copy)]
 struct Found {
     rest: u32,
     twice: u32,

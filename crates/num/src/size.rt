@@ -14,7 +14,7 @@ pub fn bad_side(x: usize) -> bool
 }
 
 // A width and a height; what a history holds, with both 0 for nothing.
-#[derive(Drop)]
+#[derive(Clone, Copy)]
 pub struct Size {
     pub width: u16,
     pub height: u16,

@@ -11,7 +11,7 @@ ghost use Rattle.passes.specs.Samples.{samples as samples_of, once};
 ghost use Rattle.passes.specs.Private.{at, cell, Begins, four_weights, four_added, line_onward, rows_onward, insides, blur_by};
 
 // What a pass counts: the channels that it clipped, and the samples that its blur took.
-#[derive(Drop)]
+#[derive(Clone, Copy)]
 pub struct Counts {
     pub clipped: u32,
     pub samples: u32,
@@ -54,7 +54,7 @@ fn offset_weight(radius: usize, k: usize) -> f32
 }
 
 // The weights of four offsets, one after another.
-#[derive(Drop)]
+#[derive(Clone, Copy)]
 struct Four {
     a: f32,
     b: f32,
@@ -112,7 +112,7 @@ fn add_offset(acc: &mut [f32], src: &[f32], radius: usize, k: usize) -> usize
 }
 
 // A place's sum, and how many samples were added to it.
-#[derive(Drop)]
+#[derive(Clone, Copy)]
 struct Sum {
     value: f32,
     samples: usize,
@@ -227,7 +227,7 @@ fn add_four_offsets(acc: &mut [f32], src: &[f32], radius: usize, k: usize) -> us
 }
 
 // What a step of a loop over the offsets took: so many offsets, and so many samples at them.
-#[derive(Drop)]
+#[derive(Clone, Copy)]
 struct Taken {
     offsets: usize,
     samples: usize,

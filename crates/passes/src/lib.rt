@@ -1,4 +1,6 @@
 // The ten passes over a lent frame, each in the module named as the original's file, and what they share: pixel, rows, blur, marks.
+#![tactic(auto)]
+
 pub mod auto_gradient;
 pub mod bloom;
 pub mod blur;

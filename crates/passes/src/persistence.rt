@@ -267,7 +267,7 @@ fn follow(
 }
 
 // What the history then holds, and how many channels were clipped.
-#[derive(Drop)]
+#[derive(Clone, Copy)]
 pub struct Kept {
     pub held: Size,
     pub clipped: u32,

@@ -1,5 +1,7 @@
 // Reads cards and events of program `station` from standard input, piece by piece, and plays them. How many bytes each takes,
 // what it does and what is printed of it is said by crate `events`.
+#![tactic(auto)]
+
 ghost use Rattle.std.specs.Prelude.{◌≡◌, ◌+◌, ◌≤◌, cond, length};
 ghost use Rattle.events.specs.Events.{head_wanted, event_wanted};
 

@@ -1,5 +1,7 @@
 // Exports for the comparison with Rust in oracle/. Here the number steps: those of one operand over slices, those of several
 // on numbers. Each is the step of crate num and nothing more. Nothing here is assumed.
+#![tactic(auto)]
+
 mod card;
 mod pass;
 mod sheet;

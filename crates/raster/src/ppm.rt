@@ -23,7 +23,7 @@ const PIXELS_CUT: u8 = 8; // fewer bytes than the pixels have
 const LEFT_OVER: u8 = 9; // and more
 
 // Width, height and where the pixels start; or a refusal by its number.
-#[derive(Drop)]
+#[derive(Clone, Copy)]
 pub enum Parsed {
     Frame(usize, usize, usize),
     Refused(u8),
@@ -110,7 +110,7 @@ fn grown(v: usize, d: u8) -> usize
     v * 10 + d as usize
 }
 
-#[derive(Drop)]
+#[derive(Clone, Copy)]
 struct DigitsRead {
     value: usize,
     end: usize,
@@ -133,7 +133,7 @@ fn digits(bytes: &[u8], from: usize) -> DigitsRead
     DigitsRead { value, end: i }
 }
 
-#[derive(Drop)]
+#[derive(Clone, Copy)]
 pub enum NumberRead {
     Value(usize, usize),
     Refused(u8),

@@ -1,6 +1,8 @@
 // Replays answers of the original that were recorded: each is an event of program `station` with the checksum of the line that the original's pipeline gave.
 // Standard input: `N`, a length byte and a card begin a station, `P` and an event play one on it; four bytes follow, the Adler-32 checksum of the answer, most
 // significant first. Prints how many answers were replayed, and how many differ.
+#![tactic(auto)]
+
 ghost use Rattle.std.specs.Prelude.{◌≤◌, length};
 
 mod adler; // the checksum
@@ -43,7 +45,7 @@ fn more(n: u64) -> u64 {
 }
 
 // How many answers were replayed, and how many of them differ from the recorded ones.
-#[derive(Drop)]
+#[derive(Clone, Copy)]
 struct Tally {
     answers: u64,
     different: u64,
@@ -86,7 +88,7 @@ fn turn(
 }
 
 // A station, and the tally of the answers so far.
-#[derive(Drop)]
+#[derive(Clone, Copy)]
 struct Run {
     station: Station,
     tally: Tally,

@@ -1,5 +1,7 @@
 // Program `sheet`: prints a run sheet in words; plays one on a card, with a line for each event, and writes the last picture; or writes the sheet of a file
 // of events that program `station` takes. What stands on a sheet and what playing it does is decided by crate `sheets`.
+#![tactic(auto)]
+
 ghost use Rattle.std.specs.Prelude.{◌≤◌};
 
 mod memory; // the buffers that are lent

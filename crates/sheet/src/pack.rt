@@ -24,7 +24,7 @@ pub const ROOM: u8 = 6; // the sheet has no room for it
 pub const COUNT: u8 = 7; // 65,535 events stand before it
 
 // What became of an event: its fault, 0 for none; how many bytes it has, and where the next one begins on the sheet.
-#[derive(Drop)]
+#[derive(Clone, Copy)]
 pub struct Put {
     pub fault: u8,
     pub bytes: usize,
@@ -156,7 +156,7 @@ fn event(events: &[u8], sheet: &mut [u8], p: usize) -> Put
 }
 
 // What became of a file's events: a fault, 0 for none, how many events stand before it, and how many bytes the sheet has; its last event ends at `bits`.
-#[derive(Drop)]
+#[derive(Clone, Copy)]
 pub struct Packed {
     pub fault: u8,
     pub events: usize,

@@ -36,7 +36,7 @@ fn one_if(ok: bool) -> u32
 }
 
 // How many events were accepted, and the size of the last picture, with both sides 0 for none.
-#[derive(Drop)]
+#[derive(Clone, Copy)]
 struct Played {
     accepted: u32,
     size: Size,

@@ -6,7 +6,7 @@ ghost use Rattle.sheets.specs.Promises.{Reads, is_taken};
 use cards::fields::{ByteRead, FieldRead, byte, field};
 use cards::reader::ends;
 
-#[derive(Drop)]
+#[derive(Clone, Copy)]
 pub enum Event {
     // Its words stand from the bit `at` on.
     Frame {
@@ -28,7 +28,7 @@ pub enum Event {
 }
 
 // What reading an event answers: it, and the next bit place.
-#[derive(Drop)]
+#[derive(Clone, Copy)]
 pub enum EventRead {
     Value(Event, usize),
     Bad,

@@ -18,7 +18,7 @@ use chain::pipeline::{Called, Cycle, Cycled};
 use chain::refusals::stops;
 
 // The station after an event, and whether the event was accepted: else it was refused by that number.
-#[derive(Drop)]
+#[derive(Clone, Copy)]
 pub struct Turn {
     pub station: Station,
     pub ok: bool,
@@ -26,13 +26,13 @@ pub struct Turn {
 }
 
 // How many events were accepted and how many refused, or why the sheet was not played.
-#[derive(Drop)]
+#[derive(Clone, Copy)]
 pub enum PlayAnswer {
     Played { accepted: u32, refused: u32 },
     Refused(u8),
 }
 
-#[derive(Drop)]
+#[derive(Clone, Copy)]
 pub struct Played {
     pub answer: PlayAnswer,
     pub station: Station,

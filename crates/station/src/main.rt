@@ -1,5 +1,7 @@
 // Program `station` of document 01: reads a card and events from standard input, and writes a line for each event. It only reads, calls and writes: what an
 // event does and what is printed is said by crate `events`.
+#![tactic(auto)]
+
 ghost use Rattle.std.specs.Prelude.{◌≤◌, length};
 
 use cards::station::Station;

@@ -1,4 +1,6 @@
 // Cards as text: what a desk writes makes a station, and a station's chain is printed so.
+#![tactic(auto)]
+
 pub mod words; // the words of a line
 pub mod names; // passes, settings and presets by name
 pub mod numbers; // words as numbers

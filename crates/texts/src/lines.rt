@@ -16,7 +16,7 @@ use num::size::Size;
 // What is wrong, with which word, and for which setting of which pass. 1: no pass that is known; 2: a pass that may not stand there; 3: more than twelve
 // passes; 4: `none` beside a pass; 5: neither on nor off; 6: another word than the setting's name; 7: no number; 8: a number out of its range; 9: a word too
 // many; 10: no pass at all.
-#[derive(Drop)]
+#[derive(Clone, Copy)]
 pub struct Fault {
     pub number: u8,
     pub word: usize,
@@ -24,7 +24,7 @@ pub struct Fault {
     pub place: usize,
 }
 
-#[derive(Drop)]
+#[derive(Clone, Copy)]
 pub enum Line {
     Blank,
     Bare,

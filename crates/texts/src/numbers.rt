@@ -91,7 +91,7 @@ fn valued(negative: bool, before: &[u8], after: &[u8]) -> f32
 }
 
 // The places of a word: where its digits begin, where they end, where those behind the point begin, and where these end.
-#[derive(Drop)]
+#[derive(Clone, Copy)]
 struct Shape {
     start: usize,
     point: usize,
@@ -184,7 +184,7 @@ fn is_plain(s: Shape, long: usize) -> bool
 }
 
 // What a word is as a number.
-#[derive(Drop)]
+#[derive(Clone, Copy)]
 pub struct Decimal {
     // Whether it is one.
     pub ok: bool,

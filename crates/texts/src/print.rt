@@ -253,7 +253,7 @@ fn put_chain(out: &mut [u8], records: [Record; 12], n: usize) -> usize
 }
 
 // What a printing answers: the text's length, or a refusal's number.
-#[derive(Drop)]
+#[derive(Clone, Copy)]
 pub enum Printing {
     Length(usize),
     Refused(u8),

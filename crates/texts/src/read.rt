@@ -11,7 +11,7 @@ use cards::reader::filler;
 use cards::station::{Pending, Record, Station, kind_of};
 
 // What is read so far: the station with the passes, and whether it was said that there is none. A fault has a number other than 0.
-#[derive(Drop)]
+#[derive(Clone, Copy)]
 pub struct Draft {
     pub station: Station,
     pub bare: bool,
@@ -19,7 +19,7 @@ pub struct Draft {
 }
 
 // The station that a text makes; or, where `ok` is false, the line, counted from 0, and what is wrong with it. The station is an empty one then.
-#[derive(Drop)]
+#[derive(Clone, Copy)]
 pub struct Made {
     pub ok: bool,
     pub station: Station,

@@ -12,7 +12,7 @@ use inspect::settings::Setting;
 use num::steps::limit;
 
 // What may stand at a place: a number within limits, a whole number within limits, a preset, or nothing.
-#[derive(Drop)]
+#[derive(Clone, Copy)]
 pub enum Slot {
     Real { low: f32, high: f32 },
     Whole { least: u8, most: u8 },
@@ -21,7 +21,7 @@ pub enum Slot {
 }
 
 // A setting; or what is wrong with its words: 6, another word than its name; 7, no number; 8, a number out of its range.
-#[derive(Drop)]
+#[derive(Clone, Copy)]
 pub enum Value {
     Is(Setting),
     Wrong(u8),

@@ -3,7 +3,7 @@ ghost use Rattle.std.specs.Prelude.{◌≡◌, ◌+◌, ◌≤◌, length, drop}
 ghost use Rattle.texts.specs.Words.{is_blank, is_letter, front, next_word, span_of, small as small_of, is as is_of};
 
 // From where to where a word stands in its line.
-#[derive(Drop)]
+#[derive(Clone, Copy)]
 pub struct Span {
     pub from: usize,
     pub to: usize,

@@ -46,7 +46,7 @@ fn not_named(i: usize, fault: u8) {
 }
 
 // Whether the arguments could be taken, and how many numbers the areas have.
-#[derive(Drop)]
+#[derive(Clone, Copy)]
 pub struct Taken {
     pub ok: bool,
     pub numbers: usize,

@@ -1,6 +1,8 @@
 // Program `totals`: the exact red, green and blue totals of areas of a picture, and of two pictures which area differs and by how much. The areas are given
 // behind the pictures, which are files of binary PPM. All is looked at before anything is written. Which area an argument names, and what a file has in the
 // areas, is decided by crate `frames`.
+#![tactic(auto)]
+
 ghost use Rattle.std.specs.Prelude.{◌≤◌};
 
 mod given; // the areas that the arguments give

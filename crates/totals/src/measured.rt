@@ -14,7 +14,7 @@ pub fn room() -> [u64; 192]
 }
 
 // Whether the picture has the areas, and how many words were read.
-#[derive(Drop)]
+#[derive(Clone, Copy)]
 pub struct Measured {
     pub ok: bool,
     pub words: u32,
