@@ -23,6 +23,8 @@ use Rattle.num.specs.Laws.Bounds.{zero-within, between, clamp_within, clamp_nan,
 
 floor_is-cut : (n : ℕ) (x : Float) → n ≤ 1023 → Signed false x → T (within n x) → T (under 1024 x) × (floor_of x ≡ cut_of x)
 unfolding within under floor_of cut_of
+floor_is-cut n nan l s h = elim s [ ]
+floor_is-cut n (inf _) l s h = elim h [ ]
 floor_is-cut n (fin true m e) l s h = absurd (true≢false s)
 floor_is-cut n (fin false m e) l s h =
     let k : m * up e ≤ 1023 * down e = le_trans (size-le n false m e h) (mul-le-mul_right (down e) l) in
@@ -59,6 +61,10 @@ module _ (x hi : Float) (p : lt c0_0 hi ≡ true) where
 
 none_above : (hi x : Float) → lt c0_0 hi ≡ true → T (within 0 x) → lt hi x ≡ false
 unfolding lt within of_bits
+none_above (inf false) nan p h = elim h [ ]
+none_above (inf false) (inf _) p h = elim h [ ]
+none_above (fin false i d) nan p h = elim h [ ]
+none_above (fin false i d) (inf _) p h = elim h [ ]
 none_above nan x p h = refl
 none_above (inf true) x p h = absurd (true≢false (sym p))
 none_above (inf false) (fin s m e) p h = refl
@@ -112,6 +118,8 @@ clamped_cut n x hi l v p = go (lt c0_0 x) refl
 
 times_signed : (n : ℕ) (y : Float) → T (within n y) → Signed false y → Signed false (y ⊗ c255_0)
 unfolding within mul of_bits
+times_signed n nan h s = elim h [ ]
+times_signed n (inf _) h s = elim h [ ]
 times_signed n (fin true m e) h s = absurd (true≢false s)
 times_signed n (fin false m e) h s = round_signed binary32 false (m * up e * (255 * up (pos 0))) (down e * down (pos 0))
 

@@ -6,10 +6,10 @@ use native.Mathlib.Nat.{le_trans, le_of_eq, lt_of_lt_of_le, mul_left_comm, mul-o
 use native.Mathlib.Nat.{le_of_suc-le-suc, lt_of_mul-lt-mul_right, mul-le-mul_right, mul-lt-mul_of_pos_right, mod-lt, div-add-mod', le-div_iff_mul-le}
 use native.Mathlib.Nat.{div-lt_iff_lt-mul, div-eq_of_lt-le}
 use native.Mathlib.Omega.{arith}
-use mathlib.Core.Bool.{Bool, false, not}
+use mathlib.Core.Bool.{Bool, true, false, not}
 use lib.Dec.{T, is_le, compare_is_eq, leb→le, nleb→lt, eqb→eq, ltb→lt, lt→ltb, lit<, lit≤}
 use lib.Pow.{pow-add, pow_pos}
-use lib.Ieee.{Float, fin, binary32, up, down, size, nearest, units, round, add, is_nan, of_bits, to_bits}
+use lib.Ieee.{Float, fin, binary32, up, down, size, nearest, units, round, add, is_nan, of_bits, to_bits, nan, inf}
 use lib.Ieee.Fits.{down_pos, core, round_is}
 use lib.Ieee.Nearest.{closest, closest_mono, closest_same}
 use lib.Ieee.Bits.{to_bits-of_bits, nan_bits_is}
@@ -93,6 +93,9 @@ Sum v = (n : ℕ) × (sum_of v ≡ of_bits binary32 (1258291200 + n)) × Near v 
 
 summed : (v : Float) → T (under 8388608 v) → Sum v
 unfolding under add of_bits Near
+summed nan h = elim h [ ]
+summed (inf _) h = elim h [ ]
+summed (fin true m e) h = elim h [ ]
 summed (fin false m e) h =
     let A = m * up e in
     let C = down e in
@@ -137,6 +140,9 @@ sum-bits v h =
 -- a whole number near a value below k is at most k
 pub near_le : (k n : ℕ) (v : Float) → T (under k v) → Near v n → n ≤ k
 unfolding under Near
+near_le k n nan h b = elim h [ ]
+near_le k n (inf _) h b = elim h [ ]
+near_le k n (fin true m e) h b = elim h [ ]
 near_le k n (fin false m e) h b =
     let A = m * up e in
     let C = down e in
@@ -145,6 +151,9 @@ near_le k n (fin false m e) h b =
 
 pub under_more : (k n : ℕ) (v : Float) → k ≤ n → T (under k v) → T (under n v)
 unfolding under
+under_more k n nan l h = elim h [ ]
+under_more k n (inf _) l h = elim h [ ]
+under_more k n (fin true m e) l h = elim h [ ]
 under_more k n (fin false m e) l h = lt→ltb (m * up e) (n * down e) (lt_of_lt_of_le (ltb→lt (m * up e) (k * down e) h) (mul-le-mul_right (down e) l))
 
 -- ---- from the nearest whole number to the whole part of A / C + 1/2

@@ -74,6 +74,9 @@ Quarter (fin s m e) = down e ≤ m * up e * 4
 
 from_quarter : (v : Float) → T (under 1024 v) → Quarter v → Halves v (add binary32 v c4194303_75)
 unfolding under add floor_of of_bits
+from_quarter nan h q = elim h [ ]
+from_quarter (inf _) h q = elim h [ ]
+from_quarter (fin true m e) h q = elim h [ ]
 from_quarter (fin false m e) h q =
     let A = m * up e in
     let C = down e in
@@ -96,6 +99,9 @@ at_quarter = from_quarter c0_25 tt (lit≤ tt)
 
 summed : (v : Float) → T (under 1024 v) → Halves v (sum_of v)
 unfolding under max_of lt floor_of of_bits
+summed nan h = elim h [ ]
+summed (inf _) h = elim h [ ]
+summed (fin true m e) h = elim h [ ]
 summed (fin false m e) h = go (lt c0_25 (fin false m e)) refl
   where
     go : (b : Bool) → lt c0_25 (fin false m e) ≡ b → Halves (fin false m e) (add binary32 (cond b (fin false m e) c0_25) c4194303_75)

@@ -23,6 +23,8 @@ use Rattle.num.specs.Laws.Within.{mul-within, Plain, sub_within}
 
 pub cut-within : (n : ℕ) (x : Float) → T (within n x) → cut_of x ≤ n
 unfolding within cut_of
+cut-within n nan h = elim h [ ]
+cut-within n (inf _) h = elim h [ ]
 cut-within n (fin s m e) h = go (not s && leb (m * up e) (1023 * down e))
   where
     go : (b : Bool) → cond b (m * up e / down e) 0 ≤ n
@@ -42,6 +44,8 @@ cut-le (fin false m e) = go (leb (m * up e) (1023 * down e)) refl
 
 pub round-step-within : (n : ℕ) (x : Float) → n ≤ 16777216 → T (within n x) → T (within n (round_of x))
 unfolding within round_of
+round-step-within n nan small h = elim h [ ]
+round-step-within n (inf _) small h = elim h [ ]
 round-step-within n (fin s m e) small h =
     round-within n s ((2 * (m * up e) + down e) / (2 * down e)) 1 small (lit< tt)
     (subst (λ (r : ℕ). (2 * (m * up e) + down e) / (2 * down e) ≤ r) (sym (mul-one n))
@@ -66,10 +70,14 @@ round-step-within n (fin s m e) small h =
 -- ---- clamp and minimum, from 0 to an end of whole value
 
 pub value_within : (n : ℕ) (x : Float) → HasValue x false n 1 → T (within n x)
+value_within n nan v = elim v [ ]
+value_within n (inf _) v = elim v [ ]
 value_within n (fin t m e) v = subst (λ (b : Bool). T (within n (fin b m e))) (sym v.0) (within_plus n m e (le_of_eq (sym (mul-one (m * up e)) ∙ v.1)))
 
 pub widen : (n k : ℕ) (x : Float) → n ≤ k → T (within n x) → T (within k x)
 unfolding within
+widen n k nan l h = elim h [ ]
+widen n k (inf _) l h = elim h [ ]
 widen n k (fin s m e) l h =
     and_i (leb (m * up e) (k * down e)) (not s || eqb m 0) (le→leb (m * up e) (k * down e) (le_trans (size-le n s m e h) (mul-le-mul_right (down e) l)))
     (and_r (leb (m * up e) (n * down e)) (not s || eqb m 0) h)
@@ -81,6 +89,10 @@ zero-within n = within_plus n 0 (pos 0) zero-le
 -- neither below 0 nor above the end, and no NaN
 pub between : (n : ℕ) (x hi : Float) → HasValue hi false n 1 → T (not (is_nan x)) → lt x c0_0 ≡ false → lt hi x ≡ false → T (within n x)
 unfolding within is_nan lt of_bits
+between n (inf false) nan v k a b = elim v [ ]
+between n (inf false) (inf _) v k a b = elim v [ ]
+between n (fin false m e) nan v k a b = elim v [ ]
+between n (fin false m e) (inf _) v k a b = elim v [ ]
 between n nan hi v k a b = absurd k
 between n (inf true) hi v k a b = absurd (true≢false a)
 between n (inf false) (fin u i d) v k a b = absurd (true≢false b)
@@ -161,6 +173,8 @@ int_within n small = value_within n (round binary32 false n 1) (round_whole bina
 
 pub cut_value : (n : ℕ) (x : Float) → HasValue x false n 1 → n ≤ 1023 → cut_of x ≡ n
 unfolding cut_of
+cut_value n nan v l = elim v [ ]
+cut_value n (inf _) v l = elim v [ ]
 cut_value n (fin s m e) v l =
     let a : m * up e ≡ n * down e = sym (mul-one (m * up e)) ∙ v.1 in
     ap (λ (b : Bool). cond (not b && leb (m * up e) (1023 * down e)) (m * up e / down e) 0) v.0
@@ -182,6 +196,7 @@ cut-round m e l =
 -- a negative value, and one from 1024 on
 pub cut-negative : (x : Float) → Signed true x → 0 ≡ cut_of x
 unfolding cut_of
+cut-negative nan s = elim s [ ]
 cut-negative (inf t) s = refl
 cut-negative (fin t m e) s = ap (λ (b : Bool). cond (not b && leb (m * up e) (1023 * down e)) (m * up e / down e) 0) (sym s)
 

@@ -90,6 +90,8 @@ whole_least n p l = go (round binary32 false n 1) (round_whole binary32 false n 
     fine a c v = let q = mul-le-mul_right c p in omega arith
 
     go : (x : Float) → HasValue x false n 1 → Least 1 x
+    go nan v = elim v [ ]
+    go (inf _) v = elim v [ ]
     go (fin true m e) v = absurd (true≢false v.0)
     go (fin false m e) v = fine (m * up e) (down e) v.1
 
@@ -104,6 +106,8 @@ half_least n p s = go (round binary32 false n 1) (round_whole binary32 false n s
     most a c v = omega arith
 
     go : (x : Float) → HasValue x false n 1 → Least 2 (div binary32 x (fin false 1 (pos 1)))
+    go nan v = elim v [ ]
+    go (inf _) v = elim v [ ]
     go (fin true m e) v = absurd (true≢false v.0)
     go (fin false m e) v =
         let c : 0 < 1 * 2 * down e = mul-pos (lit< tt) (down_pos e) in
@@ -171,6 +175,8 @@ top_least t l = go (round binary32 false t 1) (round_whole binary32 false t (ome
     less b d v = let q : (t + 1) * d ≤ 255 * d = mul-le-mul_right d (omega arith) in (omega arith, omega arith)
 
     go : (x : Float) → HasValue x false t 1 → Least 1 (add binary32 (fin false 255 (pos 0)) (neg x))
+    go nan v = elim v [ ]
+    go (inf _) v = elim v [ ]
     go (fin true i d) v = absurd (true≢false v.0)
     go (fin false i d) v =
         let q = less (i * up d) (down d) v.1 in

@@ -80,6 +80,10 @@ share-within k m l p s =
     unit b d w = let q = mul-le-mul_right d p in omega arith
 
     go : (x y : Float) → HasValue x false k 1 → HasValue y false m 1 → T (within 1 (div binary32 x y))
+    go nan y v w = elim v [ ]
+    go (inf _) y v w = elim v [ ]
+    go (fin false a e) nan v w = elim w [ ]
+    go (fin false a e) (inf _) v w = elim w [ ]
     go (fin true a e) y v w = absurd (true≢false v.0)
     go (fin false a e) (fin true i d) v w = absurd (true≢false w.0)
     go (fin false a e) (fin false i d) v w =

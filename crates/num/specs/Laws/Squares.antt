@@ -86,6 +86,8 @@ kept-le w k r t h g l =
     omega arith
 
 value_le-within : (n : ℕ) (x : Float) (a c : ℕ) → 0 < c → a ≤ n * c → HasValue x false a c → T (within n x)
+value_le-within n nan a c p h v = elim v [ ]
+value_le-within n (inf _) a c p h v = elim v [ ]
 value_le-within n (fin true m e) a c p h v = absurd (true≢false v.0)
 value_le-within n (fin false m e) a c p h v =
     within_plus n m e

@@ -34,6 +34,9 @@ upto-neg (fin false i g) (fin s m e) h = h
 
 le-upto : (z x : Float) → T (finite z) → Signed false z → Signed false x → T (le x z) → Upto z x
 unfolding le
+le-upto nan x f p q h = elim f [ ]
+le-upto (inf _) x f p q h = elim f [ ]
+le-upto (fin false i g) nan f p q h = elim q [ ]
 le-upto (fin true i g) x f p q h = absurd (true≢false p)
 le-upto (fin false i g) (inf true) f p q h = absurd (true≢false q)
 le-upto (fin false i g) (inf false) f p q h = h
@@ -138,4 +141,6 @@ whole-upto n k l s =
     (value_finite (round binary32 false n 1) (round_whole binary32 false n s)) (mul-le-mul_right 1 l)
   where
     value_finite : (x : Float) → HasValue x false n 1 → T (finite x)
+    value_finite nan v = elim v [ ]
+    value_finite (inf _) v = elim v [ ]
     value_finite (fin t m e) v = tt

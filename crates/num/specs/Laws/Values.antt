@@ -25,6 +25,10 @@ use Rattle.num.specs.Laws.Order.{tests_le, tests_lt}
 pub add_at : (f : Format) (x y : Float) (a c b d : ℕ) → 0 < c → 0 < d → HasValue x false a c → HasValue y false b d
     → add f x y ≡ round f false (a * d + b * c) (c * d)
 unfolding add
+add_at f nan y a c b d C D v w = elim v [ ]
+add_at f (inf _) y a c b d C D v w = elim v [ ]
+add_at f (fin false m e) nan a c b d C D v w = elim w [ ]
+add_at f (fin false m e) (inf _) a c b d C D v w = elim w [ ]
 add_at f (fin true m e) y a c b d C D v w = absurd (true≢false v.0)
 add_at f (fin false m e) (fin true n g) a c b d C D v w = absurd (true≢false w.0)
 add_at f (fin false m e) (fin false n g) a c b d C D v w =
@@ -48,6 +52,10 @@ add_at f (fin false m e) (fin false n g) a c b d C D v w =
 module _ (f : Format) where
   pub mul_at : (x y : Float) (a c b d : ℕ) → 0 < c → 0 < d → HasValue x false a c → HasValue y false b d → mul f x y ≡ round f false (a * b) (c * d)
   unfolding mul
+  mul_at nan y a c b d C D v w = elim v [ ]
+  mul_at (inf _) y a c b d C D v w = elim v [ ]
+  mul_at (fin false m e) nan a c b d C D v w = elim w [ ]
+  mul_at (fin false m e) (inf _) a c b d C D v w = elim w [ ]
   mul_at (fin true m e) y a c b d C D v w = absurd (true≢false v.0)
   mul_at (fin false m e) (fin true n g) a c b d C D v w = absurd (true≢false w.0)
   mul_at (fin false m e) (fin false n g) a c b d C D v w =
@@ -56,6 +64,10 @@ module _ (f : Format) where
 
   pub div-at : (x y : Float) (a c b d : ℕ) → 0 < c → 0 < d → 0 < b → HasValue x false a c → HasValue y false b d → div f x y ≡ round f false (a * d) (b * c)
   unfolding div
+  div-at nan y a c b d C D B v w = elim v [ ]
+  div-at (inf _) y a c b d C D B v w = elim v [ ]
+  div-at (fin false m e) nan a c b d C D B v w = elim w [ ]
+  div-at (fin false m e) (inf _) a c b d C D B v w = elim w [ ]
   div-at (fin true m e) y a c b d C D B v w = absurd (true≢false v.0)
   div-at (fin false m e) (fin true n g) a c b d C D B v w = absurd (true≢false w.0)
   div-at (fin false m e) (fin false n g) a c b d C D B v w =
@@ -106,16 +118,22 @@ module _ (m : ℕ) (e : ℤ) (p q : ℕ) (Q : 0 < q) where
 
   pub lt_value : (z : Float) → HasValue z false p q → lt (fin false m e) z ≡ true → m * up e * q < p * down e
   unfolding lt
+  lt_value nan v h = elim v [ ]
+  lt_value (inf _) v h = elim v [ ]
   lt_value (fin true i g) v h = absurd (true≢false v.0)
   lt_value (fin false i g) v h = to_value (i * up g) (down g) v.1 (ltb-true (m * up e * down g) (i * up g * down e) h)
 
   pub value_le : (z : Float) → HasValue z false p q → le z (fin false m e) ≡ true → p * down e ≤ m * up e * q
   unfolding le
+  value_le nan v h = elim v [ ]
+  value_le (inf _) v h = elim v [ ]
   value_le (fin true i g) v h = absurd (true≢false v.0)
   value_le (fin false i g) v h =
       from_value (i * up g) (down g) (down_pos g) v.1 (tests_le (i * up g * down e) (m * up e * down g) true (subst T (sym h) tt))
 
   pub value_not-le : (z : Float) → HasValue z false p q → le z (fin false m e) ≡ false → m * up e * q < p * down e
   unfolding le
+  value_not-le nan v h = elim v [ ]
+  value_not-le (inf _) v h = elim v [ ]
   value_not-le (fin true i g) v h = absurd (true≢false v.0)
   value_not-le (fin false i g) v h = to_value (i * up g) (down g) v.1 (tests_lt (i * up g * down e) (m * up e * down g) h)

@@ -51,6 +51,11 @@ cross a b c d n p e h = le_of_mul-le-mul_right (le_trans h (le_of_eq (ap (λ (x 
 
 pub le-within : (n : ℕ) (x y : Float) → Signed false x → HasValue y false n 1 → T (le x y) → T (within n x)
 unfolding le
+le-within n nan y s v h = elim s [ ]
+le-within n (inf t) nan s v h = elim v [ ]
+le-within n (inf t) (inf _) s v h = elim v [ ]
+le-within n (fin t m e) nan s v h = elim v [ ]
+le-within n (fin t m e) (inf _) s v h = elim v [ ]
 le-within n (inf t) (fin u k d) s v h = absurd (subst (λ (b : Bool). T (b || false)) s h)
 le-within n (fin t m e) (fin u k d) s v h =
     subst (λ (b : Bool). T (within n (fin b m e))) (sym s)
@@ -66,6 +71,8 @@ or_true false = tt
 
 pub zero_value : (n : ℕ) (x : Float) (s : Bool) (c : ℕ) → 0 < c → HasValue x s 0 c → T (within n x)
 unfolding within
+zero_value n nan s c p v = elim v [ ]
+zero_value n (inf _) s c p v = elim v [ ]
 zero_value n (fin t m e) s c p v =
     let z : m ≡ 0 = none_left m (up e) (up_pos e) (none_left (m * up e) c p (v.1 ∙ zero-mul (down e))) in
     subst (λ (i : ℕ). T (within n (fin t i e))) (sym z)

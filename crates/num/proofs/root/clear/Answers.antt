@@ -1,0 +1,16 @@
+-- `num::root::clear` meets its contract. Assumes nothing.
+use Prim.Native.Nat.{◌-◌}
+use mathlib.Core.Path.{refl}
+use native.Mathlib.Omega.{arith}
+use lib.ListN.{length}
+use Rattle.num.specs.Laws.Rewrite.{Rewritten, none, more, all}
+use Rattle.num.proofs.root.clear.Goals as goal
+
+pub loop-i-init : goal.loop-i-init
+loop-i-init c = none _ _
+
+pub loop-i-preserved : goal.loop-i-preserved
+loop-i-preserved c = more c.loop-i.invariant 0 (omega arith) refl
+
+pub returns : goal.returns
+returns c = all c.loop-i.invariant c.loop-i-test.false

@@ -1,0 +1,26 @@
+-- `num::root::whole_roots` meets its contract: each turn has two digits of every root more, and after the last the place is 1. Assumes nothing.
+use mathlib.Core.Path.{◌≡◌, refl, sym, ap, ◌∙◌, subst}
+use Prim.Native.Nat.{ℕ, zero, suc, ◌-◌, ◌*◌, ◌/◌, ◌^◌, ◌≤◌, ◌<◌}
+use native.Mathlib.Numerals.{sub-one}
+use native.Mathlib.Nat.{pow-succ'}
+use native.Mathlib.Omega.{arith}
+use mathlib.Core.List.{List}
+use lib.Arith.{le-zero}
+use lib.ListN.{length, get_or}
+use Rattle.num.specs.Rewrite.{fill}
+use Rattle.num.specs.Laws.Rewrite.{get_d_fill, length-rewrite}
+use Rattle.num.specs.Private.{Digits, AllDigits, MoreDigits, Wholes, WholeRoots}
+use Rattle.num.proofs.FoundDigits.{last}
+use Rattle.num.proofs.root.whole_roots.Given as goal
+
+-- the digits of each root down to the place
+pub record Found (ms : List ℕ) (place : ℕ) (rest twice : List ℕ) : Type 0 where
+  pub first : length rest ≡ length ms
+  pub second : length twice ≡ length ms
+  pub digits : (k : ℕ) → k < length ms → Digits (get_or ms k 0 * 2 ^ 25) (get_or rest k 0) (get_or twice k 0) place
+
+abbrev pub invariant-loop-left : goal.invariant-loop-left
+invariant-loop-left l = (l.place ≡ 4 ^ l.left) × Found l.initial.rest l.place l.rest l.twice
+
+abbrev pub decreases-loop-left : goal.decreases-loop-left
+decreases-loop-left l = l.left

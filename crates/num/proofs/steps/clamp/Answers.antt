@@ -1,0 +1,15 @@
+-- `num::steps::clamp` meets its contract: each arm returns what the two `cond` pick. Assumes nothing.
+use Rattle.num.specs.Steps.{clamp_of}
+use Rattle.num.proofs.steps.clamp.Goals as goal
+
+pub returns-then-x-lo : goal.returns-then-x-lo
+unfolding clamp_of
+returns-then-x-lo c = rw c.if-x-lo.true
+
+pub returns-then-x-hi : goal.returns-then-x-hi
+unfolding clamp_of
+returns-then-x-hi c = rw (c.if-x-lo.false, c.if-x-hi.true)
+
+pub returns-else-x-hi : goal.returns-else-x-hi
+unfolding clamp_of
+returns-else-x-hi c = rw (c.if-x-lo.false, c.if-x-hi.false)
