@@ -1,0 +1,6 @@
+-- `raster::pixels::pixel` meets its contract: three bytes make 24 bits. Assumes nothing.
+use native.Mathlib.Omega.{arith}
+use Rattle.raster.proofs.pixels.pixel.Goals as goal
+
+pub returns : goal.returns
+returns c = simp (c.at-red.ensures.0, c.at-green.ensures.0, c.at-blue.ensures.0)
