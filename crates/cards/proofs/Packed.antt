@@ -48,6 +48,7 @@ bits-bits (suc k) v = joined-bits (bits-bits k (v / 2)) (one_bit v)
 -- the digits of what bits write
 digit : (bs : List ℕ) → IsBits bs → (k i : ℕ) → i < k → value_of bs k / 2 ^ (k - 1 - i) % 2 ≡ get_or bs i 0
 unfolding value_of
+digit bs h zero i l = elim l [ ]
 digit bs h (suc k) i l = go (λ m. digit bs h k i m) (dec_lt i k)
   where
     go : (i < k → value_of bs k / 2 ^ (k - 1 - i) % 2 ≡ get_or bs i 0) → Dec (i < k) → (value_of bs k * 2 + get_or bs k 0) / 2 ^ (suc k - 1 - i) % 2 ≡ get_or bs i 0
@@ -66,6 +67,7 @@ digit bs h (suc k) i l = go (λ m. digit bs h k i m) (dec_lt i k)
 -- byte j of what is packed
 pub byte_at : (n : ℕ) (bs : List ℕ) (j : ℕ) → j < n → get_or (pack n bs) j 0 ≡ value_of (drop (8 * j) bs) 8
 unfolding pack
+byte_at zero bs j h = elim h [ ]
 byte_at (suc n) bs zero h = refl
 byte_at (suc n) bs (suc j) h =
     let e : 8 + 8 * j ≡ 8 * suc j = omega arith in

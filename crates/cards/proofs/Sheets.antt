@@ -18,6 +18,7 @@ use Rattle.cards.proofs.Packed.{length-bits}
 -- bit i of k
 pub bits_at : (k v i : ℕ) → i < k → get_or (bits k v) i 0 ≡ v / 2 ^ (k - 1 - i) % 2
 unfolding bits
+bits_at Prim.Native.Nat.zero v i l = elim l [ ]
 bits_at (suc k) v i l = go (λ m. bits_at k (v / 2) i m) (dec_lt i k)
   where
     go : (i < k → get_or (bits k (v / 2)) i 0 ≡ v / 2 / 2 ^ (k - 1 - i) % 2) → Dec (i < k) → get_or (bits k (v / 2) ++ v % 2 ∷ []) i 0 ≡ v / 2 ^ (suc k - 1 - i) % 2

@@ -1,0 +1,16 @@
+-- `areas::marks::run_start` meets its contract: place after place. Assumes nothing.
+use Prim.Native.Nat.{ℕ, ◌-◌, ◌≤◌, ◌<◌}
+use mathlib.Core.Path.{◌≡◌}
+use mathlib.Core.Bool.{false}
+use native.Mathlib.Omega.{arith}
+use borrow.Author.Tests.{lt-ltb}
+use lib.ListN.{get_or}
+use Rattle.areas.specs.Private.{marked}
+use Rattle.areas.proofs.Marking.{not_yet}
+use Rattle.areas.proofs.marks.run_start.Given as goal
+
+abbrev pub invariant-loop-s : goal.invariant-loop-s
+invariant-loop-s l = (l.x ≤ l.s) × (l.s ≤ l.to) × ((z : ℕ) → l.x ≤ z → z < l.s → marked l.ends z ≡ false)
+
+abbrev pub decreases-loop-s : goal.decreases-loop-s
+decreases-loop-s l = l.to - l.s

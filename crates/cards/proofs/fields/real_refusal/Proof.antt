@@ -1,7 +1,0 @@
--- `cards::fields::real_refusal` meets its contract. Assumes nothing.
-use borrow.Author.Rules.{rules}
-use Rattle.cards.proofs.fields.real_refusal.Statement.{statement}
-use Rattle.cards.proofs.fields.real_refusal.Tie as tie
-
-pub real-refusal-spec : {M : Type 1} → statement M
-real-refusal-spec = tie.close (tie.spec (λ c. search rules) (λ c. search rules) (λ c. rw c.enum_told.given.1) (λ c. search rules))

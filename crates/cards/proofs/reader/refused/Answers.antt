@@ -1,0 +1,6 @@
+-- `cards::reader::refused` meets its contract. Assumes nothing.
+use borrow.Author.Rules.{rules}
+use Rattle.cards.proofs.reader.refused.Goals as goal
+
+pub returns : goal.returns
+returns c = simp c.filler-f.ensures

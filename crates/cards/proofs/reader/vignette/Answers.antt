@@ -1,0 +1,14 @@
+-- `cards::reader::vignette` meets its contract: each field was taken or refused, and the definition goes the same way. Assumes nothing.
+use borrow.Author.Rules.{rules}
+use lib.Ieee.{of_bits}
+use Rattle.cards.specs.Passes.{vignette_at}
+use Rattle.cards.proofs.Steps.{steps}
+use Rattle.cards.proofs.reader.vignette.Goals as goal
+
+pub returns-in_default : goal.returns-in_default
+unfolding vignette_at of_bits
+returns-in_default c = search steps
+
+pub returns : goal.returns
+unfolding vignette_at of_bits
+returns c = search steps
