@@ -1,16 +1,15 @@
 -- `cards::writer::byte_of` meets its contract: the value is what the first i bits of the byte write. Assumes nothing.
-use Prim.Native.Nat.{suc, ◌+◌, ◌*◌, ◌-◌, ◌^◌, ◌≤◌}
+use mathlib.Core.List.{List}
+use Prim.Native.Nat.{ℕ, suc, ◌+◌, ◌*◌, ◌-◌, ◌^◌, ◌≤◌, ◌<◌}
 use native.Mathlib.Omega.{arith}
 use native.Mathlib.Numerals.{add-one}
 use mathlib.Core.Path.{◌≡◌, refl, ap, ◌∙◌}
-use lib.ListN.{drop}
+use lib.ListN.{drop, get_or}
 use lib.Seq.{get_or-drop}
 use lib.Pow.{pow_mono}
 use Rattle.cards.specs.Written.{value_of}
 use Rattle.cards.proofs.Packed.{value_of_lt, dropped_bits}
 use Rattle.cards.proofs.writer.byte_of.Goals as goal
-use Rattle.cards.proofs.writer.byte_of.Lts as lts
-use Rattle.cards.proofs.writer.byte_of.Reads as reads
 
 -- in a turn twice the value and one more fits a byte
 below :
