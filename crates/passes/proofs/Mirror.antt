@@ -57,6 +57,10 @@ pick A B C k n p a b false t =
 -- k - n/2 is |2k - n| / 2, rounded, with a sign
 difference : (x c : Float) (n k : ℕ) → HasValue x false k 1 → HasValue c false n 2 → (s : Bool) × (x ⊖ c ≡ round binary32 s (gap n k) 2)
 unfolding sub add neg sum
+difference nan c n k v u = elim v [ ]
+difference (inf _) c n k v u = elim v [ ]
+difference (fin false m e) nan n k v u = elim u [ ]
+difference (fin false m e) (inf _) n k v u = elim u [ ]
 difference (fin true m e) c n k v u = absurd (true≢false v.0)
 difference (fin false m e) (fin true i d) n k v u = absurd (true≢false u.0)
 difference (fin false m e) (fin false i d) n k v u =
@@ -73,6 +77,8 @@ two_is = refl
 
 half_is : (x : Float) (n : ℕ) → HasValue x false n 1 → x ⊘ fin false 1 (pos 1) ≡ round binary32 false n 2
 unfolding div
+half_is nan n v = elim v [ ]
+half_is (inf _) n v = elim v [ ]
 half_is (fin true m e) n v = absurd (true≢false v.0)
 half_is (fin false m e) n v =
     round_same binary32 false (m * up e * 1) (2 * down e) n 2 (mul-pos (lit< tt) (down_pos e)) (lit< tt)

@@ -27,6 +27,10 @@ unfolding within mul
 times n k x y l h g = record { inside = mul-within n k x y l h.inside g.inside; sign = go x y h.inside g.inside h.sign g.sign }
   where
     go : (x y : Float) → T (within n x) → T (within k y) → Signed false x → Signed false y → Signed false (x ⊗ y)
+    go nan y h g s t = elim h [ ]
+    go (inf _) y h g s t = elim h [ ]
+    go (fin false m e) nan h g s t = elim g [ ]
+    go (fin false m e) (inf _) h g s t = elim g [ ]
     go (fin true m e) y h g s t = absurd (true≢false s)
     go (fin false m e) (fin true i d) h g s t = absurd (true≢false t)
     go (fin false m e) (fin false i d) h g s t = round_signed binary32 false (m * up e * (i * up d)) (down e * down d)
@@ -36,6 +40,10 @@ unfolding within add sum
 plus n k x y l h g = record { inside = add-within n k x y l h.inside g.inside; sign = go x y h.inside g.inside h.sign g.sign }
   where
     go : (x y : Float) → T (within n x) → T (within k y) → Signed false x → Signed false y → Signed false (x ⊕ y)
+    go nan y h g s t = elim h [ ]
+    go (inf _) y h g s t = elim h [ ]
+    go (fin false m e) nan h g s t = elim g [ ]
+    go (fin false m e) (inf _) h g s t = elim g [ ]
     go (fin true m e) y h g s t = absurd (true≢false s)
     go (fin false m e) (fin true i d) h g s t = absurd (true≢false t)
     go (fin false m e) (fin false i d) h g s t = round_signed binary32 false (m * up e * down d + i * up d * down e) (down e * down d)
@@ -50,6 +58,8 @@ channel k l = record { inside = subst (λ (y : Float). T (within 1 (whole k ⊘ 
     top = refl
 
     go : (x : Float) → HasValue x false k 1 → Signed false (x ⊘ c255_0)
+    go nan v = elim v [ ]
+    go (inf _) v = elim v [ ]
     go (fin true m e) v = absurd (true≢false v.0)
     go (fin false m e) v = round_signed binary32 false (m * up e * down (pos 0)) (255 * up (pos 0) * down e)
 
@@ -87,6 +97,8 @@ rounds x h = go x h.inside h.sign
     small a c l p = omega arith
 
     go : (x : Float) → T (within 9 x) → Signed false x → whole (cut_of (round_of x)) ≡ round_of x
+    go nan h s = elim h [ ]
+    go (inf _) h s = elim h [ ]
     go (fin true m e) h s = absurd (true≢false s)
     go (fin false m e) h s = ap whole (cut-round m e (small (m * up e) (down e) (size-le 9 false m e h) (down_pos e)))
 

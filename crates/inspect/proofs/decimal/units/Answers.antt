@@ -1,0 +1,29 @@
+-- `inspect::decimal::units` meets its contract: m * 2 ^ e units, as a whole number or as n * 5 ^ p / 10 ^ p. Assumes nothing.
+use mathlib.Core.Path.{sym, ◌∙◌}
+use native.Mathlib.Omega.{arith}
+use Rattle.inspect.proofs.Powers.{above, below, high_room, low_room}
+use Rattle.inspect.proofs.decimal.units.Goals as goal
+
+pub spell-requires : goal.spell-requires
+spell-requires c = c.requires.0
+
+pub scale-requires : goal.scale-requires
+scale-requires c = (c.spell.ensures.0, omega arith, omega arith, high_room _ _ _ c.spell.ensures.1 c.requires.1 c.requires.2)
+
+pub shape_of-digits-then-e-gt149 : goal.shape_of-digits-then-e-gt149
+shape_of-digits-then-e-gt149 c = c.scale.ensures.0.long ∙ sym c.requires.0
+
+pub returns-then-e-gt149 : goal.returns-then-e-gt149
+returns-then-e-gt149 c = (c.scale.ensures.0, omega arith, above _ _ _ _ c.if-e-gt149.true c.spell.ensures.1 c.scale.ensures.1)
+
+pub spell-requires-2 : goal.spell-requires-2
+spell-requires-2 c = c.requires.0
+
+pub scale-requires-2 : goal.scale-requires-2
+scale-requires-2 c = (c.spell-2.ensures.0, omega arith, omega arith, low_room _ _ _ _ c.spell-2.ensures.1 c.reduced-f.ensures.1 c.requires.1 (omega (arith, c.reduced-f.ensures.0)))
+
+pub shape_of-digits : goal.shape_of-digits
+shape_of-digits c = c.scale-2.ensures.0.long ∙ sym c.requires.0
+
+pub returns : goal.returns
+returns c = (c.scale-2.ensures.0, omega (arith, c.reduced-f.ensures.0), below _ _ _ _ _ _ c.if-e-gt149.false c.reduced-f.ensures.2 c.spell-2.ensures.1 c.scale-2.ensures.1)

@@ -1,0 +1,43 @@
+-- `inspect::hexadecimal::count` meets its contract: the bytes that are read are counted. Assumes nothing.
+use borrow.Author.Rules.{rules}
+use Prim.Native.Nat.{ℕ, ◌-◌, ◌≤◌}
+use native.Mathlib.Omega.{arith}
+use mathlib.Core.List.{List, [], ◌∷◌}
+use mathlib.Core.Path.{◌≡◌, refl, ap, sym, ◌∙◌}
+use lib.ListN.{length, length-append}
+use Rattle.inspect.specs.Private.{count_of}
+use Rattle.inspect.specs.declared.hexadecimal.Counted.TheVariants.{Bytes}
+use Rattle.inspect.proofs.Tokens.{Read, read_none, read-space, read_pair, read-other, read_all}
+use Rattle.inspect.proofs.hexadecimal.count.Invariants.{Counts}
+use Rattle.inspect.proofs.hexadecimal.count.Goals as goal
+
+pub loop-at-init : goal.loop-at-init
+loop-at-init c = record { done = _; read = read_none _; many = refl; less = omega arith }
+
+pub loop-at-preserved-in-Space : goal.loop-at-preserved-in-Space
+loop-at-preserved-in-Space c = let i = c.loop-at.invariant in
+    record {
+      done = i.done;
+      read = read-space i.read c.loop-at-test.true (sym c.in-Space.is ∙ c.token_at.ensures);
+      many = i.many;
+      less = omega (arith, i.less);
+    }
+
+pub overflow_add-n : goal.overflow_add-n
+overflow_add-n c = omega (arith, c.loop-at.invariant.less)
+
+pub loop-at-preserved : goal.loop-at-preserved
+loop-at-preserved c = let i = c.loop-at.invariant in
+    record {
+      done = _;
+      read = read_pair i.read c.loop-at-test.true _ (sym c.in-Pair.is ∙ c.token_at.ensures);
+      many = omega (arith, i.many, length-append i.done (c.in-Pair.field-0 ∷ []));
+      less = omega (arith, i.less);
+    }
+
+pub returns-in-Other : goal.returns-in-Other
+returns-in-Other c = sym (ap count_of (read-other c.loop-at.invariant.read c.loop-at-test.true (sym c.in-Other.is ∙ c.token_at.ensures)))
+
+pub returns : goal.returns
+returns c = let i = c.loop-at.invariant in
+    sym (ap count_of (read_all i.read c.loop-at-test.false) ∙ ap Bytes i.many)

@@ -1,0 +1,8 @@
+-- `passes::auto_gradient::fall` meets its contract. Assumes nothing.
+use Rattle.std.proofs.Common.{rules}
+use Rattle.passes.specs as Text
+use Rattle.passes.proofs.auto_gradient.fall.Goals as goal
+
+pub returns : goal.returns
+unfolding Text.AutoGradient.fall
+returns c = cc

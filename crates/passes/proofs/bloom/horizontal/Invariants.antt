@@ -1,0 +1,16 @@
+-- `passes::bloom::horizontal` meets its contract: row by row, three channels to a row of the planes. Assumes nothing.
+use Rattle.std.proofs.Common.{◌≡◌, ℕ, ◌+◌, ◌-◌, ◌*◌, ◌/◌, ◌%◌, ◌≤◌, length, get_or, take, drop, sym, ap, ◌∙◌, suc-mul, zero-mul, add-one, arith}
+use Rattle.passes.specs.Plain.Bloom.{bright_of}
+use Rattle.passes.specs.Samples.{samples as samples_of}
+use Rattle.passes.specs.Private.{at, blur_by, horizontal_by}
+use Rattle.passes.proofs.Counted.{rows_on, rows_few}
+use Rattle.passes.proofs.RowLoops.{Rowed, no_rows, row_in, row_length, row_by, rows_all}
+use Rattle.passes.proofs.Planes.{beside, beside_in, row_across}
+use Rattle.passes.proofs.bloom.horizontal.Given as goal
+
+abbrev pub invariant-loop-y : goal.invariant-loop-y
+invariant-loop-y l = (length l.line ≡ l.width) × (l.from ≡ l.y * l.width) × (l.samples ≡ l.y * samples_of l.width l.radius)
+    × Rowed (3 * l.width) l.height l.y l.at (λ i j v. horizontal_by (at l.w) l.width l.radius l.threshold l.frame (i / l.width) (i % l.width) j) l.initial.planes l.planes
+
+abbrev pub decreases-loop-y : goal.decreases-loop-y
+decreases-loop-y l = l.height - l.y

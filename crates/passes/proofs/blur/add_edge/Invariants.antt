@@ -1,0 +1,17 @@
+-- `passes::blur::add_edge` meets its contract. Assumes nothing.
+use Rattle.std.proofs.Common.{◌≡◌, ℕ, ◌+◌, ◌-◌, ◌*◌, ◌≤◌, length, sym, ap, ◌∙◌, arith}
+use lib.Ieee.{nan}
+use Rattle.num.specs.F32.{◌⊗◌}
+use Rattle.num.specs.Laws.Rewrite.{Rewritten, none, more, all}
+use Rattle.num.specs.Sums.{sum}
+use Rattle.num.specs.Laws.Sums.{sum-zero, sum_more, sum_bound}
+use Rattle.passes.specs.Private.{at, onward, insides}
+use Rattle.passes.proofs.Counted.{insides-few}
+use Rattle.passes.proofs.blur.add_edge.Given as goal
+
+abbrev pub invariant-loop-i : goal.invariant-loop-i
+invariant-loop-i l = Rewritten l.i (λ i. onward (λ j v. at l.src j ⊗ v) (length l.src) l.radius (l.start + i) l.k 4) l.initial.part l.part
+    × (l.samples ≡ sum l.i (λ i. insides (length l.src) l.radius l.k 4 (l.start + i)))
+
+abbrev pub decreases-loop-i : goal.decreases-loop-i
+decreases-loop-i l = length l.initial.part - l.i

@@ -1,0 +1,20 @@
+-- `passes::blur::add_four` meets its contract: four scaled samples are added at each place, from the front. Assumes nothing.
+use Rattle.std.proofs.Common.{◌-◌, length, refl, arith}
+use lib.Ieee.{nan}
+use Rattle.num.specs.Laws.Rewrite.{Rewritten, none, more, all}
+use Rattle.num.specs.F32.{◌⊕◌, ◌⊗◌}
+use Rattle.passes.specs.Private.{at}
+use Rattle.passes.proofs.blur.add_four.Goals as goal
+
+pub loop-i-init : goal.loop-i-init
+loop-i-init c = none _ _
+
+pub loop-i-preserved : goal.loop-i-preserved
+loop-i-preserved c = let l = c.loop-i in
+    more l.invariant nan (omega arith) refl
+
+pub shape_of-acc : goal.shape_of-acc
+shape_of-acc c = c.loop-i.invariant.kept
+
+pub returns : goal.returns
+returns c = (all c.loop-i.invariant (omega arith), omega arith)

@@ -1,0 +1,13 @@
+-- `passes::color_correction::by_curve` meets its contract. Assumes nothing.
+use Rattle.std.proofs.Common.{◌-◌, length, ap, ◌∙◌, arith}
+use Rattle.num.specs.Laws.Rewrite.{Rewritten, none, more, all}
+use Rattle.passes.specs as Text
+use Rattle.passes.specs.Private.{mark_unit, toned}
+use Rattle.passes.specs.Plain.ColorCorrection.{colour, power}
+use Rattle.passes.proofs.color_correction.by_curve.Given as goal
+
+abbrev pub invariant-loop-i : goal.invariant-loop-i
+invariant-loop-i l = Rewritten l.i (λ _ p. mark_unit (colour (power l.curve) l.brightness l.contrast l.saturation p)) l.initial.frame l.frame
+
+abbrev pub decreases-loop-i : goal.decreases-loop-i
+decreases-loop-i l = length l.initial.frame - l.i

@@ -1,0 +1,20 @@
+-- `passes::crt::row` meets its contract. Assumes nothing.
+use Rattle.std.proofs.Common.{◌-◌, length, arith}
+use Rattle.num.specs.Laws.Rewrite.{Rewritten, none, more, all}
+use Rattle.passes.specs.Plain.Crt.{word_at}
+use Rattle.passes.proofs.crt.row.Goals as goal
+
+pub offset-ny-requires : goal.offset-ny-requires
+offset-ny-requires c = (omega arith, omega arith)
+
+pub loop-x-init : goal.loop-x-init
+loop-x-init c = none _ _
+
+pub offset-requires : goal.offset-requires
+offset-requires c = (omega arith, omega arith)
+
+pub loop-x-preserved : goal.loop-x-preserved
+loop-x-preserved c = more c.loop-x.invariant 0 c.loop-x-test.true (cc)
+
+pub returns : goal.returns
+returns c = all c.loop-x.invariant c.loop-x-test.false

@@ -1,0 +1,11 @@
+-- `passes::curvature::rows` meets its contract: row by row. Assumes nothing.
+use Rattle.std.proofs.Common.{◌+◌, ◌-◌, ◌≤◌, length, arith}
+use Rattle.passes.specs.Plain.Curvature.{word_at}
+use Rattle.passes.proofs.RowLoops.{Rowed, no_rows, row_in, row_length, rows_all, row-loop}
+use Rattle.passes.proofs.curvature.rows.Given as goal
+
+abbrev pub invariant-loop-y : goal.invariant-loop-y
+invariant-loop-y l = Rowed l.width l.height l.y l.at (word_at l.width l.height l.amount l.copy) l.initial.frame l.frame
+
+abbrev pub decreases-loop-y : goal.decreases-loop-y
+decreases-loop-y l = l.height - l.y

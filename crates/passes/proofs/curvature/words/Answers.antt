@@ -1,0 +1,13 @@
+-- `passes::curvature::words` meets its contract. Assumes nothing.
+use Rattle.std.proofs.Common.{◌-◌, length, get_or, arith}
+use Rattle.num.specs.Laws.Rewrite.{Rewritten, none, more, all}
+use Rattle.passes.proofs.curvature.words.Goals as goal
+
+pub loop-x-init : goal.loop-x-init
+loop-x-init c = none _ _
+
+pub loop-x-preserved : goal.loop-x-preserved
+loop-x-preserved c = more c.loop-x.invariant 0 (omega arith) c.word.ensures
+
+pub returns : goal.returns
+returns c = all c.loop-x.invariant c.loop-x-test.false

@@ -1,0 +1,15 @@
+-- `passes::lut::greys` meets its contract. Assumes nothing.
+use Rattle.std.proofs.Common.{◌-◌, ◌*◌, length, ap, ◌∙◌, arith}
+use Rattle.num.specs.Laws.Rewrite.{Rewritten, none, more, all}
+use Rattle.passes.specs.Plain.Lut.{colour}
+use Rattle.passes.specs.Private.{entry}
+use Rattle.passes.proofs.lut.greys.Goals as goal
+
+pub loop-k-init : goal.loop-k-init
+loop-k-init c = none _ _
+
+pub loop-k-preserved : goal.loop-k-preserved
+loop-k-preserved c = more c.loop-k.invariant 0 c.loop-k-test.true (c.entry.ensures ∙ ap (entry _) c.colour.ensures)
+
+pub returns : goal.returns
+returns c = all c.loop-k.invariant c.loop-k-test.false

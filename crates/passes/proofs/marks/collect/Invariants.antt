@@ -1,0 +1,20 @@
+-- `passes::marks::collect` meets its contract: a mark is at most 255, so the sum fits. Assumes nothing.
+use Rattle.std.proofs.Common.{◌≡◌, ℕ, ◌+◌, ◌-◌, ◌*◌, ◌/◌, ◌%◌, ◌<◌, ◌≤◌, List, length, get_or, set, sym, refl, ap, ◌∙◌, ap₂, le_refl, arith}
+use Rattle.num.specs.Laws.Rewrite.{Rewritten, none, more, all, get_d_rewrite-rest}
+use Rattle.num.specs.Sums.{sum}
+use Rattle.num.specs.Laws.Sums.{sum-zero, sum_more}
+use Rattle.passes.specs.Private.{unmarked}
+use Rattle.passes.specs.Painted.{painted}
+use Rattle.passes.proofs.marks.collect.Given as goal
+
+-- the first i words are cleared, and the sum of their marks is n
+pub record Collecting (i : ℕ) (xs ys : List ℕ) (n : ℕ) : Type 0 where
+  pub words : Rewritten i (λ _ q. q % 16777216) xs ys
+  pub marks : n ≡ sum i (λ k. get_or xs k 0 / 16777216)
+  pub few : n ≤ 255 * i
+
+abbrev pub invariant-loop-i : goal.invariant-loop-i
+invariant-loop-i l = Collecting l.i l.initial.frame l.frame l.clipped
+
+abbrev pub decreases-loop-i : goal.decreases-loop-i
+decreases-loop-i l = length l.initial.frame - l.i

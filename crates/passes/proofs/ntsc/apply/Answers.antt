@@ -1,0 +1,69 @@
+-- `passes::ntsc::apply` meets its contract: local lines are lent up to the width, one of them with the sums of weights. Assumes nothing.
+use Rattle.std.proofs.Common.{◌≡◌, ℕ, List, length, take, sym, ap, ◌∙◌, arith, rules}
+use lib.Ieee.{Float}
+use Rattle.passes.specs as Text
+use Rattle.passes.specs.Rows.{placed}
+use Rattle.passes.specs.Laws.Rows.{frame_small, placed_ext}
+use Rattle.passes.specs.Plain.Ntsc.{colour_at, sample}
+use Rattle.passes.proofs.Offsets.{front, weight-at, blur_by_lem}
+use Rattle.passes.specs.Private.{at, ntsc_by, mark_clamped}
+use Rattle.passes.specs.declared.pixel.Rgb.{Rgb}
+use Rattle.passes.proofs.Chroma.{same_pixel}
+use Rattle.passes.proofs.Collected.{collected_clamped}
+use Rattle.passes.proofs.Counted.{rows_few}
+use Rattle.passes.proofs.ntsc.apply.Goals as goal
+use Rattle.passes.proofs.ntsc.apply.Lts as lts
+use Rattle.passes.proofs.ntsc.apply.Reads as reads
+use Rattle.passes.proofs.ntsc.apply.Tie as tie
+
+-- the front of each line is as long as a row
+module _ (c : lts.After-weight_line tie.the-claims reads.Pre reads.Post) where
+  abbrev start : lts.Start tie.the-claims reads.Pre reads.Post
+  start = c.before.before.before.before.before
+
+  abbrev row_long : (line : List Float) → length line ≡ 1024 → length (take start.args.width line) ≡ start.args.width
+  row_long line e = front line 1024 start.args.width e start.requires.fact_1.wide
+
+pub slice_bounds-rows-end : goal.slice_bounds-rows-end
+slice_bounds-rows-end c = sym (row_long c.before.before _ c.line-line.ensures)
+
+pub slice_bounds-rows-end-2 : goal.slice_bounds-rows-end-2
+slice_bounds-rows-end-2 c = sym (row_long c.before.before.before _ c.line-u.ensures)
+
+pub slice_bounds-rows-end-3 : goal.slice_bounds-rows-end-3
+slice_bounds-rows-end-3 c = sym (row_long c.before.before.before.before _ c.line-v.ensures)
+
+pub slice_bounds-rows-end-4 : goal.slice_bounds-rows-end-4
+slice_bounds-rows-end-4 c = sym (row_long c.before.before.before.before.before _ c.weight_line-w.ensures.long)
+
+pub rows-samples-requires : goal.rows-samples-requires
+rows-samples-requires c = (
+  ((start c.before.before.before.before.before).requires.1, row_long c.before.before.before.before.before _ c.line-line.ensures, row_long c.before.before.before.before.before _ c.line-u.ensures, row_long c.before.before.before.before.before _ c.line-v.ensures, row_long c.before.before.before.before.before _ c.weight_line-w.ensures.long),
+  (start c.before.before.before.before.before).requires.0,
+)
+
+pub collect-clipped-requires : goal.collect-clipped-requires
+collect-clipped-requires c = omega (arith, c.rows-samples.auto.frame, frame_small (start c.before.before.before.before.before.before.before.before.before.before.before.before).pre.0)
+
+pub overflow_cast-result : goal.overflow_cast-result
+overflow_cast-result c = let s = start c.before.before.before.before.before.before.before.before.before.before.before.before.before.before.before.before in
+    let few = rows_few s.args.height s.args.width s.args.bleed s.pre.0.high s.pre.0.wide s.pre.1 c.rows-samples.ensures.1 in
+    omega (arith, few)
+
+pub returns : goal.returns
+unfolding Text.Ntsc.ntsc Text.Samples.ntsc_samples
+returns c = let a = (start c.before.before.before.before.before.before.before.before.before.before.before.before.before.before.before.before).args in
+    let sums : ℕ → Float = at (take a.width c.weight_line-w.result) in
+    let colours : ℕ → ℕ → ℕ → Rgb = colour_at a.width a.strength a.bleed a.frame.now in (
+      collected_clamped (placed a.width colours) _ _
+          (c.rows-samples.ensures.0
+          ∙ placed_ext a.width a.height a.frame.now (λ x y p. mark_clamped (ntsc_by sums a.width a.strength a.bleed a.frame.now x y p))
+          (λ x y p. mark_clamped (colours x y p)) (start c.before.before.before.before.before.before.before.before.before.before.before.before.before.before.before.before).requires.0.area
+          (λ x y p l m.
+          let e = weight-at c.weight_line-w.result a.width a.bleed x c.weight_line-w.ensures l in
+          ap mark_clamped (same_pixel a.strength p
+          (blur_by_lem sums (λ i. sample 0 a.frame.now a.width i y) a.width a.bleed x e)
+          (blur_by_lem sums (λ i. sample 1 a.frame.now a.width i y) a.width a.bleed x e))))
+          c.collect-clipped.ensures,
+      c.rows-samples.ensures.1,
+    )

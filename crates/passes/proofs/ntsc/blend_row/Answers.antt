@@ -1,0 +1,15 @@
+-- `passes::ntsc::blend_row` meets its contract. Assumes nothing.
+use Rattle.std.proofs.Common.{◌-◌, length, arith}
+use Rattle.num.specs.Laws.Rewrite.{Rewritten, none, more, all}
+use Rattle.passes.specs.Plain.Ntsc.{pixel}
+use Rattle.passes.specs.Private.{at, mark_clamped}
+use Rattle.passes.proofs.ntsc.blend_row.Goals as goal
+
+pub loop-x-init : goal.loop-x-init
+loop-x-init c = none _ _
+
+pub loop-x-preserved : goal.loop-x-preserved
+loop-x-preserved c = more c.loop-x.invariant 0 (omega arith) c.pixel.ensures
+
+pub returns : goal.returns
+returns c = all c.loop-x.invariant c.loop-x-test.false

@@ -1,0 +1,16 @@
+-- `passes::persistence::add_line` meets its contract. Assumes nothing.
+use Rattle.std.proofs.Common.{◌-◌, length, get_or, arith}
+use lib.Ieee.{nan}
+use Rattle.num.specs.F32.{◌⊕◌, ◌⊗◌}
+use Rattle.num.specs.Laws.Rewrite.{Rewritten, none, more, all}
+use Rattle.passes.specs.Plain.Pixel.{channel, unpack}
+use Rattle.passes.proofs.persistence.add_line.Goals as goal
+
+pub loop-i-init : goal.loop-i-init
+loop-i-init c = none _ _
+
+pub loop-i-preserved : goal.loop-i-preserved
+loop-i-preserved c = more c.loop-i.invariant nan (omega arith) (cc)
+
+pub returns : goal.returns
+returns c = all c.loop-i.invariant c.loop-i-test.false

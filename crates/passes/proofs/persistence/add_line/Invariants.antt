@@ -1,0 +1,13 @@
+-- `passes::persistence::add_line` meets its contract. Assumes nothing.
+use Rattle.std.proofs.Common.{◌-◌, length, get_or, arith}
+use lib.Ieee.{nan}
+use Rattle.num.specs.F32.{◌⊕◌, ◌⊗◌}
+use Rattle.num.specs.Laws.Rewrite.{Rewritten, none, more, all}
+use Rattle.passes.specs.Plain.Pixel.{channel, unpack}
+use Rattle.passes.proofs.persistence.add_line.Given as goal
+
+abbrev pub invariant-loop-i : goal.invariant-loop-i
+invariant-loop-i l = Rewritten l.i (λ x v. v ⊕ channel l.which (unpack (get_or l.part x 0)) ⊗ l.w) l.initial.acc l.acc
+
+abbrev pub decreases-loop-i : goal.decreases-loop-i
+decreases-loop-i l = length l.initial.acc - l.i

@@ -1,0 +1,12 @@
+-- `passes::persistence::refill` meets its contract: place by place. Assumes nothing.
+use Rattle.std.proofs.Common.{◌-◌, ◌*◌, ◌++◌, length, drop, sym, ap, ◌∙◌, arith, take_all}
+use Rattle.passes.specs.Plain.Persistence.{copies, refilled}
+use Rattle.passes.specs.Laws.Persistence.{length-copies}
+use Rattle.passes.proofs.Places.{Written, none, place_in, place-length, more, all, copies-place}
+use Rattle.passes.proofs.persistence.refill.Given as goal
+
+abbrev pub invariant-loop-j : goal.invariant-loop-j
+invariant-loop-j l = Written (length l.frame) l.depth l.j l.at (copies l.depth l.frame) l.initial.history l.history
+
+abbrev pub decreases-loop-j : goal.decreases-loop-j
+decreases-loop-j l = l.depth - l.j

@@ -1,0 +1,7 @@
+-- `passes::pixel::unit` meets its contract. Assumes nothing.
+use Rattle.passes.specs as Text
+use Rattle.passes.proofs.pixel.unit.Goals as goal
+
+pub returns : goal.returns
+unfolding Text.Pixel.unit
+returns c = cc

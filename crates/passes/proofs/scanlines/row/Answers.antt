@@ -1,0 +1,31 @@
+-- `passes::scanlines::row` meets its contract: an even row stays, and each word of an odd one is dimmed. Assumes nothing.
+use Rattle.std.proofs.Common.{◌≡◌, ℕ, zero, suc, ◌-◌, length, sym, refl, ◌∙◌, arith}
+use lib.Ieee.{Float}
+use Rattle.num.specs.Const.{c1_0}
+use Rattle.num.specs.F32.{◌⊖◌}
+use Rattle.num.specs.Laws.Rewrite.{Rewritten, none, more, all, rewrite_same}
+use Rattle.passes.specs as Text
+use Rattle.passes.specs.Plain.Scanlines.{word_at, in_row}
+use Rattle.passes.specs.Plain.Pixel.{dim}
+use Rattle.passes.proofs.scanlines.row.Goals as goal
+
+even : (n : ℕ) (s : Float) (p : ℕ) → n ≡ 0 → in_row n s p ≡ p
+unfolding Text.Scanlines.in_row
+even n s p e = rw e
+
+odd : (n : ℕ) (s : Float) (p : ℕ) → (n ≡ 0 → ⊥) → dim (c1_0 ⊖ s) p ≡ in_row n s p
+unfolding Text.Scanlines.in_row
+odd zero s p h = absurd (h refl)
+odd (suc n) s p h = refl
+
+pub returns-then-y-eq0 : goal.returns-then-y-eq0
+returns-then-y-eq0 c = sym (rewrite_same _ _ _ (λ k p l. even _ _ p c.if-y-eq0.true))
+
+pub loop-x-init : goal.loop-x-init
+loop-x-init c = none _ _
+
+pub loop-x-preserved : goal.loop-x-preserved
+loop-x-preserved c = more c.loop-x.invariant 0 c.loop-x-test.true (c.dim.ensures ∙ odd _ _ _ c.if-y-eq0.false)
+
+pub returns : goal.returns
+returns c = all c.loop-x.invariant c.loop-x-test.false

@@ -1,0 +1,13 @@
+-- `passes::vignette::squares` meets its contract. Assumes nothing.
+use Rattle.std.proofs.Common.{◌-◌, length, ap, arith}
+use lib.Ieee.{Float, nan}
+use Rattle.num.specs.F32.{◌⊕◌}
+use Rattle.num.specs.Laws.Rewrite.{Rewritten, none, more, all}
+use Rattle.passes.specs.Plain.Vignette.{offset_squared}
+use Rattle.passes.proofs.vignette.squares.Given as goal
+
+abbrev pub invariant-loop-x : goal.invariant-loop-x
+invariant-loop-x l = Rewritten l.x (λ k _. offset_squared l.width k ⊕ l.yy) l.initial.line l.line
+
+abbrev pub decreases-loop-x : goal.decreases-loop-x
+decreases-loop-x l = length l.initial.line - l.x
