@@ -1,6 +1,7 @@
 -- The vignette's square is the same at k and at n - k, to the bit, so it need be worked out only at the nearer of the two.
 -- k - n/2 has one size at both, |2k - n| / 2, however that is rounded; a quotient changes its sign with it, and a square drops the sign.
 -- Assumes nothing.
+use lib.Ieee.{nan, inf}
 use Rattle.std.proofs.Common.{◌≡◌, ℕ, ◌+◌, ◌-◌, ◌*◌, ◌<◌, ◌≤◌, min, Bool, true, false, cond, ltb, pos, sym, refl, ap, ◌∙◌, subst, true≢false, mul_assoc, mul_comm, add-mul, mul-pos, mul-one, mul_right_comm, arith, lit<, ltb-false, ltb-true}
 use native.Mathlib.Nat.{mul-sub}
 use lib.Ieee.{Float, fin, binary32, up, down, round, sum, add, sub, div, neg, of_bits}

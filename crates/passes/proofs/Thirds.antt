@@ -1,5 +1,6 @@
 -- Game Boy's level. A word's channels as 0..1 are none of them negative, so their luma is from +0 to 3, and three times that from +0 to 9. There
 -- `nearest`, as a float, is `round`. Assumes nothing.
+use lib.Ieee.{nan, inf}
 use Rattle.std.proofs.Common.{◌≡◌, ℕ, ◌+◌, ◌*◌, ◌/◌, ◌%◌, ◌<◌, ◌≤◌, true, false, T, pos, refl, ap, ◌∙◌, subst, true≢false, arith, lit<, lit≤}
 use lib.Ieee.{Float, fin, binary32, up, down, add, mul, div, sum, of_int, of_bits}
 use lib.Ieee.Fits.{down_pos}

@@ -17,9 +17,9 @@ pub use Scanlines.{scanlines-inside}
 pub use Vignette.{vignette-inside}
 pub use Crt.{crt-inside}
 pub use Curvature.{curvature-inside}
-pub use AutoGradient.{auto-gradient-inside}
+pub use AutoGradient.{auto_gradient_inside}
 pub use Lut.{lut-inside}
-pub use ColorCorrection.{color-correction-inside}
+pub use ColorCorrection.{color_correction_inside}
 pub use Ntsc.{ntsc-inside}
 pub use Bloom.{bloom-inside}
 pub use Persistence.{persistence-inside}

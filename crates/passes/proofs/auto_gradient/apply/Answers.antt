@@ -41,10 +41,10 @@ module _ (c : lts.After-falls tie.the-claims reads.Pre reads.Post) where
   many : length kept ≡ width lines
   many = ap length begins ∙ c.falls.auto.line ∙ part lines
 
-  keeps : (x : ℕ) → x < width lines → at kept x ≡ fall (width lines) (start lines).args.horizontal lines.adaptive-a.result x
+  keeps : (x : ℕ) → x < width lines → at kept x ≡ fall (width lines) lines.args.horizontal lines.adaptive-a.result x
   keeps x l =
       let line = take (width lines) lines.line-line.result in
-      let horizontal = (start lines).args.horizontal in
+      let horizontal = lines.args.horizontal in
       let a = lines.adaptive-a.result in
       ap (λ (z : List Float). at z x) (begins ∙ c.falls.ensures)
       ∙ get_d_fill (fall (length line) horizontal a) line x nan (omega (arith, part lines))
@@ -57,13 +57,13 @@ pub adaptive-a-requires : goal.adaptive-a-requires
 adaptive-a-requires c = omega (arith, frame_small c.requires)
 
 pub slice_bounds-line-end : goal.slice_bounds-line-end
-slice_bounds-line-end c = omega (arith, c.line-line.ensures, (start c).requires.wide)
+slice_bounds-line-end c = omega (arith, c.line-line.ensures, c.requires.wide)
 
 pub slice_bounds-falls-end : goal.slice_bounds-falls-end
 slice_bounds-falls-end c = sym (part c.before)
 
 pub falls-requires : goal.falls-requires
-falls-requires c = omega (arith, part c.before, (start c.before).pre.wide)
+falls-requires c = omega (arith, part c.before, c.requires.wide)
 
 pub slice_bounds-line-end-2 : goal.slice_bounds-line-end-2
 slice_bounds-line-end-2 c = simp length-append (omega (arith, c.falls.auto.line, part (lines c.before.before)))
@@ -72,20 +72,19 @@ pub slice_bounds-rows-end : goal.slice_bounds-rows-end
 slice_bounds-rows-end c = sym (many c.before.before.before)
 
 pub rows-requires : goal.rows-requires
-rows-requires c = ((start (lines c.before.before.before)).pre, many c.before.before.before)
+rows-requires c = (c.requires, many c.before.before.before)
 
 pub collect-requires : goal.collect-requires
-collect-requires c = omega (arith, c.rows.auto.frame, frame_small (start (lines c.before.before.before.before.before.before.before)).pre)
+collect-requires c = omega (arith, c.rows.auto.frame, frame_small c.requires)
 
 pub returns : goal.returns
 unfolding Text.AutoGradient.auto_gradient Text.AutoGradient.shaded
-returns c = let s = start (lines c.before.before.before.before.before.before.before.before.before.before.before) in
-    let a = s.args in
-    let scene = (lines c.before.before.before.before.before.before.before.before.before.before.before).before.adaptive.result in
+returns c = let a = c.args in
+    let scene = c.adaptive-a.result in
     let same : scene ≡ adaptive a.strength (length a.frame.now) (fold add_luma c0_0 a.frame.now) = cc in
     collected_clamped (placed a.width (colour_at a.width a.height a.vertical a.horizontal scene)) _ _
     (c.rows.ensures
-    ∙ placed_ext a.width a.height a.frame.now _ _ s.pre.area
+    ∙ placed_ext a.width a.height a.frame.now _ _ c.requires.area
     (λ x y p l m.
     let t = warm a.height y a.vertical scene in
     ap (λ (z : Float). mark_clamped (shade t (brightness t z) p)) (keeps c.before.before.before.before.before.before.before.before.before.before.before x l)))

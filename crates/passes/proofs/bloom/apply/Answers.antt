@@ -22,8 +22,8 @@ three-wide : (n h w : ℕ) → n ≡ h * w → 3 * n ≡ h * (3 * w)
 three-wide n h w e = ap (λ (m : ℕ). 3 * m) e ∙ sym (mul_assoc 3 h w) ∙ ap (λ (m : ℕ). m * w) (mul_comm 3 h) ∙ mul_assoc h 3 w
 
 -- once the lines are made: what is lent of them and of the scratch
-module _ (c : lts.After-line3 tie.the-claims reads.Pre reads.Post) where
-  abbrev start : lts.Start tie.the-claims reads.Pre reads.Post
+module _ (c : lts.After-line3 tie.the-claims reads.Pre reads.Post tie.handed_clauses) where
+  abbrev start : lts.Start tie.the-claims reads.Pre reads.Post tie.handed_clauses
   start = c.before.before.before.before.before
 
   abbrev words : ℕ
@@ -42,26 +42,26 @@ module _ (c : lts.After-line3 tie.the-claims reads.Pre reads.Post) where
   sums_long = front c.line3-sums.result 3072 (3 * start.args.width) c.line3-sums.ensures (omega (arith, start.requires.fact_1.wide))
 
 -- once the planes are written
-module _ (c : lts.After-horizontal tie.the-claims reads.Pre reads.Post) where
-  abbrev lines : lts.After-line3 tie.the-claims reads.Pre reads.Post
-  lines = c.before.before.before.before.before.before
+module _ (c : lts.After-horizontal tie.the-claims reads.Pre reads.Post tie.handed_clauses) where
+  abbrev lines : lts.After-line3 tie.the-claims reads.Pre reads.Post tie.handed_clauses
+  lines = c.before.before.before.before.before
 
   written : length c.horizontal-across.new.planes ≡ words lines
   written = c.horizontal-across.auto.planes ∙ planes_long lines
 
   abbrev lent : List Float
-  lent = take (words lines) (c.horizontal-across.new.planes ++ drop (words lines) (start lines).args.scratch.now)
+  lent = take (words lines) (c.horizontal-across.new.planes ++ drop (words lines) lines.args.scratch.now)
 
   shared : lent ≡ c.horizontal-across.new.planes
   shared = take_at _ _ _ written
 
   -- a sample of the planes, blurred along its column, is the definition's
-  glows : (which x y : ℕ) → which < 3 → x < (start lines).args.width
-      → let a = (start lines).args in
+  glows : (which x y : ℕ) → which < 3 → x < lines.args.width
+      → let a = lines.args in
       down a.height a.radius (stored lent a.width which) x y
       ≡ down a.height a.radius (horizontal a.width a.radius (whole a.threshold) a.frame.now which) x y
   glows which x y i l =
-      let a = (start lines).args in
+      let a = lines.args in
       let line = lines.weight_line-w in
       let sums : ℕ → Float = at (take a.width line.result) in
       let t : Float = whole a.threshold in
@@ -73,47 +73,34 @@ module _ (c : lts.After-horizontal tie.the-claims reads.Pre reads.Post) where
       (λ n m. blur_by_lem sums (λ k. sample t a.frame.now a.width which k n) a.width a.radius x (weight-at line.result a.width a.radius x line.ensures l))
 
 -- what both directions take
-module _ (c : lts.After-slice_known5 tie.the-claims reads.Pre reads.Post) where
-  abbrev downed : lts.After-composite_rows tie.the-claims reads.Pre reads.Post
+module _ (c : lts.After-slice_known5 tie.the-claims reads.Pre reads.Post tie.handed_clauses) where
+  abbrev downed : lts.After-composite_rows tie.the-claims reads.Pre reads.Post tie.handed_clauses
   downed = c.before.before.before.before.before.before.before
 
-  abbrev crossed : lts.After-horizontal tie.the-claims reads.Pre reads.Post
-  crossed = downed.before.before.before.before.before.before.before
+  abbrev crossed : lts.After-horizontal tie.the-claims reads.Pre reads.Post tie.handed_clauses
+  crossed = downed.before.before.before.before.before.before
 
   few : crossed.horizontal-across.result + downed.composite_rows-down.result ≤ 270532608
   few =
       let s = start (lines crossed) in
       omega (
         arith,
-        rows_few s.args.height s.args.width s.args.radius s.pre.0.high s.pre.0.wide s.pre.1.0 crossed.horizontal-across.ensures.1,
-        rows_few s.args.width s.args.height s.args.radius s.pre.0.wide s.pre.0.high s.pre.1.0 downed.composite_rows-down.ensures.1,
+        rows_few s.args.height s.args.width s.args.radius s.requires.fact_1.high s.requires.fact_1.wide s.requires.fact_2.0 crossed.horizontal-across.ensures.1,
+        rows_few s.args.width s.args.height s.args.radius s.requires.fact_1.wide s.requires.fact_1.high s.requires.fact_2.0 downed.composite_rows-down.ensures.1,
       )
 
-pub slice_bounds-horizontal-end-2 : goal.slice_bounds-horizontal-end-2
-slice_bounds-horizontal-end-2 c = sym (planes_long c.before)
-
-pub slice_bounds-horizontal-end-3 : goal.slice_bounds-horizontal-end-3
-slice_bounds-horizontal-end-3 c = sym (row_long c.before.before.before _ c.line-line.ensures)
-
-pub slice_bounds-horizontal-end-4 : goal.slice_bounds-horizontal-end-4
-slice_bounds-horizontal-end-4 c = sym (row_long c.before.before.before.before _ c.weight_line-w.ensures.long)
-
 pub horizontal-across-requires : goal.horizontal-across-requires
-horizontal-across-requires c = let p = (start c.before.before.before.before.before.before).requires in
-    ((p.1.0, planes_long c.before.before.before.before.before.before ∙ planes_sized c.before.before.before.before.before.before, row_long c.before.before.before.before.before.before _ c.line-line.ensures, row_long c.before.before.before.before.before.before _ c.weight_line-w.ensures.long), p.0)
-
-pub slice_bounds-composite_rows-end-2 : goal.slice_bounds-composite_rows-end-2
-slice_bounds-composite_rows-end-2 c = sym (ap length (shared c.before.before.before.before.before.before) ∙ written c.before.before.before.before.before.before)
-
-pub slice_bounds-composite_rows-end-3 : goal.slice_bounds-composite_rows-end-3
-slice_bounds-composite_rows-end-3 c = sym (sums_long (lines c.before.before.before.before.before.before.before))
+horizontal-across-requires c = let p = c.requires in
+    record {
+      fact_1 = (p.fact_2.0, planes_long c.before.before.before.before.before ∙ planes_sized c.before.before.before.before.before, row_long c.before.before.before.before.before _ c.line-line.ensures, row_long c.before.before.before.before.before _ c.weight_line-w.ensures.long);
+      fact_2 = p.fact_1;
+    }
 
 pub composite_rows-down-requires : goal.composite_rows-down-requires
-composite_rows-down-requires c = let k = lines c.before.before.before.before.before.before.before in
-    (((start k).pre.1.0, ap length (shared c.before.before.before.before.before.before.before) ∙ written c.before.before.before.before.before.before.before ∙ planes_sized k, sums_long k), (start k).pre.0)
+composite_rows-down-requires c = record { fact_1 = (c.requires.fact_2.0, ap length (shared c.before.before.before.before.before.before) ∙ written c.before.before.before.before.before.before ∙ planes_sized c.before.before.before.before.before.before.before.before.before.before.before, sums_long c.before.before.before.before.before.before.before.before.before.before.before); fact_2 = c.requires.fact_1 }
 
 pub collect-clipped-requires : goal.collect-clipped-requires
-collect-clipped-requires c = omega (arith, c.composite_rows-down.auto.frame, frame_small (start (lines c.before.before.before.before.before.before.before.before.before.before.before.before)).pre.0)
+collect-clipped-requires c = omega (arith, c.composite_rows-down.auto.frame, frame_small c.requires.fact_1)
 
 pub overflow_add-result : goal.overflow_add-result
 overflow_add-result c = omega (arith, few c.before)
@@ -123,15 +110,15 @@ overflow_cast-result c = omega (arith, few c.before)
 
 pub returns : goal.returns
 unfolding Text.Bloom.bloom Text.Samples.bloom_samples
-returns c = let s = start (lines c.before.before.before.before.before.before.before.before.before.before.before.before.before.before.before) in
+returns c = let s = c in
     let a = s.args in
     let glowing : ℕ → ℕ → ℕ → Rgb = λ x y. composite a.strength (vertical a.height a.radius (horizontal a.width a.radius (whole a.threshold) a.frame.now) x y) in (
       collected_clamped (placed a.width glowing) _ _
           (c.composite_rows-down.ensures.0
-          ∙ placed_ext a.width a.height a.frame.now (λ x y p. mark_clamped (composite a.strength (vertical a.height a.radius (stored (lent c.before.before.before.before.before.before.before.before.before.before.before.before.before.before.before) a.width) x y) p))
-          (λ x y p. mark_clamped (glowing x y p)) s.pre.0.area
-          (λ x y p l m. ap mark_clamped (same_composite a.strength p (glows c.before.before.before.before.before.before.before.before.before.before.before.before.before.before.before 0 x y (omega arith) l) (glows c.before.before.before.before.before.before.before.before.before.before.before.before.before.before.before 1 x y (omega arith) l) (glows c.before.before.before.before.before.before.before.before.before.before.before.before.before.before.before 2 x y (omega arith) l))))
+          ∙ placed_ext a.width a.height a.frame.now (λ x y p. mark_clamped (composite a.strength (vertical a.height a.radius (stored (lent c.before.before.before.before.before.before.before.before.before.before.before.before.before.before) a.width) x y) p))
+          (λ x y p. mark_clamped (glowing x y p)) s.requires.fact_1.area
+          (λ x y p l m. ap mark_clamped (same_composite a.strength p (glows c.before.before.before.before.before.before.before.before.before.before.before.before.before.before 0 x y (omega arith) l) (glows c.before.before.before.before.before.before.before.before.before.before.before.before.before.before 1 x y (omega arith) l) (glows c.before.before.before.before.before.before.before.before.before.before.before.before.before.before 2 x y (omega arith) l))))
           c.collect-clipped.ensures,
       ap₂ (λ (across down : ℕ). across + down) c.horizontal-across.ensures.1 c.composite_rows-down.ensures.1,
-      drop_at c.horizontal-across.new.planes (drop (words (lines c.before.before.before.before.before.before.before.before.before.before.before.before.before.before.before)) a.scratch.now) (words (lines c.before.before.before.before.before.before.before.before.before.before.before.before.before.before.before)) (written c.before.before.before.before.before.before.before.before.before.before.before.before.before.before.before),
+      drop_at c.horizontal-across.new.planes (drop (words (lines c.before.before.before.before.before.before.before.before.before.before.before.before.before.before)) a.scratch.now) (words (lines c.before.before.before.before.before.before.before.before.before.before.before.before.before.before)) (written c.before.before.before.before.before.before.before.before.before.before.before.before.before.before),
     )

@@ -28,35 +28,35 @@ sum-down planes before sums w h radius y i j q e f g d l =
     ∙ ap (λ (n : ℕ). quotient (weighted (λ k. cell planes n j k) h radius y) q) e
     ∙ ap (quotient (weighted (λ k. cell planes (3 * w) j k) h radius y)) g
 
-module _ (c : lts.In-loop tie.the-claims reads.Pre reads.Post goal.the-invariant-loop-y goal.the-decreases-loop-y) where
-  abbrev start : lts.Start tie.the-claims reads.Pre reads.Post goal.the-invariant-loop-y goal.the-decreases-loop-y
+module _ (c : lts.In-loop tie.the-claims reads.Pre reads.Post goal.the-invariant-loop-y goal.the-decreases-loop-y tie.handed_clauses) where
+  abbrev start : lts.Start tie.the-claims reads.Pre reads.Post goal.the-invariant-loop-y goal.the-decreases-loop-y tie.handed_clauses
   start = c.before.before.before.before.before
 
   abbrev frame_in_lem : c.loop-y.at + start.args.width ≤ length start.args.frame.now
   frame_in_lem = row_in c.loop-y.invariant.2 c.loop-y-test.true
 
 -- the rows' count is that of a column
-all-taken : (c : lts.After-loop tie.the-claims reads.Pre reads.Post goal.the-invariant-loop-y goal.the-decreases-loop-y) → let a = c.args in c.loop-y.taken ≡ samples_of a.height a.radius
+all-taken : (c : lts.After-loop tie.the-claims reads.Pre reads.Post goal.the-invariant-loop-y goal.the-decreases-loop-y tie.handed_clauses) → let a = c.args in c.loop-y.taken ≡ samples_of a.height a.radius
 all-taken c =
     let l = c.loop-y in
     let a = c.args in
     above_all a.height a.radius l.y (omega (arith, l.invariant.2.rows, c.loop-y-test.false)) l.invariant.1
 
 pub loop-y-init : goal.loop-y-init
-loop-y-init c = let p = c.requires in (p.0.2, sym (sum-zero _), no_rows _ p.1.area)
+loop-y-init c = let p = c.requires in (p.fact_1.2, sym (sum-zero _), no_rows _ p.fact_2.area)
 
 pub overflow_add-end : goal.overflow_add-end
 overflow_add-end c = omega (arith, frame_in_lem c.before)
 
 pub accumulate_rows-taken-requires : goal.accumulate_rows-taken-requires
-accumulate_rows-taken-requires c = let p = (start c.before.before).requires in
-    (p.0.0, c.loop-y-test.true, p.1.high, p.0.1 ∙ ap (λ (m : ℕ). (start c.before.before).args.height * m) (sym c.loop-y.invariant.0))
+accumulate_rows-taken-requires c = let p = c.requires in
+    (p.fact_1.0, c.loop-y-test.true, p.fact_2.high, p.fact_1.1 ∙ ap (λ (m : ℕ). c.args.height * m) (sym c.loop-y.invariant.0))
 
 pub overflow_add-taken : goal.overflow_add-taken
 overflow_add-taken c = let o = c.loop-y in
-    let a = (start c.before.before.before.before.before).args in
-    let p = (start c.before.before.before.before.before).requires in
-    let few = above-few a.height a.radius (o.y + 1) (omega (arith, c.loop-y-test.true, p.1.high)) p.0.0
+    let a = c.args in
+    let p = c.requires in
+    let few = above-few a.height a.radius (o.y + 1) (omega (arith, c.loop-y-test.true, p.fact_2.high)) p.fact_1.0
     (above_on a.height a.radius o.y o.invariant.1 c.accumulate_rows-taken.ensures.1) in
     omega (arith, few)
 
@@ -71,15 +71,15 @@ composite_row-requires c = c.accumulate_rows-taken.auto.acc ∙ c.loop-y.invaria
 
 pub loop-y-preserved : goal.loop-y-preserved
 loop-y-preserved c = let o = c.loop-y in
-    let a = (start c.before.before.before.before.before.before.before.before.before.before.before).args in
+    let a = c.args in
     let w = a.width in
     let t = c.loop-y-test.true in
     let part = take (o.at + w - o.at) (drop o.at o.frame) in
     let sums = c.accumulate_rows-taken.new.acc in
     let g = c.weight_sum-w.result in
     let n : length part ≡ w = row_length o.invariant.2 t in
-    let down-at : (c.before.before.before.before.before.before.before.before.before.before.before j : ℕ) → c.before.before.before.before.before.before.before.before.before.before.before ≡ j → j < 3 * w → quotient (at sums c.before.before.before.before.before.before.before.before.before.before.before) g ≡ down a.height a.radius (λ x y. cell a.planes.now (3 * w) x y) j o.y
-    = λ i j d l. sum-down a.planes.now o.sums sums w a.height a.radius o.y c.before.before.before.before.before.before.before.before.before.before.before j g o.invariant.0 c.accumulate_rows-taken.ensures.0 c.weight_sum-w.ensures d l in (
+    let down-at : (i j : ℕ) → i ≡ j → j < 3 * w → quotient (at sums i) g ≡ down a.height a.radius (λ x y. cell a.planes.now (3 * w) x y) j o.y
+    = λ i j d l. sum-down a.planes.now o.sums sums w a.height a.radius o.y i j g o.invariant.0 c.accumulate_rows-taken.ensures.0 c.weight_sum-w.ensures d l in (
       c.accumulate_rows-taken.auto.acc ∙ o.invariant.0,
       above_on a.height a.radius o.y o.invariant.1 c.accumulate_rows-taken.ensures.1,
       row_by o.invariant.2 (λ x p. mark_clamped (composite a.strength (rgb (quotient (at sums x) g) (quotient (at sums (length part + x)) g) (quotient (at sums (2 * length part + x)) g)) p)) _ t

@@ -11,8 +11,8 @@ use Rattle.passes.proofs.bloom.horizontal.Lts as lts
 use Rattle.passes.proofs.bloom.horizontal.Reads as reads
 use Rattle.passes.proofs.bloom.horizontal.Tie as tie
 
-module _ (c : lts.In-loop tie.the-claims reads.Pre reads.Post goal.the-invariant-loop-y goal.the-decreases-loop-y) where
-  abbrev start : lts.Start tie.the-claims reads.Pre reads.Post goal.the-invariant-loop-y goal.the-decreases-loop-y
+module _ (c : lts.In-loop tie.the-claims reads.Pre reads.Post goal.the-invariant-loop-y goal.the-decreases-loop-y tie.handed_clauses) where
+  abbrev start : lts.Start tie.the-claims reads.Pre reads.Post goal.the-invariant-loop-y goal.the-decreases-loop-y tie.handed_clauses
   start = c.before.before.before.before.before.before
 
   abbrev planes_in : c.loop-y.at + 3 * start.args.width ≤ length start.args.planes.now
@@ -25,23 +25,23 @@ module _ (c : lts.In-loop tie.the-claims reads.Pre reads.Post goal.the-invariant
   frame_row = beside start.args.frame.now start.args.width start.args.height c.loop-y.y c.loop-y.from start.requires.fact_2.area c.loop-y-test.true c.loop-y.invariant.1
 
 -- a turn of the loop
-module _ (c : lts.After-slice_known4 tie.the-claims reads.Pre reads.Post goal.the-invariant-loop-y goal.the-decreases-loop-y) where
-  abbrev turn : lts.After-horizontal_row tie.the-claims reads.Pre reads.Post goal.the-invariant-loop-y goal.the-decreases-loop-y
+module _ (c : lts.After-slice_known4 tie.the-claims reads.Pre reads.Post goal.the-invariant-loop-y goal.the-decreases-loop-y tie.handed_clauses) where
+  abbrev turn : lts.After-horizontal_row tie.the-claims reads.Pre reads.Post goal.the-invariant-loop-y goal.the-decreases-loop-y tie.handed_clauses
   turn = c.before.before.before.before
 
-  abbrev inner : lts.In-loop tie.the-claims reads.Pre reads.Post goal.the-invariant-loop-y goal.the-decreases-loop-y
+  abbrev inner : lts.In-loop tie.the-claims reads.Pre reads.Post goal.the-invariant-loop-y goal.the-decreases-loop-y tie.handed_clauses
   inner = turn.before.before.before.before
 
-  counts : inner.loop-y.samples + turn.horizontal_row-samples.result ≡ (inner.loop-y.y + 1) * samples_of (start inner).args.width (start inner).args.radius
+  counts : inner.loop-y.samples + turn.horizontal_row-samples.result ≡ (inner.loop-y.y + 1) * samples_of inner.args.width inner.args.radius
   counts =
-      let a = (start inner).args in
-      rows_on inner.loop-y.y (samples_of a.width a.radius) inner.loop-y.inv.2
+      let a = inner.args in
+      rows_on inner.loop-y.y (samples_of a.width a.radius) inner.loop-y.invariant.2
       (turn.horizontal_row-samples.ensures.1 ∙ ap (λ (m : ℕ). samples_of m a.radius) (frame_row inner))
 
   fits : inner.loop-y.samples + turn.horizontal_row-samples.result ≤ 135266304
   fits =
-      let p = (start inner).pre in
-      rows_few (inner.loop-y.y + 1) (start inner).args.width (start inner).args.radius (omega (arith, inner.loop-y-test.taken, p.1.high)) p.1.wide p.0.0 counts
+      let p = inner.requires in
+      rows_few (inner.loop-y.y + 1) inner.args.width inner.args.radius (omega (arith, inner.loop-y-test.true, p.fact_2.high)) p.fact_2.wide p.fact_1.0 counts
 
 pub loop-y-init : goal.loop-y-init
 loop-y-init c = (c.requires.fact_1.2, sym (zero-mul c.args.width), sym (zero-mul (samples_of c.args.width c.args.radius)), no_rows _ c.requires.fact_1.1)
@@ -70,7 +70,7 @@ slice_bounds-horizontal_row-end-in-loop-y c = omega (arith, frame_in_lem c.befor
 pub horizontal_row-samples-requires : goal.horizontal_row-samples-requires
 horizontal_row-samples-requires c = let l = c.loop-y.invariant in
     let e = sym (frame_row c.before.before.before.before) in
-    ((start c.before.before.before.before).requires.0.0, row_length l.3 c.loop-y-test.true ∙ ap (λ (m : ℕ). 3 * m) e, l.0 ∙ e, (start c.before.before.before.before).requires.0.3 ∙ e, omega (arith, e, (start c.before.before.before.before).requires.1.wide))
+    (c.requires.fact_1.0, row_length l.3 c.loop-y-test.true ∙ ap (λ (m : ℕ). 3 * m) e, l.0 ∙ e, c.requires.fact_1.3 ∙ e, omega (arith, e, c.requires.fact_2.wide))
 
 pub overflow_add-samples : goal.overflow_add-samples
 overflow_add-samples c = omega (arith, fits c.before)
@@ -78,15 +78,14 @@ overflow_add-samples c = omega (arith, fits c.before)
 pub loop-y-preserved : goal.loop-y-preserved
 loop-y-preserved c = let o = c.loop-y in
     let l = o.invariant in
-    let s = start c.before.before.before.before.before.before.before.before.before in
-    let a = s.args in
+    let a = c.args in
     let part = take (o.from + a.width - o.from) (drop o.from a.frame.now) in (
       c.horizontal_row-samples.auto.line ∙ l.0,
       ap (λ (m : ℕ). m + a.width) l.1 ∙ sym (suc-mul o.y a.width) ∙ ap (λ (m : ℕ). m * a.width) (sym (add-one o.y)),
       counts c.before,
       row_by l.3 (λ j v. blur_by (at a.w.now) (λ n. bright_of a.threshold (j / length part) (get_or part n 0)) (length part) a.radius (j % length part)) _ c.loop-y-test.true
           (λ j v q. ap (λ (m : ℕ). blur_by (at a.w.now) (λ n. bright_of a.threshold (j / m) (get_or part n 0)) (length part) a.radius (j % m)) (frame_row c.before.before.before.before.before.before.before.before.before)
-          ∙ row_across a.frame.now a.width a.height o.y o.from s.pre.1.area c.loop-y-test.true l.1 (at a.w.now) a.threshold (j / a.width) a.radius (j % a.width))
+          ∙ row_across a.frame.now a.width a.height o.y o.from c.requires.fact_2.area c.loop-y-test.true l.1 (at a.w.now) a.threshold (j / a.width) a.radius (j % a.width))
           c.horizontal_row-samples.ensures.0,
     )
 

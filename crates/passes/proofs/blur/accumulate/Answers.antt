@@ -27,7 +27,7 @@ module _ (c : lts.After-struct_known2 tie.the-claims reads.Pre reads.Post goal.t
   counts =
       let e = turn.add_offsets-taken.ensures in
       let n = length start.args.src.now in
-      ap₂ (λ (a b : ℕ). a + b) looped.loop-k.inv.1 e.3 ∙ upto-on n start.args.radius looped.loop-k.k turn.add_offsets-taken.result.offsets
+      ap₂ (λ (a b : ℕ). a + b) looped.loop-k.invariant.1 e.3 ∙ upto-on n start.args.radius looped.loop-k.k turn.add_offsets-taken.result.offsets
 
   fits : looped.loop-k.samples + turn.add_offsets-taken.result.samples ≤ 132096
   fits =
@@ -44,11 +44,11 @@ pub overflow_add-samples : goal.overflow_add-samples
 overflow_add-samples c = omega (arith, fits c.before)
 
 pub loop-k-preserved : goal.loop-k-preserved
-loop-k-preserved c = let o = (turn c.before).add-offsets in
-    let l = (looped c.before).loop in
-    let a = (start c.before).args in
+loop-k-preserved c = let o = c.add_offsets-taken in
+    let l = c.loop-k in
+    let a = c.args in
     let r = o.result.offsets in
-    (summed_on l.inv.0 r _ _ o.ensures.1 (λ x q. total-onward (λ i w. at a.src.now i ⊗ w) (length a.src.now) a.radius x l.k r) o.ensures.2, counts c.before)
+    (summed_on l.invariant.0 r _ _ o.ensures.1 (λ x q. total-onward (λ i w. at a.src.now i ⊗ w) (length a.src.now) a.radius x l.k r) o.ensures.2, counts c.before)
 
 pub returns : goal.returns
 unfolding Text.Blur.total

@@ -29,7 +29,7 @@ module _ (c : lts.After-struct_known2 tie.the-claims reads.Pre reads.Post goal.t
 
   counts : looped.loop-k.samples + turn.add_rows-taken.result.samples ≡ sum (looped.loop-k.k + turn.add_rows-taken.result.offsets) (once start.args.height start.args.radius start.args.y)
   counts =
-      place-on start.args.height start.args.radius start.args.y looped.loop-k.k turn.add_rows-taken.result.offsets looped.loop-k.inv.1 turn.add_rows-taken.ensures.3
+      place-on start.args.height start.args.radius start.args.y looped.loop-k.k turn.add_rows-taken.result.offsets looped.loop-k.invariant.1 turn.add_rows-taken.ensures.3
 
   fits : looped.loop-k.samples + turn.add_rows-taken.result.samples ≤ looped.loop-k.k + turn.add_rows-taken.result.offsets
   fits = place-few start.args.height start.args.radius start.args.y (looped.loop-k.k + turn.add_rows-taken.result.offsets) counts
@@ -42,19 +42,19 @@ loop-k-init c = let a = c.args in
 pub add_rows-taken-requires : goal.add_rows-taken-requires
 add_rows-taken-requires c = let l = c.loop-k in
     let d = c.clear in
-    (omega arith, omega arith, omega arith, omega arith, c.requires.3 ∙ ap (λ (n : ℕ). c.args.height * n) (sym (l.invariant.0.kept ∙ d.auto.0)))
+    (omega arith, omega arith, omega arith, omega arith, c.requires.3 ∙ ap (λ (n : ℕ). c.args.height * n) (sym (l.invariant.0.kept ∙ d.auto.acc)))
 
 pub overflow_add-samples : goal.overflow_add-samples
 overflow_add-samples c = omega (arith, fits c.before)
 
 pub loop-k-preserved : goal.loop-k-preserved
-loop-k-preserved c = let o = (turn c.before).add-rows in
-    let l = (looped c.before).loop in
-    let a = (start c.before).args in
+loop-k-preserved c = let o = c.add_rows-taken in
+    let l = c.loop-k in
+    let a = c.args in
     let r = o.result.offsets in (
-      summed_on l.inv.0 r _ _ o.ensures.1 (λ x q. total-onward _ a.height a.radius a.y l.k r)
+      summed_on l.invariant.0 r _ _ o.ensures.1 (λ x q. total-onward _ a.height a.radius a.y l.k r)
           (o.ensures.2
-          ∙ ap (λ (m : ℕ). every (λ x. onward (λ i w. cell a.plane.now m x i ⊗ w) a.height a.radius a.y l.k r) l.acc) l.inv.0.kept),
+          ∙ ap (λ (m : ℕ). every (λ x. onward (λ i w. cell a.plane.now m x i ⊗ w) a.height a.radius a.y l.k r) l.acc) l.invariant.0.kept),
       counts c.before,
     )
 
@@ -64,6 +64,6 @@ returns c = let l = c.loop-k in
     let a = c.args in
     let d = c.clear in (
       summed_all l.invariant.0 a.acc.now c.loop-k-test.false d.ensures
-          ∙ ap (λ (n : ℕ). fill (λ x. weighted (λ i. cell a.plane.now n x i) a.height a.radius a.y) a.acc.now) d.auto.0,
+          ∙ ap (λ (n : ℕ). fill (λ x. weighted (λ i. cell a.plane.now n x i) a.height a.radius a.y) a.acc.now) d.auto.acc,
       l.invariant.1 ∙ ap (λ (k : ℕ). sum k (once a.height a.radius a.y)) (omega (arith, l.invariant.0.upto)),
     )

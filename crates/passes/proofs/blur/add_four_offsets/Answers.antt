@@ -61,11 +61,11 @@ add_edge-requires c = let a = c.args in (
 -- no place counts more than four
 pub overflow_add-result : goal.overflow_add-result
 overflow_add-result c = let a = c.args in
-    omega (arith, line-few (length a.src.now) a.radius a.k (length a.src.now) (omega arith) ((let a = c.args in let most = c.add_to_edge-before in let edge = c.add_edge in done a.acc.now a.src.now a.radius a.k c.monus.result c.monus-2.result c.requires.0 c.requires.3 c.monus.ensures c.monus-2.ensures most.new.0 most.ensures.0 edge.new.0 edge.ensures.0 most.ensures.1 edge.ensures.1)).1)
+    omega (arith, line-few (length a.src.now) a.radius a.k (length a.src.now) (omega arith) ((let a = c.args in let most = c.add_to_edge-before in let edge = c.add_edge in done a.acc.now a.src.now a.radius a.k c.monus.result c.monus-2.result c.requires.0 c.requires.3 c.monus.ensures c.monus-2.ensures most.new.acc most.ensures.0 edge.new.part edge.ensures.0 most.ensures.1 edge.ensures.1)).1)
 
 pub returns : goal.returns
 returns c = let a = c.args in
     let most = c.add_to_edge-before in
     let edge = c.add_edge in
     done a.acc.now a.src.now a.radius a.k c.monus.result c.monus-2.result c.requires.0 c.requires.3 c.monus.ensures c.monus-2.ensures
-    most.new.0 most.ensures.0 edge.new.0 edge.ensures.0 most.ensures.1 edge.ensures.1
+    most.new.acc most.ensures.0 edge.new.part edge.ensures.0 most.ensures.1 edge.ensures.1

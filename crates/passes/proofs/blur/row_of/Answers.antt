@@ -11,16 +11,16 @@ within : (c : lts.Start reads.Pre reads.Post) → c.args.i * c.args.width + c.ar
 within c = row_ends c.args.width c.args.height c.args.i c.requires.0
 
 pub overflow_mul-a : goal.overflow_mul-a
-overflow_mul-a c = omega (arith, within c)
+overflow_mul-a c = omega (arith, within c.before)
 
 pub overflow_add-e : goal.overflow_add-e
-overflow_add-e c = omega (arith, within c)
+overflow_add-e c = omega (arith, within c.before)
 
 pub offset_bounds-plane-a : goal.offset_bounds-plane-a
-offset_bounds-plane-a c = omega (arith, within c)
+offset_bounds-plane-a c = omega (arith, within c.before)
 
 pub slice_bounds-result-end : goal.slice_bounds-result-end
-slice_bounds-result-end c = omega (arith, within c)
+slice_bounds-result-end c = omega (arith, within c.before)
 
 pub returns : goal.returns
 returns c = simp add-sub_cancel_left

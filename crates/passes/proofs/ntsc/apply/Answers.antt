@@ -17,8 +17,8 @@ use Rattle.passes.proofs.ntsc.apply.Reads as reads
 use Rattle.passes.proofs.ntsc.apply.Tie as tie
 
 -- the front of each line is as long as a row
-module _ (c : lts.After-weight_line tie.the-claims reads.Pre reads.Post) where
-  abbrev start : lts.Start tie.the-claims reads.Pre reads.Post
+module _ (c : lts.After-weight_line tie.the-claims reads.Pre reads.Post tie.handed_clauses) where
+  abbrev start : lts.Start tie.the-claims reads.Pre reads.Post tie.handed_clauses
   start = c.before.before.before.before.before
 
   abbrev row_long : (line : List Float) → length line ≡ 1024 → length (take start.args.width line) ≡ start.args.width
@@ -37,28 +37,27 @@ pub slice_bounds-rows-end-4 : goal.slice_bounds-rows-end-4
 slice_bounds-rows-end-4 c = sym (row_long c.before.before.before.before.before _ c.weight_line-w.ensures.long)
 
 pub rows-samples-requires : goal.rows-samples-requires
-rows-samples-requires c = (
-  ((start c.before.before.before.before.before).requires.1, row_long c.before.before.before.before.before _ c.line-line.ensures, row_long c.before.before.before.before.before _ c.line-u.ensures, row_long c.before.before.before.before.before _ c.line-v.ensures, row_long c.before.before.before.before.before _ c.weight_line-w.ensures.long),
-  (start c.before.before.before.before.before).requires.0,
-)
+rows-samples-requires c = record {
+  fact_1 = (c.requires.fact_2, row_long c.before.before.before.before.before _ c.line-line.ensures, row_long c.before.before.before.before.before _ c.line-u.ensures, row_long c.before.before.before.before.before _ c.line-v.ensures, row_long c.before.before.before.before.before _ c.weight_line-w.ensures.long);
+  fact_2 = c.requires.fact_1;
+}
 
 pub collect-clipped-requires : goal.collect-clipped-requires
-collect-clipped-requires c = omega (arith, c.rows-samples.auto.frame, frame_small (start c.before.before.before.before.before.before.before.before.before.before.before.before).pre.0)
+collect-clipped-requires c = omega (arith, c.rows-samples.auto.frame, frame_small c.requires.fact_1)
 
 pub overflow_cast-result : goal.overflow_cast-result
-overflow_cast-result c = let s = start c.before.before.before.before.before.before.before.before.before.before.before.before.before.before.before.before in
-    let few = rows_few s.args.height s.args.width s.args.bleed s.pre.0.high s.pre.0.wide s.pre.1 c.rows-samples.ensures.1 in
+overflow_cast-result c = let few = rows_few c.args.height c.args.width c.args.bleed c.requires.fact_1.high c.requires.fact_1.wide c.requires.fact_2 c.rows-samples.ensures.1 in
     omega (arith, few)
 
 pub returns : goal.returns
 unfolding Text.Ntsc.ntsc Text.Samples.ntsc_samples
-returns c = let a = (start c.before.before.before.before.before.before.before.before.before.before.before.before.before.before.before.before).args in
+returns c = let a = c.args in
     let sums : ℕ → Float = at (take a.width c.weight_line-w.result) in
     let colours : ℕ → ℕ → ℕ → Rgb = colour_at a.width a.strength a.bleed a.frame.now in (
       collected_clamped (placed a.width colours) _ _
           (c.rows-samples.ensures.0
           ∙ placed_ext a.width a.height a.frame.now (λ x y p. mark_clamped (ntsc_by sums a.width a.strength a.bleed a.frame.now x y p))
-          (λ x y p. mark_clamped (colours x y p)) (start c.before.before.before.before.before.before.before.before.before.before.before.before.before.before.before.before).requires.0.area
+          (λ x y p. mark_clamped (colours x y p)) c.requires.fact_1.area
           (λ x y p l m.
           let e = weight-at c.weight_line-w.result a.width a.bleed x c.weight_line-w.ensures l in
           ap mark_clamped (same_pixel a.strength p

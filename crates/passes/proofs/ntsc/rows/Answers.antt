@@ -12,34 +12,34 @@ use Rattle.passes.proofs.ntsc.rows.Reads as reads
 use Rattle.passes.proofs.ntsc.rows.Tie as tie
 
 -- the next row lies within the frame
-abbrev fits : (c : lts.In-loop tie.the-claims reads.Pre reads.Post goal.the-invariant-loop-y goal.the-decreases-loop-y) → let a = c.args in c.loop-y.at + a.width ≤ length a.frame.now
+abbrev fits : (c : lts.In-loop tie.the-claims reads.Pre reads.Post goal.the-invariant-loop-y goal.the-decreases-loop-y tie.handed_clauses) → let a = c.args in c.loop-y.at + a.width ≤ length a.frame.now
 fits c = row_in c.loop-y.invariant.4 c.loop-y-test.true
 
 -- a turn of the loop
-module _ (c : lts.After-slice_known8 tie.the-claims reads.Pre reads.Post goal.the-invariant-loop-y goal.the-decreases-loop-y) where
-  abbrev turn : lts.After-row tie.the-claims reads.Pre reads.Post goal.the-invariant-loop-y goal.the-decreases-loop-y
+module _ (c : lts.After-slice_known8 tie.the-claims reads.Pre reads.Post goal.the-invariant-loop-y goal.the-decreases-loop-y tie.handed_clauses) where
+  abbrev turn : lts.After-row tie.the-claims reads.Pre reads.Post goal.the-invariant-loop-y goal.the-decreases-loop-y tie.handed_clauses
   turn = c.before.before.before.before.before.before.before.before
 
-  abbrev inner : lts.In-loop tie.the-claims reads.Pre reads.Post goal.the-invariant-loop-y goal.the-decreases-loop-y
+  abbrev inner : lts.In-loop tie.the-claims reads.Pre reads.Post goal.the-invariant-loop-y goal.the-decreases-loop-y tie.handed_clauses
   inner = turn.before.before.before.before.before
 
-  abbrev start : lts.Start tie.the-claims reads.Pre reads.Post goal.the-invariant-loop-y goal.the-decreases-loop-y
+  abbrev start : lts.Start tie.the-claims reads.Pre reads.Post goal.the-invariant-loop-y goal.the-decreases-loop-y tie.handed_clauses
   start = inner.before.before.before.before.before.before.before
 
   counts : inner.loop-y.samples + turn.row-samples.result ≡ (inner.loop-y.y + 1) * samples_of start.args.width start.args.bleed
   counts =
       let a = start.args in
-      rows_on inner.loop-y.y (samples_of a.width a.bleed) inner.loop-y.inv.3
-      (turn.row-samples.ensures.1 ∙ ap (λ (m : ℕ). samples_of m a.bleed) (row_length inner.loop-y.inv.4 inner.loop-y-test.taken))
+      rows_on inner.loop-y.y (samples_of a.width a.bleed) inner.loop-y.invariant.3
+      (turn.row-samples.ensures.1 ∙ ap (λ (m : ℕ). samples_of m a.bleed) (row_length inner.loop-y.invariant.4 inner.loop-y-test.true))
 
   samples_fit : inner.loop-y.samples + turn.row-samples.result ≤ 135266304
   samples_fit =
       let p = start.requires in
-      rows_few (inner.loop-y.y + 1) start.args.width start.args.bleed (omega (arith, inner.loop-y-test.taken, p.1.high)) p.1.wide p.0.0 counts
+      rows_few (inner.loop-y.y + 1) start.args.width start.args.bleed (omega (arith, inner.loop-y-test.true, p.fact_2.high)) p.fact_2.wide p.fact_1.0 counts
 
 pub loop-y-init : goal.loop-y-init
 loop-y-init c = let p = c.requires in
-    (p.0.1, p.0.2, p.0.3, sym (zero-mul (samples_of c.args.width c.args.bleed)), no_rows _ p.1.area)
+    (p.fact_1.1, p.fact_1.2, p.fact_1.3, sym (zero-mul (samples_of c.args.width c.args.bleed)), no_rows _ p.fact_2.area)
 
 pub overflow_add-end : goal.overflow_add-end
 overflow_add-end c = omega (arith, fits c.before)
@@ -54,7 +54,7 @@ pub row-samples-requires : goal.row-samples-requires
 row-samples-requires c = let l = c.loop-y.invariant in
     let p = c.requires in
     let e = sym (row_length l.4 c.loop-y-test.true) in
-    (p.0.0, l.0 ∙ e, l.1 ∙ e, l.2 ∙ e, p.0.4 ∙ e, omega (arith, e, p.1.wide))
+    (p.fact_1.0, l.0 ∙ e, l.1 ∙ e, l.2 ∙ e, p.fact_1.4 ∙ e, omega (arith, e, p.fact_2.wide))
 
 pub overflow_add-samples : goal.overflow_add-samples
 overflow_add-samples c = omega (arith, samples_fit c.before)

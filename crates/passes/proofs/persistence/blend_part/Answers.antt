@@ -17,13 +17,13 @@ begins line n e l h = begun e l (omega arith) (part n _ _ (none _ _) (omega arit
 
 -- ---- the way back from one line to the one before, and to the start
 abbrev start : lts.After-mix_line tie.the-claims reads.Pre reads.Post → lts.Start tie.the-claims reads.Pre reads.Post
-start c = c.before.before.before.before.before.before.before
+start c = c.before.before.before.before.before.before
 
 abbrev first : lts.After-mix_line2 tie.the-claims reads.Pre reads.Post → lts.After-mix_line tie.the-claims reads.Pre reads.Post
-first c = c.before.before.before.before.before
+first c = c.before.before.before.before
 
 abbrev second : lts.After-mix_line3 tie.the-claims reads.Pre reads.Post → lts.After-mix_line2 tie.the-claims reads.Pre reads.Post
-second c = c.before.before.before.before.before
+second c = c.before.before.before.before
 
 -- one channel of the part that the call was lent
 abbrev mixed : lts.Start tie.the-claims reads.Pre reads.Post → ℕ → ℕ → Float
@@ -32,8 +32,8 @@ mixed s which = let a = s.args in mixed_channel a.w a.ws.now a.history.now a.par
 abbrev count : lts.Start tie.the-claims reads.Pre reads.Post → ℕ
 count s = length s.args.part.now
 
-reds : (c : lts.After-mix_line tie.the-claims reads.Pre reads.Post) → let s = start c in Begins 64 (count s) (mixed s 0) (c.mix_line.new.acc ++ drop (count s) c.short-r.result)
-reds c = begins _ _ c.short-r.ensures (start c).requires.0 c.mix_line.ensures
+reds : (c : lts.After-mix_line tie.the-claims reads.Pre reads.Post) → Begins 64 (count c.before.before.before.before.before.before) (mixed c.before.before.before.before.before.before 0) (c.mix_line.new.acc ++ drop (count c.before.before.before.before.before.before) c.short-r.result)
+reds c = begins _ _ c.short-r.ensures c.requires.0 c.mix_line.ensures
 
 greens : (c : lts.After-mix_line2 tie.the-claims reads.Pre reads.Post) → let s = start (first c) in Begins 64 (count s) (mixed s 1) (c.mix_line-2.new.acc ++ drop (count s) c.short-g.result)
 greens c = begins _ _ c.short-g.ensures (start (first c)).requires.0 c.mix_line-2.ensures
@@ -75,7 +75,5 @@ finish_part-requires c = let l = (start (first (second c.before.before.before.be
 
 pub returns : goal.returns
 unfolding blended_word
-returns c = let g = second c.before.before.before.before.before.before.before.before.before in
-    let r = first g in
-    c.finish_part.ensures
-    ∙ rewrite-at _ _ _ (start r).args.part.now 0 (λ x l. ap mark_clamped (whole _ ((reds r).value x l) ((greens g).value x l) ((blues c.before.before.before.before.before.before.before.before.before).value x l)))
+returns c = c.finish_part.ensures
+    ∙ rewrite-at _ _ _ c.args.part.now 0 (λ x l. ap mark_clamped (whole _ ((reds c.before.before.before.before.before.before.before.before.before.before.before.before.before.before.before.before.before).value x l) ((greens c.before.before.before.before.before.before.before.before.before.before.before.before.before).value x l) ((blues c.before.before.before.before.before.before.before.before.before).value x l)))

@@ -52,18 +52,18 @@ abbrev copied : lts.After-line tie.the-claims reads.Pre reads.Post → lts.After
 copied c = c.before.before.before.before
 
 abbrev start : lts.After-line tie.the-claims reads.Pre reads.Post → lts.Start tie.the-claims reads.Pre reads.Post
-start c = (copied c).before.before.before.before.before.before
+start c = (copied c).before.before.before.before.before
 
 -- the part of the line that is lent
-part : (c : lts.After-line tie.the-claims reads.Pre reads.Post) → let k = (start c).args.depth in length (take k c.line-ws.result) ≡ k
-part c = length-take-le _ c.line-ws.result (omega (arith, c.line-ws.ensures, (start c).requires.0))
+part : (c : lts.After-line tie.the-claims reads.Pre reads.Post) → let k = c.args.depth in length (take k c.line-ws.result) ≡ k
+part c = length-take-le _ c.line-ws.result (omega (arith, c.line-ws.ensures, c.requires.0))
 
 -- the line begins with the weights, as many as the depth
-begins : (c : lts.After-weights tie.the-claims reads.Pre reads.Post) → let k = (start c.before.before).args.depth in
+begins : (c : lts.After-weights tie.the-claims reads.Pre reads.Post) → let k = c.args.depth in
     take k (c.weights.new.out ++ drop k c.line-ws.result) ≡ c.weights.new.out
 begins c = take_at c.weights.new.out _ _ (c.weights.auto.out ∙ part c.before.before)
 
-many : (c : lts.After-weights tie.the-claims reads.Pre reads.Post) → let k = (start c.before.before).args.depth in
+many : (c : lts.After-weights tie.the-claims reads.Pre reads.Post) → let k = c.args.depth in
     length (take k (c.weights.new.out ++ drop k c.line-ws.result)) ≡ k
 many c = ap length (begins c) ∙ c.weights.auto.out ∙ part c.before.before
 
@@ -77,17 +77,15 @@ pub slice_bounds-blend_parts-end : goal.slice_bounds-blend_parts-end
 slice_bounds-blend_parts-end c = sym (many c.before.before.before.before)
 
 pub blend_parts-requires : goal.blend_parts-requires
-blend_parts-requires c = let s = start c.before.before.before.before.before.before.before in
-    subst (λ (m : ℕ). m * length s.args.frame.now ≤ length s.args.history.now) (sym (many c.before.before.before.before.before)) s.pre.1
+blend_parts-requires c = subst (λ (m : ℕ). m * length c.args.frame.now ≤ length c.args.history.now) (sym (many c.before.before.before.before)) c.requires.1
 
 -- what is carried is the frame as it came
 pub shift-requires : goal.shift-requires
-shift-requires c = let s = start c.before.before.before.before.before.before.before.before.before.before.before.before.before.before.before.before in
-    subst (λ (z : List ℕ). s.args.depth * length z ≤ length s.args.history.now) (sym (copied c.before.before.before.before.before.before.before.before.before.before.before.before.before.before.before.before).copy.ensures) s.pre.1
+shift-requires c = subst (λ (z : List ℕ). c.args.depth * length z ≤ length c.args.history.now) (sym c.copy.ensures) c.requires.1
 
 pub returns : goal.returns
-returns c = let a = (start c.before.before.before.before.before.before.before.before.before.before.before.before.before.before.before.before.before.before.before.before.before).args in (
-  by_weights (take a.depth c.line-ws.result) _ a.depth _ _ (part c.before.before.before.before.before.before.before.before.before.before.before.before.before.before.before.before.before.before.before.before.before) (blends _ _ _ _ _ _ c.blend_parts.ensures c.collect-clipped.ensures) (begins c.before.before.before.before.before.before.before.before.before.before.before.before.before.before.before.before.before.before.before ∙ c.weights.ensures)
+returns c = let a = c.args in (
+  by_weights (take a.depth c.line-ws.result) _ a.depth _ _ (part c.before.before.before.before.before.before.before.before.before.before.before.before.before.before.before.before.before.before.before.before) (blends _ _ _ _ _ _ c.blend_parts.ensures c.collect-clipped.ensures) (begins c.before.before.before.before.before.before.before.before.before.before.before.before.before.before.before.before.before.before ∙ c.weights.ensures)
       c.total-sum.ensures,
-  c.shift.ensures ∙ ap (λ (z : List ℕ). shifted a.depth z a.history.now) (copied c.before.before.before.before.before.before.before.before.before.before.before.before.before.before.before.before.before.before.before.before.before).copy.ensures,
+  c.shift.ensures ∙ ap (λ (z : List ℕ). shifted a.depth z a.history.now) c.copy.ensures,
 )

@@ -36,14 +36,14 @@ pub slice_bounds-add_line-end : goal.slice_bounds-add_line-end
 slice_bounds-add_line-end c = omega (arith, place_in c.before.before)
 
 pub add_line-requires : goal.add_line-requires
-add_line-requires c = c.loop-j.invariant.1.kept ∙ c.begin_line.auto.acc ∙ (start c.before.before.before.before).requires.0 ∙ sym (part_length c.before.before.before.before)
+add_line-requires c = c.loop-j.invariant.1.kept ∙ c.begin_line.auto.acc ∙ c.requires.0 ∙ sym (part_length c.before.before.before.before)
 
 pub overflow_add-start : goal.overflow_add-start
 overflow_add-start c = omega (arith, place_in c.before.before.before.before.before.before.before)
 
 pub loop-j-preserved : goal.loop-j-preserved
 loop-j-preserved c = let l = c.loop-j in
-    let a = (start c.before.before.before.before.before.before.before).args in
+    let a = c.args in
     let turn : (l.j + 1) * a.n ≡ l.j * a.n + a.n = rw add-one (suc-mul l.j a.n) in (
       omega (arith, turn),
       summed_more l.invariant.1 _ _ c.loop-j-test.true (λ x q. next _ _ a.history.now a.part.now _ _ _ l.j l.start (length a.part.now) x l.invariant.0 (omega arith))
