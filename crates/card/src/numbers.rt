@@ -2,8 +2,8 @@
 ghost use Rattle.std.specs.Prelude.{◌<◌, ◌≤◌, ◌≡◌, length};
 
 use crate::names::text;
+use cli::stream::STDOUT_FILENO;
 use inspect::decimal;
-use libc::STDOUT_FILENO;
 
 pub fn whole(n: usize) {
     io::print_decimal(STDOUT_FILENO, n as u64);

@@ -10,7 +10,10 @@ mod adler; // the checksum
 use adler::adler;
 use cards::station::Station;
 use events::play::Played;
-use libc::{STDIN_FILENO, STDOUT_FILENO};
+use player::STDIN_FILENO;
+
+// Standard output by its number, which the functions of `io` take.
+const STDOUT_FILENO: i32 = 1;
 
 // The next byte, 0 at the end of the input.
 fn next() -> u8 {

@@ -6,7 +6,7 @@ use cards::station::Station;
 use chain::pipeline;
 use chain::pipeline::Question;
 use cli::says::text;
-use libc::STDERR_FILENO;
+use cli::stream::STDERR_FILENO;
 use num::size::{Size, area};
 use sheets::event::Event;
 use sheets::play::Turn;

@@ -6,7 +6,9 @@ ghost use Rattle.std.specs.Prelude.{◌≤◌, length};
 
 use cards::station::Station;
 use events::play::Played;
-use libc::STDOUT_FILENO;
+
+// Standard output by its number, which the functions of `io` take.
+const STDOUT_FILENO: i32 = 1;
 
 // Writes the first n bytes, and answers whether it could.
 fn print(out: &[u8], n: usize) -> bool
