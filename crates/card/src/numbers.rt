@@ -82,9 +82,7 @@ fn pair(b: u8) {
 
 // A space and two digits for each byte.
 pub fn bytes(bytes: &[u8]) {
-    let mut i = 0;
-    while i < bytes.len() {
-        pair(bytes[i]);
-        i += 1;
+    for &b in bytes {
+        pair(b);
     }
 }

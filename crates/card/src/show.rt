@@ -76,13 +76,11 @@ fn passes(rt: HostRuntime, station: Station) -> Result<(), Error> {
     if n == 0 {
         return end(rt, b"  no pass: the picture is the frame\n");
     }
-    let mut i = 0;
-    while i < 12 {
+    for i in 0..12 {
         if i < n {
             let r = records[i];
             record(rt, r, i + 1)?;
         }
-        i += 1;
     }
     Ok(())
 }

@@ -5,7 +5,7 @@ use super::stream::STDERR_FILENO;
 use std::io::{Cursor, Error, Write};
 use std::str;
 
-// The error as `Error` prints it, in the buffer's first bytes. It prints no more than 256 bytes.
+// The error as `Error` prints it, at the start of the buffer, which has more room than any error takes. How many bytes these are.
 fn print(error: Error, out: &mut [u8; 256]) -> usize
     ensures { result ≤ 256 }
 {

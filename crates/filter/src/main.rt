@@ -29,12 +29,10 @@ fn usage() {
 
 // Whether every argument from the first frame on names a frame that can be taken.
 fn all_taken(rt: HostRuntime, first: usize, count: usize, file: &mut [u8]) -> bool {
-    let mut i = first;
-    while i < count {
+    for i in first..count {
         if files::taken(rt, i, file) == 0 {
             return false;
         }
-        i += 1;
     }
     true
 }
@@ -54,9 +52,7 @@ fn show_all(
     let mut floats = memory::floats();
     let mut ints = memory::ints();
     let mut now = station;
-    let mut more = true;
-    let mut i = first;
-    while i < count && more {
+    for i in first..count {
         let turn = files::play(
             rt,
             now,
@@ -69,9 +65,10 @@ fn show_all(
             &mut ints,
             curve,
         );
+        if !turn.more {
+            return;
+        }
         now = turn.station;
-        more = turn.more;
-        i += 1;
     }
 }
 

@@ -32,10 +32,8 @@ fn pixel(p: u32) {
 }
 
 fn pixels(words: &[u32]) {
-    let mut i = 0;
-    while i < words.len() {
-        pixel(words[i]);
-        i += 1;
+    for &p in words {
+        pixel(p);
     }
 }
 

@@ -26,8 +26,8 @@ fn pixels(rt: HostRuntime, words: &[u32]) -> Result<(), Error>
     end(rt, &file[..bytes])
 }
 
-// The picture at the start of the framebuffer; none where a side is 0. Whether its end was written, or why not: a disk that fills up within the header has no room for the
-// pixels either.
+// The picture at the start of the framebuffer; none where a side is 0. Whether its end was written, or why not: a disk that fills up within the header has
+// no room for the pixels either.
 fn shown(rt: HostRuntime, size: Size, words: &[u32]) -> Result<(), Error> {
     let count = area(size);
     if count == 0 {

@@ -78,14 +78,12 @@ fn lines(rt: HostRuntime, sheet: &[u8], n: u32) -> Result<(), Error>
     requires { n < 65536 }
 {
     let mut next: usize = 16;
-    let mut i: u32 = 0;
-    while i < n {
+    for i in 0..n {
         let EventRead::Value(e, after) = read(sheet, next) else {
             return Ok(());
         };
         line(rt, i + 1, e)?;
         next = after;
-        i += 1;
     }
     Ok(())
 }

@@ -50,15 +50,13 @@ fn outside(rt: HostRuntime, i: usize, first: usize, file: &[u8], words: &mut [u3
     requires { first ≤ 3 }
 {
     let n = areas.len() / 4;
-    let mut k: usize = 0;
-    while k < n {
+    for k in 0..n {
         let at = 4 * k;
         let end = at + 4;
         if leaves(file, words, &areas[at..end]) {
             bad_area(rt, i, first + k);
             return;
         }
-        k += 1;
     }
 }
 

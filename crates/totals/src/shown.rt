@@ -55,10 +55,8 @@ pub fn all(
     requires { first ≤ 3 }
 {
     let n = areas.len() / 4;
-    let mut k: usize = 0;
-    while k < n && k < 64 {
+    for k in 0..n.min(64) {
         line(rt, first + k, k, totals)?;
-        k += 1;
     }
     text(b"words read: ");
     number(words as u64);
@@ -120,11 +118,9 @@ pub fn differences(
 {
     let n = areas.len() / 4;
     let mut different: u64 = 0;
-    let mut k: usize = 0;
-    while k < n && k < 64 {
+    for k in 0..n.min(64) {
         compared(rt, first + k, k, totals, others)?;
         different += differs(k, totals, others);
-        k += 1;
     }
     number(different);
     text(b" of ");
