@@ -7,9 +7,10 @@ use cards::reader;
 use cards::station::{Answer, Pass, Record, Station, kind_of};
 use cli::names as called;
 use cli::output::end;
+use cli::stream::STDOUT_FILENO;
 use inspect::difference::{Difference, first_difference};
 use inspect::settings::setting_at;
-use libc::STDOUT_FILENO;
+use std::io::Error;
 
 // The record at place i.
 fn record(station: Station, i: usize) -> Record {
@@ -35,26 +36,29 @@ fn place(i: usize) {
     }
 }
 
-fn length(i: usize, a: Station) -> bool {
+fn length(rt: HostRuntime, i: usize, a: Station) -> Result<(), Error> {
     place(i);
     if i < a.n {
-        end(b" is on the first card only\n")
+        end(rt, b" is on the first card only\n")
     } else {
-        end(b" is on the second card only\n")
+        end(rt, b" is on the second card only\n")
     }
 }
 
 // The order of the passes is the same on every card, so the cards have different passes.
-fn kinds(i: usize, a: Station, b: Station) -> bool {
+fn kinds(rt: HostRuntime, i: usize, a: Station, b: Station) -> Result<(), Error> {
     place(i);
     text(b" is ");
     called::kind(STDOUT_FILENO, kind(record(a, i)));
     text(b" and ");
     called::kind(STDOUT_FILENO, kind(record(b, i)));
-    end(b": not the same passes, which stand by ascending kind on every card\n")
+    end(
+        rt,
+        b": not the same passes, which stand by ascending kind on every card\n",
+    )
 }
 
-fn switches(i: usize, a: Station, b: Station) -> bool {
+fn switches(rt: HostRuntime, i: usize, a: Station, b: Station) -> Result<(), Error> {
     let r = record(a, i);
     let s = record(b, i);
     place(i);
@@ -64,10 +68,10 @@ fn switches(i: usize, a: Station, b: Station) -> bool {
     names::switch(r.on);
     text(b" and ");
     names::switch(s.on);
-    end(b"\n")
+    end(rt, b"\n")
 }
 
-fn settings(i: usize, j: usize, a: Station, b: Station) -> bool {
+fn settings(rt: HostRuntime, i: usize, j: usize, a: Station, b: Station) -> Result<(), Error> {
     let r = record(a, i);
     place(i);
     text(b", ");
@@ -78,7 +82,7 @@ fn settings(i: usize, j: usize, a: Station, b: Station) -> bool {
     setting(r, j);
     text(b" and ");
     setting(record(b, i), j);
-    end(b"\n")
+    end(rt, b"\n")
 }
 
 // The depth of the pass at place i, where it is persistence that is on.
@@ -142,22 +146,22 @@ fn begin(frames: usize) {
 }
 
 // From when on two stations with these settings show the same picture.
-fn alike(station: Station) -> bool {
+fn alike(rt: HostRuntime, station: Station) -> Result<(), Error> {
     text(b"alike: the same settings; the pictures are the same ");
     begin(mixed(station));
     if is_curved(station) {
         text(b", where both are lent the same curve");
     }
-    end(b"\n")
+    end(rt, b"\n")
 }
 
-fn opened(a: Station, b: Station) -> bool {
+fn opened(rt: HostRuntime, a: Station, b: Station) -> Result<(), Error> {
     match first_difference(a, b) {
-        Difference::Alike => alike(a),
-        Difference::Length(i) => length(i, a),
-        Difference::Kind(i) => kinds(i, a, b),
-        Difference::Switch(i) => switches(i, a, b),
-        Difference::Setting(i, j) => settings(i, j, a, b),
+        Difference::Alike => alike(rt, a),
+        Difference::Length(i) => length(rt, i, a),
+        Difference::Kind(i) => kinds(rt, i, a, b),
+        Difference::Switch(i) => switches(rt, i, a, b),
+        Difference::Setting(i, j) => settings(rt, i, j, a, b),
     }
 }
 
@@ -169,18 +173,18 @@ fn is_accepted(answer: Answer) -> bool {
 }
 
 // Only cards that are accepted are compared: a refused one shows no picture.
-pub fn compared(card: &[u8], other: &[u8]) -> bool {
+pub fn compared(rt: HostRuntime, card: &[u8], other: &[u8]) -> Result<(), Error> {
     let one = reader::open(card);
     let two = reader::open(other);
     let first = one.answer;
     let second = two.answer;
     if !is_accepted(first) {
-        return end(b"not compared: the first card is refused\n");
+        return end(rt, b"not compared: the first card is refused\n");
     }
     if !is_accepted(second) {
-        return end(b"not compared: the second card is refused\n");
+        return end(rt, b"not compared: the second card is refused\n");
     }
     let a = one.station;
     let b = two.station;
-    opened(a, b)
+    opened(rt, a, b)
 }

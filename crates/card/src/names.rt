@@ -1,5 +1,5 @@
 // Words on standard output; switches and presets by name, as document 01 calls them.
-use libc::STDOUT_FILENO;
+use cli::stream::STDOUT_FILENO;
 
 pub fn text(words: &[u8]) {
     io::write_all(STDOUT_FILENO, words);

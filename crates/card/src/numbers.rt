@@ -2,8 +2,8 @@
 ghost use Rattle.std.specs.Prelude.{◌<◌, ◌≤◌, ◌≡◌, length};
 
 use crate::names::text;
+use cli::stream::STDOUT_FILENO;
 use inspect::decimal;
-use libc::STDOUT_FILENO;
 
 pub fn whole(n: usize) {
     io::print_decimal(STDOUT_FILENO, n as u64);
@@ -82,9 +82,7 @@ fn pair(b: u8) {
 
 // A space and two digits for each byte.
 pub fn bytes(bytes: &[u8]) {
-    let mut i = 0;
-    while i < bytes.len() {
-        pair(bytes[i]);
-        i += 1;
+    for &b in bytes {
+        pair(b);
     }
 }

@@ -6,10 +6,11 @@ use cards::writer::Writing;
 use cards::{reader, writer};
 use chain::samples::{Sampling, samples};
 use cli::output::end;
+use cli::stream::STDOUT_FILENO;
 use cli::{input, names as called, words};
 use inspect::extent::Extent;
 use inspect::settings::{Setting, setting_at};
-use libc::STDOUT_FILENO;
+use std::io::Error;
 
 // The value of a setting of that kind of pass.
 pub fn value(kind: u8, s: Setting) {
@@ -52,7 +53,7 @@ fn setting(r: Record, j: usize) {
 }
 
 // A line for the pass at place i, counted from 1. No pass has more than four settings.
-fn record(r: Record, i: usize) -> bool {
+fn record(rt: HostRuntime, r: Record, i: usize) -> Result<(), Error> {
     text(b"  ");
     numbers::whole(i);
     text(b"  ");
@@ -65,31 +66,27 @@ fn record(r: Record, i: usize) -> bool {
     setting(r, 1);
     setting(r, 2);
     setting(r, 3);
-    end(b"\n")
+    end(rt, b"\n")
 }
 
 // A line for each pass of the chain.
-fn passes(station: Station) -> bool {
+fn passes(rt: HostRuntime, station: Station) -> Result<(), Error> {
     let n = station.n;
     let records = station.records;
     if n == 0 {
-        return end(b"  no pass: the picture is the frame\n");
+        return end(rt, b"  no pass: the picture is the frame\n");
     }
-    let mut i = 0;
-    while i < 12 {
+    for i in 0..12 {
         if i < n {
             let r = records[i];
-            if !record(r, i + 1) {
-                return false;
-            }
+            record(rt, r, i + 1)?;
         }
-        i += 1;
     }
-    true
+    Ok(())
 }
 
 // A line for the samples that the blurs take at a size. No station that a card opens is refused, nor is a size that has sides.
-fn sampled(station: Station, width: usize, height: usize) -> bool {
+fn sampled(rt: HostRuntime, station: Station, width: usize, height: usize) -> Result<(), Error> {
     match samples(station, width, height) {
         Sampling::Number(n) => {
             text(b"  samples: ");
@@ -98,22 +95,22 @@ fn sampled(station: Station, width: usize, height: usize) -> bool {
             numbers::whole(width);
             text(b" by ");
             numbers::whole(height);
-            end(b"\n")
+            end(rt, b"\n")
         }
-        Sampling::Refused(_) => end(b"  no samples\n"),
+        Sampling::Refused(_) => end(rt, b"  no samples\n"),
     }
 }
 
 // The same for the size that is asked for, if one is.
-fn asked(station: Station, extent: Extent) -> bool {
+fn asked(rt: HostRuntime, station: Station, extent: Extent) -> Result<(), Error> {
     match extent {
-        Extent::Sides(width, height) => sampled(station, width, height),
-        Extent::NoSize => true,
+        Extent::Sides(width, height) => sampled(rt, station, width, height),
+        Extent::NoSize => Ok(()),
     }
 }
 
 // The card as every card of this station is written.
-fn normalised(station: Station) -> bool {
+fn normalised(rt: HostRuntime, station: Station) -> Result<(), Error> {
     let mut card = [0u8; 83];
     let written = writer::write(station, &mut card);
     let answer = written.answer;
@@ -121,9 +118,9 @@ fn normalised(station: Station) -> bool {
         Writing::Length(n) => {
             text(b"  normalised:");
             prefix(&card, n);
-            end(b"\n")
+            end(rt, b"\n")
         }
-        Writing::Refused(_) => end(b"  no card\n"),
+        Writing::Refused(_) => end(rt, b"  no card\n"),
     }
 }
 
@@ -134,28 +131,34 @@ fn prefix(card: &[u8], n: usize) {
     }
 }
 
-// The card in words. The samples are told of a frame of 256 by 240, and of the size that is asked for.
-fn described(card: &[u8], extent: Extent) -> bool {
+// A card that is accepted, in words. The samples are told of a frame of 256 by 240, and of the size that is asked for.
+fn accepted(rt: HostRuntime, station: Station, extent: Extent) -> Result<(), Error> {
+    passes(rt, station)?;
+    sampled(rt, station, 256, 240)?;
+    asked(rt, station, extent)?;
+    normalised(rt, station)
+}
+
+// The card in words, or why it is refused.
+fn described(rt: HostRuntime, card: &[u8], extent: Extent) -> Result<(), Error> {
     let opened = reader::open(card);
     let answer = opened.answer;
     let station = opened.station;
     match answer {
-        Answer::Accepted => passes(station)
-            && sampled(station, 256, 240)
-            && asked(station, extent)
-            && normalised(station),
+        Answer::Accepted => accepted(rt, station, extent),
         Answer::Refused(k) => {
             text(b"  ");
-            words::refused(STDOUT_FILENO, card, k)
+            words::refused(rt, STDOUT_FILENO, card, k)
         }
     }
 }
 
 // The card that argument i gave, below that argument.
-pub fn titled(i: usize, card: &[u8], extent: Extent) -> bool {
+pub fn titled(rt: HostRuntime, i: usize, card: &[u8], extent: Extent) -> Result<(), Error> {
     let mut name = io::buffer();
-    let given = input::argument(i, &mut name);
+    let given = input::argument(rt, i, &mut name);
     let n = given.length;
     text(&name[..n]);
-    end(b"\n") && described(card, extent)
+    end(rt, b"\n")?;
+    described(rt, card, extent)
 }

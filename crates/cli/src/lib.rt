@@ -6,5 +6,7 @@ pub mod input; // arguments, files, cards
 pub mod memory; // the buffers that a frame's file is read into
 pub mod names; // passes and settings by name
 pub mod output; // lines of standard output, and that one was not written
+pub mod reason; // why a call of the system failed
 pub mod says; // lines behind an argument, words on standard error
+pub mod stream; // the standard streams by number
 pub mod words; // refusals in words

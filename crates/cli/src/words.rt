@@ -1,7 +1,8 @@
 // Refusals in words, and why a file is no frame, or holds no curve.
-use super::names;
+use super::{names, output};
 use cards::reader;
 use inspect::layout::{Field, field_at};
+use std::io::Error;
 
 // The trade's word of a refusal, as the papers have it.
 fn word(fd: i32, number: u8) {
@@ -61,8 +62,8 @@ fn field(fd: i32, f: Field) {
     }
 }
 
-// Why the card is refused, and where reading it stopped: at which bit, and in which field. Whether the end of this line was written.
-pub fn refused(fd: i32, card: &[u8], number: u8) -> bool {
+// Why the card is refused, and where reading it stopped: at which bit, and in which field. Whether the end of this line was written, or why not.
+pub fn refused(rt: HostRuntime, fd: i32, card: &[u8], number: u8) -> Result<(), Error> {
     let at = reader::stopped(card);
     io::write_all(fd, b"refused: ");
     io::print_decimal(fd, number as u64);
@@ -72,7 +73,7 @@ pub fn refused(fd: i32, card: &[u8], number: u8) -> bool {
     io::print_decimal(fd, at as u64);
     io::write_all(fd, b": ");
     field(fd, field_at(card, at));
-    io::write_all(fd, b"\n")
+    output::end_at(rt, fd, b"\n")
 }
 
 // A file that is no frame of 61,440 pixels, by the numbers of raster::ppm, and 10 of frames::fault.

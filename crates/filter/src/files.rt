@@ -3,16 +3,15 @@ ghost use Rattle.io.specs.Counts.{IsPrefixLen};
 
 use crate::says;
 use cards::station::Station;
-use cli::input;
+use cli::{input, output};
 use frames::Outcome;
 use frames::curve::Loaded;
-use libc::STDOUT_FILENO;
 
 // How many bytes the frame that argument i names has, at the start of the buffer; 0 where it cannot be taken, and then it is said why.
-pub fn taken(i: usize, file: &mut [u8]) -> usize
+pub fn taken(rt: HostRuntime, i: usize, file: &mut [u8]) -> usize
     ensures { IsPrefixLen result file.new }
 {
-    let loaded = input::named(i, file);
+    let loaded = input::named(rt, i, file);
     if !loaded.ok {
         return 0;
     }
@@ -20,7 +19,7 @@ pub fn taken(i: usize, file: &mut [u8]) -> usize
     let more = loaded.more;
     let k = frames::fault(&file[..n], more, 61440);
     if k != 0 {
-        says::no_frame(i, k);
+        says::no_frame(rt, i, k);
         return 0;
     }
     n
@@ -34,28 +33,28 @@ pub struct Turn {
 }
 
 // Writes the picture; its frame reported these two numbers.
-fn picture(i: usize, clipped: u32, samples: u32, tell: bool, file: &[u8]) -> bool {
-    let written = io::write_all(STDOUT_FILENO, file);
-    if !written {
-        os::fail(b"standard output");
+fn picture(rt: HostRuntime, i: usize, clipped: u32, samples: u32, tell: bool, file: &[u8]) -> bool {
+    let written = output::end(rt, file);
+    if written.is_err() {
+        output::told(written);
         return false;
     }
     if tell {
-        says::counts(i, clipped, samples);
+        says::counts(rt, i, clipped, samples);
     }
     true
 }
 
 // Writes the picture, or says why there is none.
-fn write(i: usize, outcome: Outcome, tell: bool, file: &[u8]) -> bool {
+fn write(rt: HostRuntime, i: usize, outcome: Outcome, tell: bool, file: &[u8]) -> bool {
     match outcome {
-        Outcome::Shown { clipped, samples } => picture(i, clipped, samples, tell, file),
+        Outcome::Shown { clipped, samples } => picture(rt, i, clipped, samples, tell, file),
         Outcome::NoFrame(k) => {
-            says::no_frame(i, k);
+            says::no_frame(rt, i, k);
             false
         }
         Outcome::Refused(k) => {
-            says::no_picture(i, k);
+            says::no_picture(rt, i, k);
             false
         }
     }
@@ -63,6 +62,7 @@ fn write(i: usize, outcome: Outcome, tell: bool, file: &[u8]) -> bool {
 
 // Filters the frame in these bytes, which argument i named, and writes the picture. With `tell` it is said what the frame reported.
 pub fn show(
+    rt: HostRuntime,
     station: Station,
     i: usize,
     tell: bool,
@@ -76,7 +76,7 @@ pub fn show(
     let filtered = frames::filter(station, file, words, history, floats, ints, curve);
     let outcome = filtered.outcome;
     let after = filtered.station;
-    let more = write(i, outcome, tell, file);
+    let more = write(rt, i, outcome, tell, file);
     Turn {
         station: after,
         more,
@@ -85,6 +85,7 @@ pub fn show(
 
 // The frame that argument i names.
 pub fn play(
+    rt: HostRuntime,
     station: Station,
     i: usize,
     tell: bool,
@@ -95,7 +96,7 @@ pub fn play(
     ints: &mut [u32; 61440],
     curve: &[f32],
 ) -> Turn {
-    let loaded = input::named(i, file);
+    let loaded = input::named(rt, i, file);
     if !loaded.ok {
         return Turn {
             station,
@@ -104,6 +105,7 @@ pub fn play(
     }
     let n = loaded.length;
     show(
+        rt,
         station,
         i,
         tell,
@@ -117,13 +119,13 @@ pub fn play(
 }
 
 // The curve in the file that argument i names. Where it holds none, it is said why, and the fault is not 0.
-pub fn curve(i: usize) -> Loaded {
+pub fn curve(rt: HostRuntime, i: usize) -> Loaded {
     let mut file = io::buffer();
-    let named = input::named(i, &mut file);
+    let named = input::named(rt, i, &mut file);
     let n = named.length;
     let loaded = frames::curve::load(&file[..n]);
     if named.ok && loaded.fault != 0 {
-        says::no_curve(i, loaded.fault);
+        says::no_curve(rt, i, loaded.fault);
     }
     loaded
 }

@@ -14,7 +14,7 @@ mod says; // why something is refused
 use cards::reader;
 use cards::station::{Answer, Station};
 use cli::input;
-use libc::STDERR_FILENO;
+use cli::stream::STDERR_FILENO;
 
 fn usage() {
     io::write_all(
@@ -28,19 +28,18 @@ fn usage() {
 }
 
 // Whether every argument from the first frame on names a frame that can be taken.
-fn all_taken(first: usize, count: usize, file: &mut [u8]) -> bool {
-    let mut i = first;
-    while i < count {
-        if files::taken(i, file) == 0 {
+fn all_taken(rt: HostRuntime, first: usize, count: usize, file: &mut [u8]) -> bool {
+    for i in first..count {
+        if files::taken(rt, i, file) == 0 {
             return false;
         }
-        i += 1;
     }
     true
 }
 
 // Shows the frames in a row, as long as they can be read and written.
 fn show_all(
+    rt: HostRuntime,
     station: Station,
     first: usize,
     count: usize,
@@ -53,10 +52,9 @@ fn show_all(
     let mut floats = memory::floats();
     let mut ints = memory::ints();
     let mut now = station;
-    let mut more = true;
-    let mut i = first;
-    while i < count && more {
+    for i in first..count {
         let turn = files::play(
+            rt,
             now,
             i,
             tell,
@@ -67,19 +65,28 @@ fn show_all(
             &mut ints,
             curve,
         );
+        if !turn.more {
+            return;
+        }
         now = turn.station;
-        more = turn.more;
-        i += 1;
     }
 }
 
 // A single frame, in these bytes.
-fn show_one(station: Station, first: usize, tell: bool, curve: &[f32], file: &mut [u8]) {
+fn show_one(
+    rt: HostRuntime,
+    station: Station,
+    first: usize,
+    tell: bool,
+    curve: &[f32],
+    file: &mut [u8],
+) {
     let mut words = cli::memory::words();
     let mut history = memory::history();
     let mut floats = memory::floats();
     let mut ints = memory::ints();
     files::show(
+        rt,
         station,
         first,
         tell,
@@ -93,48 +100,48 @@ fn show_one(station: Station, first: usize, tell: bool, curve: &[f32], file: &mu
 }
 
 // A single frame is read once, so it may come from a pipe. Several are read twice: all are looked at before the first picture is written.
-fn run(station: Station, first: usize, count: usize, tell: bool, curve: &[f32])
+fn run(rt: HostRuntime, station: Station, first: usize, count: usize, tell: bool, curve: &[f32])
     requires { first ≤ 5 }
 {
     let mut file = cli::memory::file();
     if count == first + 1 {
-        let n = files::taken(first, &mut file);
+        let n = files::taken(rt, first, &mut file);
         if 0 < n {
-            show_one(station, first, tell, curve, &mut file[..n]);
+            show_one(rt, station, first, tell, curve, &mut file[..n]);
         }
         return;
     }
-    if all_taken(first, count, &mut file) {
-        show_all(station, first, count, tell, curve, &mut file);
+    if all_taken(rt, first, count, &mut file) {
+        show_all(rt, station, first, count, tell, curve, &mut file);
     }
 }
 
 // With the curve that argument `named` names; 0 for none.
-fn lend(station: Station, first: usize, count: usize, tell: bool, named: usize)
+fn lend(rt: HostRuntime, station: Station, first: usize, count: usize, tell: bool, named: usize)
     requires { first ≤ 5 }
 {
     if named == 0 {
         let none: [f32; 0] = [];
-        run(station, first, count, tell, &none);
+        run(rt, station, first, count, tell, &none);
         return;
     }
-    let loaded = files::curve(named);
+    let loaded = files::curve(rt, named);
     if loaded.fault == 0 {
         let curve = loaded.words;
-        run(station, first, count, tell, &curve);
+        run(rt, station, first, count, tell, &curve);
     }
 }
 
 // The card at place `at` among the arguments, and the frames behind it.
-fn play(at: usize, count: usize, tell: bool, named: usize)
+fn play(rt: HostRuntime, at: usize, count: usize, tell: bool, named: usize)
     requires { at ≤ 4 }
 {
-    if count < at + 2 || input::is_option(at) {
+    if count < at + 2 || input::is_option(rt, at) {
         usage();
         return;
     }
     let mut card = io::buffer();
-    let loaded = input::card(at, &mut card);
+    let loaded = input::card(rt, at, &mut card);
     if !loaded.ok {
         return;
     }
@@ -143,15 +150,15 @@ fn play(at: usize, count: usize, tell: bool, named: usize)
     let answer = opened.answer;
     let station = opened.station;
     match answer {
-        Answer::Accepted => lend(station, at + 1, count, tell, named),
-        Answer::Refused(k) => says::card(at, &card[..n], k),
+        Answer::Accepted => lend(rt, station, at + 1, count, tell, named),
+        Answer::Refused(k) => says::card(rt, at, &card[..n], k),
     }
 }
 
 // Which option argument i is: 1 for --counts, 2 for --curve, 0 for none.
-fn option(i: usize) -> u8 {
+fn option(rt: HostRuntime, i: usize) -> u8 {
     let mut name = io::buffer();
-    let n = os::arg(i, &mut name);
+    let n = input::given(rt, i, &mut name);
     if check::same(&name[..n], b"--counts") {
         return 1;
     }
@@ -162,23 +169,23 @@ fn option(i: usize) -> u8 {
 }
 
 // The options come before the card, in either order, each once.
-fn main() {
-    let count = os::arg_count();
-    match option(1) {
+fn main(rt: HostRuntime) {
+    let count = input::count(rt);
+    match option(rt, 1) {
         1 => {
-            if option(2) == 2 {
-                play(4, count, true, 3);
+            if option(rt, 2) == 2 {
+                play(rt, 4, count, true, 3);
             } else {
-                play(2, count, true, 0);
+                play(rt, 2, count, true, 0);
             }
         }
         2 => {
-            if option(3) == 1 {
-                play(4, count, true, 2);
+            if option(rt, 3) == 1 {
+                play(rt, 4, count, true, 2);
             } else {
-                play(3, count, false, 2);
+                play(rt, 3, count, false, 2);
             }
         }
-        _ => play(1, count, false, 0),
+        _ => play(rt, 1, count, false, 0),
     }
 }

@@ -1,29 +1,29 @@
 // Why something is refused, and what a picture's frame reported: one line on standard error, behind the argument that gave it.
 use cli::says::{name, text};
+use cli::stream::STDERR_FILENO;
 use cli::words;
-use libc::STDERR_FILENO;
 
 // The card, which argument i gives.
-pub fn card(i: usize, card: &[u8], number: u8) {
-    name(STDERR_FILENO, i);
-    words::refused(STDERR_FILENO, card, number);
+pub fn card(rt: HostRuntime, i: usize, card: &[u8], number: u8) {
+    name(rt, STDERR_FILENO, i);
+    let _ = words::refused(rt, STDERR_FILENO, card, number);
 }
 
 // A file that is no frame, by the numbers of raster::ppm, and 10 of frames::fault.
-pub fn no_frame(i: usize, number: u8) {
-    name(STDERR_FILENO, i);
+pub fn no_frame(rt: HostRuntime, i: usize, number: u8) {
+    name(rt, STDERR_FILENO, i);
     words::no_frame(STDERR_FILENO, number);
 }
 
 // A file that holds no curve, by the numbers of frames::curve.
-pub fn no_curve(i: usize, number: u8) {
-    name(STDERR_FILENO, i);
+pub fn no_curve(rt: HostRuntime, i: usize, number: u8) {
+    name(rt, STDERR_FILENO, i);
     words::no_curve(STDERR_FILENO, number);
 }
 
 // A frame that the station refused. No station that a card opens refuses a frame with all that is lent here, but by 16 where no curve is named.
-pub fn no_picture(i: usize, number: u8) {
-    name(STDERR_FILENO, i);
+pub fn no_picture(rt: HostRuntime, i: usize, number: u8) {
+    name(rt, STDERR_FILENO, i);
     text(b"refused: ");
     io::print_decimal(STDERR_FILENO, number as u64);
     if number == 16 {
@@ -33,8 +33,8 @@ pub fn no_picture(i: usize, number: u8) {
 }
 
 // A picture that was written.
-pub fn counts(i: usize, clipped: u32, samples: u32) {
-    name(STDERR_FILENO, i);
+pub fn counts(rt: HostRuntime, i: usize, clipped: u32, samples: u32) {
+    name(rt, STDERR_FILENO, i);
     io::print_decimal(STDERR_FILENO, clipped as u64);
     text(b" clipped channels, ");
     io::print_decimal(STDERR_FILENO, samples as u64);

@@ -8,7 +8,9 @@ ghost use Rattle.events.specs.Events.{head_wanted, event_wanted};
 use cards::station::Station;
 use events::play::Played;
 use events::{event, play};
-use libc::STDIN_FILENO;
+
+// Standard input by its number, which the functions of `io` take.
+pub const STDIN_FILENO: i32 = 0;
 
 // The buffers that are lent. A long array is made by a function, so that a proof sees its length alone.
 pub fn framebuffer() -> [u32; 1024]

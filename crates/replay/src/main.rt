@@ -10,7 +10,10 @@ mod adler; // the checksum
 use adler::adler;
 use cards::station::Station;
 use events::play::Played;
-use libc::{STDIN_FILENO, STDOUT_FILENO};
+use player::STDIN_FILENO;
+
+// Standard output by its number, which the functions of `io` take.
+const STDOUT_FILENO: i32 = 1;
 
 // The next byte, 0 at the end of the input.
 fn next() -> u8 {
@@ -145,7 +148,7 @@ fn begin() -> Run {
     Run { station, tally }
 }
 
-// A proved loop has to end, and nothing says that an input does: it counts its turns down, from a number that no run uses up.
+// A proved loop has to end, and nothing says that an input does: it counts its turns, up to a number that no run reaches.
 fn main() {
     let mut input = io::buffer();
     let mut framebuffer = player::framebuffer();
@@ -155,8 +158,10 @@ fn main() {
     let mut out = player::line();
     let mut run = begin();
     let mut letter = next();
-    let mut turns = u64::MAX;
-    while turns > 0 && letter != 0 {
+    for _ in 0..u64::MAX {
+        if letter == 0 {
+            break;
+        }
         run = replay(
             letter,
             run,
@@ -168,7 +173,6 @@ fn main() {
             &mut out,
         );
         letter = next();
-        turns -= 1;
     }
     let tally = run.tally;
     report(tally);

@@ -9,12 +9,12 @@ use cli::input::Loaded;
 use frames::curve::Loaded as LoadedCurve;
 
 // The file that argument i names; where it cannot be taken whole, it is said why.
-pub fn load(i: usize, out: &mut [u8]) -> Loaded
+pub fn load(rt: HostRuntime, i: usize, out: &mut [u8]) -> Loaded
     ensures { IsPrefixLen result.length out.new }
 {
-    let loaded = input::named(i, out);
+    let loaded = input::named(rt, i, out);
     if loaded.more {
-        says::too_long(i);
+        says::too_long(rt, i);
         return Loaded {
             ok: false,
             length: 0,
@@ -35,13 +35,13 @@ pub fn count(sheet: &[u8]) -> u32
 }
 
 // The curve in the file that argument i names. Where it holds none, it is said why, and the fault is not 0.
-pub fn curve(i: usize) -> LoadedCurve {
+pub fn curve(rt: HostRuntime, i: usize) -> LoadedCurve {
     let mut file = io::buffer();
-    let named = input::named(i, &mut file);
+    let named = input::named(rt, i, &mut file);
     let n = named.length;
     let loaded = frames::curve::load(&file[..n]);
     if named.ok && loaded.fault != 0 {
-        says::no_curve(i, loaded.fault);
+        says::no_curve(rt, i, loaded.fault);
     }
     loaded
 }

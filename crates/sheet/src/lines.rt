@@ -6,7 +6,7 @@ use cards::station::Station;
 use chain::pipeline;
 use chain::pipeline::Question;
 use cli::says::text;
-use libc::STDERR_FILENO;
+use cli::stream::STDERR_FILENO;
 use num::size::{Size, area};
 use sheets::event::Event;
 use sheets::play::Turn;
@@ -32,10 +32,8 @@ fn pixel(p: u32) {
 }
 
 fn pixels(words: &[u32]) {
-    let mut i = 0;
-    while i < words.len() {
-        pixel(words[i]);
-        i += 1;
+    for &p in words {
+        pixel(p);
     }
 }
 

@@ -16,8 +16,8 @@ mod record; // a sheet written
 
 use cards::reader;
 use cards::station::{Answer, Station};
+use cli::stream::STDERR_FILENO;
 use cli::{input, output};
-use libc::STDERR_FILENO;
 
 fn usage() {
     io::write_all(
@@ -37,9 +37,9 @@ const CURVE: u8 = 2;
 
 const RECORD: u8 = 3;
 
-fn option(i: usize) -> u8 {
+fn option(rt: HostRuntime, i: usize) -> u8 {
     let mut name = io::buffer();
-    let n = os::arg(i, &mut name);
+    let n = input::given(rt, i, &mut name);
     if check::same(&name[..n], b"--play") {
         return PLAY;
     }
@@ -53,39 +53,39 @@ fn option(i: usize) -> u8 {
 }
 
 // Prints the sheet that argument 1 names.
-fn printed(file: &mut [u8]) {
-    let loaded = files::load(1, file);
+fn printed(rt: HostRuntime, file: &mut [u8]) {
+    let loaded = files::load(rt, 1, file);
     if !loaded.ok {
         return;
     }
     let n = loaded.length;
-    output::told(show::titled(1, &file[..n]));
+    output::told(show::titled(rt, 1, &file[..n]));
 }
 
 // Plays the sheet that argument i names, with the curve that argument `named` names; 0 for none.
-fn lend(station: Station, i: usize, named: usize, file: &mut [u8]) {
+fn lend(rt: HostRuntime, station: Station, i: usize, named: usize, file: &mut [u8]) {
     if named == 0 {
         let none: [f32; 0] = [];
-        play::play(station, i, &none, file);
+        play::play(rt, station, i, &none, file);
         return;
     }
-    let loaded = files::curve(named);
+    let loaded = files::curve(rt, named);
     if loaded.fault == 0 {
         let curve = loaded.words;
-        play::play(station, i, &curve, file);
+        play::play(rt, station, i, &curve, file);
     }
 }
 
 // The card at place `at` among the arguments, and the sheet behind it.
-fn played(at: usize, count: usize, named: usize, file: &mut [u8])
+fn played(rt: HostRuntime, at: usize, count: usize, named: usize, file: &mut [u8])
     requires { at ≤ 4 }
 {
-    if count != at + 2 || input::is_option(at) || input::is_option(at + 1) {
+    if count != at + 2 || input::is_option(rt, at) || input::is_option(rt, at + 1) {
         usage();
         return;
     }
     let mut card = io::buffer();
-    let loaded = input::card(at, &mut card);
+    let loaded = input::card(rt, at, &mut card);
     if !loaded.ok {
         return;
     }
@@ -94,47 +94,47 @@ fn played(at: usize, count: usize, named: usize, file: &mut [u8])
     let answer = opened.answer;
     let station = opened.station;
     match answer {
-        Answer::Accepted => lend(station, at + 1, named, file),
-        Answer::Refused(k) => says::card(at, &card[..n], k),
+        Answer::Accepted => lend(rt, station, at + 1, named, file),
+        Answer::Refused(k) => says::card(rt, at, &card[..n], k),
     }
 }
 
 // The one file that is named at place i, the last one.
-fn is_last(i: usize, count: usize) -> bool
+fn is_last(rt: HostRuntime, i: usize, count: usize) -> bool
     requires { i ≤ 2 }
 {
-    count == i + 1 && !input::is_option(i)
+    count == i + 1 && !input::is_option(rt, i)
 }
 
 // The options of a playing come before the card, in either order, each once.
-fn main() {
-    let count = os::arg_count();
+fn main(rt: HostRuntime) {
+    let count = input::count(rt);
     let mut file = memory::bytes();
-    match option(1) {
+    match option(rt, 1) {
         PLAY => {
-            if option(2) == CURVE {
-                played(4, count, 3, &mut file);
+            if option(rt, 2) == CURVE {
+                played(rt, 4, count, 3, &mut file);
             } else {
-                played(2, count, 0, &mut file);
+                played(rt, 2, count, 0, &mut file);
             }
         }
         CURVE => {
-            if option(3) == PLAY {
-                played(4, count, 2, &mut file);
+            if option(rt, 3) == PLAY {
+                played(rt, 4, count, 2, &mut file);
             } else {
                 usage();
             }
         }
         RECORD => {
-            if is_last(2, count) {
-                record::record(2, &mut file);
+            if is_last(rt, 2, count) {
+                record::record(rt, 2, &mut file);
             } else {
                 usage();
             }
         }
         _ => {
-            if is_last(1, count) {
-                printed(&mut file);
+            if is_last(rt, 1, count) {
+                printed(rt, &mut file);
             } else {
                 usage();
             }

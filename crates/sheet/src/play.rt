@@ -4,8 +4,9 @@ ghost use Rattle.sheets.specs.Promises.{Within};
 
 use crate::{files, lines, memory, picture, says};
 use cards::station::Station;
+use cli::output::told;
 use cli::says::text;
-use libc::STDERR_FILENO;
+use cli::stream::STDERR_FILENO;
 use num::size::Size;
 use sheets::event::{Event, EventRead, is_whole, read};
 use sheets::play::{Turn, make};
@@ -88,7 +89,7 @@ fn tally(accepted: u32, refused: u32) {
 }
 
 // Plays a sheet that is whole, writes the last picture, and tells how many events were accepted; where it cannot be written, that is said in their place.
-fn run(station: Station, sheet: &[u8], curve: &[f32]) {
+fn run(rt: HostRuntime, station: Station, sheet: &[u8], curve: &[f32]) {
     let mut words = cli::memory::words();
     let mut history = memory::history();
     let mut floats = memory::floats();
@@ -106,23 +107,24 @@ fn run(station: Station, sheet: &[u8], curve: &[f32]) {
     );
     let accepted = played.accepted;
     let size = played.size;
-    if picture::write(size, &words) {
+    let written = picture::write(rt, size, &words);
+    if written.is_ok() {
         tally(accepted, n - accepted);
     } else {
-        os::fail(b"standard output");
+        told(written);
     }
 }
 
 // The sheet that argument i names.
-pub fn play(station: Station, i: usize, curve: &[f32], file: &mut [u8]) {
-    let loaded = files::load(i, file);
+pub fn play(rt: HostRuntime, station: Station, i: usize, curve: &[f32], file: &mut [u8]) {
+    let loaded = files::load(rt, i, file);
     if !loaded.ok {
         return;
     }
     let n = loaded.length;
     if is_whole(&file[..n]) {
-        run(station, &file[..n], curve);
+        run(rt, station, &file[..n], curve);
     } else {
-        says::sheet(i);
+        says::sheet(rt, i);
     }
 }

@@ -7,38 +7,38 @@ use cli::output::{end, told};
 use events::event::head_wanted;
 
 // The events, behind the card of the file that argument i named.
-fn written(i: usize, events: &[u8]) {
+fn written(rt: HostRuntime, i: usize, events: &[u8]) {
     let mut sheet = memory::bytes();
     let packed = pack::all(events, &mut sheet);
     if packed.fault != 0 {
-        says::event(i, packed.events, packed.fault);
+        says::event(rt, i, packed.events, packed.fault);
         return;
     }
     let n = packed.length;
-    told(end(&sheet[..n]));
+    told(end(rt, &sheet[..n]));
 }
 
 // The file's bytes. Its card is looked at, since the program reads no event behind one that is refused.
-fn behind_card(i: usize, file: &[u8]) {
+fn behind_card(rt: HostRuntime, i: usize, file: &[u8]) {
     let end = head_wanted(file);
     if file.len() < end {
-        says::no_card(i);
+        says::no_card(rt, i);
         return;
     }
     let opened = reader::open(&file[1..end]);
     let answer = opened.answer;
     match answer {
-        Answer::Accepted => written(i, &file[end..]),
-        Answer::Refused(k) => says::card_in(i, &file[1..end], k),
+        Answer::Accepted => written(rt, i, &file[end..]),
+        Answer::Refused(k) => says::card_in(rt, i, &file[1..end], k),
     }
 }
 
 // The file that argument i names.
-pub fn record(i: usize, file: &mut [u8]) {
-    let loaded = files::load(i, file);
+pub fn record(rt: HostRuntime, i: usize, file: &mut [u8]) {
+    let loaded = files::load(rt, i, file);
     if !loaded.ok {
         return;
     }
     let n = loaded.length;
-    behind_card(i, &file[..n]);
+    behind_card(rt, i, &file[..n]);
 }

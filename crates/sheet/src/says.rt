@@ -1,52 +1,54 @@
 // Why something is refused: one line on standard error, behind the argument that gave it.
 use crate::pack;
+use cli::output::end_at;
 use cli::says::{name, text};
+use cli::stream::STDERR_FILENO;
 use cli::words;
-use libc::STDERR_FILENO;
+use std::io::Error;
 
 // The card, which argument i gives.
-pub fn card(i: usize, card: &[u8], number: u8) {
-    name(STDERR_FILENO, i);
-    words::refused(STDERR_FILENO, card, number);
+pub fn card(rt: HostRuntime, i: usize, card: &[u8], number: u8) {
+    name(rt, STDERR_FILENO, i);
+    let _ = words::refused(rt, STDERR_FILENO, card, number);
 }
 
 // A file that holds no curve, by the numbers of frames::curve.
-pub fn no_curve(i: usize, number: u8) {
-    name(STDERR_FILENO, i);
+pub fn no_curve(rt: HostRuntime, i: usize, number: u8) {
+    name(rt, STDERR_FILENO, i);
     words::no_curve(STDERR_FILENO, number);
 }
 
-pub fn too_long(i: usize) {
-    name(STDERR_FILENO, i);
+pub fn too_long(rt: HostRuntime, i: usize) {
+    name(rt, STDERR_FILENO, i);
     text(b"too long: more than 2097152 bytes\n");
 }
 
-// A sheet that cannot be played. Whether the end of this line was written.
-pub fn bad_sheet(fd: i32) -> bool {
-    io::write_all(fd, b"refused: 20, bad sheet\n")
+// A sheet that cannot be played. Whether this line was written, or why not.
+pub fn bad_sheet(rt: HostRuntime, fd: i32) -> Result<(), Error> {
+    end_at(rt, fd, b"refused: 20, bad sheet\n")
 }
 
-pub fn sheet(i: usize) {
-    name(STDERR_FILENO, i);
-    bad_sheet(STDERR_FILENO);
+pub fn sheet(rt: HostRuntime, i: usize) {
+    name(rt, STDERR_FILENO, i);
+    let _ = bad_sheet(rt, STDERR_FILENO);
 }
 
 // A file of events that ends before its card does.
-pub fn no_card(i: usize) {
-    name(STDERR_FILENO, i);
+pub fn no_card(rt: HostRuntime, i: usize) {
+    name(rt, STDERR_FILENO, i);
     text(b"cut off in its card\n");
 }
 
 // The card of a file of events.
-pub fn card_in(i: usize, card: &[u8], number: u8) {
-    name(STDERR_FILENO, i);
+pub fn card_in(rt: HostRuntime, i: usize, card: &[u8], number: u8) {
+    name(rt, STDERR_FILENO, i);
     text(b"card ");
-    words::refused(STDERR_FILENO, card, number);
+    let _ = words::refused(rt, STDERR_FILENO, card, number);
 }
 
 // An event that has no place on a sheet, behind so many others.
-pub fn event(i: usize, before: usize, fault: u8) {
-    name(STDERR_FILENO, i);
+pub fn event(rt: HostRuntime, i: usize, before: usize, fault: u8) {
+    name(rt, STDERR_FILENO, i);
     text(b"event ");
     if before < 65536 {
         io::print_decimal(STDERR_FILENO, (before + 1) as u64);

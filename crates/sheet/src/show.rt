@@ -1,13 +1,14 @@
-// A sheet in words, on standard output: how many events it has, and a line for each; or that it is refused. A function that writes lines says whether it
-// wrote them; after a line that was not written no other is.
+// A sheet in words, on standard output: how many events it has, and a line for each; or that it is refused. A function that writes lines answers
+// the error of the one that it could not write; after a line that was not written no other is.
 ghost use Rattle.std.specs.Prelude.{◌<◌};
 
 use crate::{files, says};
 use cli::names;
 use cli::output::end;
 use cli::says::argument;
-use libc::STDOUT_FILENO;
+use cli::stream::STDOUT_FILENO;
 use sheets::event::{Event, EventRead, is_whole, read};
+use std::io::Error;
 
 pub fn text(words: &[u8]) {
     io::write_all(STDOUT_FILENO, words);
@@ -64,51 +65,48 @@ fn event(e: Event) {
 }
 
 // A line for event i, counted from 1.
-fn line(i: u32, e: Event) -> bool {
+fn line(rt: HostRuntime, i: u32, e: Event) -> Result<(), Error> {
     text(b"  ");
     number(i as usize);
     text(b"  ");
     event(e);
-    end(b"\n")
+    end(rt, b"\n")
 }
 
 // A line for each of the n events of a sheet that is whole.
-fn lines(sheet: &[u8], n: u32) -> bool
+fn lines(rt: HostRuntime, sheet: &[u8], n: u32) -> Result<(), Error>
     requires { n < 65536 }
 {
     let mut next: usize = 16;
-    let mut i: u32 = 0;
-    while i < n {
+    for i in 0..n {
         let EventRead::Value(e, after) = read(sheet, next) else {
-            return true;
+            return Ok(());
         };
-        if !line(i + 1, e) {
-            return false;
-        }
+        line(rt, i + 1, e)?;
         next = after;
-        i += 1;
     }
-    true
+    Ok(())
 }
 
 // How many events there are, at the end of the first line.
-fn counted(n: u32) -> bool {
+fn counted(rt: HostRuntime, n: u32) -> Result<(), Error> {
     text(b": ");
     number(n as usize);
     if n == 1 {
-        end(b" event\n")
+        end(rt, b" event\n")
     } else {
-        end(b" events\n")
+        end(rt, b" events\n")
     }
 }
 
 // The sheet in the file that argument i named.
-pub fn titled(i: usize, sheet: &[u8]) -> bool {
-    argument(STDOUT_FILENO, i);
+pub fn titled(rt: HostRuntime, i: usize, sheet: &[u8]) -> Result<(), Error> {
+    argument(rt, STDOUT_FILENO, i);
     if !is_whole(sheet) {
         text(b"\n  ");
-        return says::bad_sheet(STDOUT_FILENO);
+        return says::bad_sheet(rt, STDOUT_FILENO);
     }
     let n = files::count(sheet);
-    counted(n) && lines(sheet, n)
+    counted(rt, n)?;
+    lines(rt, sheet, n)
 }

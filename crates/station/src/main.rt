@@ -6,7 +6,9 @@ ghost use Rattle.std.specs.Prelude.{◌≤◌, length};
 
 use cards::station::Station;
 use events::play::Played;
-use libc::STDOUT_FILENO;
+
+// Standard output by its number, which the functions of `io` take.
+const STDOUT_FILENO: i32 = 1;
 
 // Writes the first n bytes, and answers whether it could.
 fn print(out: &[u8], n: usize) -> bool
@@ -43,7 +45,7 @@ fn turn(
     played
 }
 
-// A proved loop has to end, and nothing says that an input does: it counts its turns down, from a number that no run uses up.
+// A proved loop has to end, and nothing says that an input does: it counts its turns, up to a number that no run reaches.
 fn main() {
     let mut input = io::buffer();
     let mut framebuffer = player::framebuffer();
@@ -54,8 +56,10 @@ fn main() {
     let begun = begin(&mut input, &mut out);
     let mut station = begun.station;
     let mut more = begun.more;
-    let mut turns = u64::MAX;
-    while turns > 0 && more {
+    for _ in 0..u64::MAX {
+        if !more {
+            return;
+        }
         let played = turn(
             station,
             &mut input,
@@ -67,6 +71,5 @@ fn main() {
         );
         station = played.station;
         more = played.more;
-        turns -= 1;
     }
 }

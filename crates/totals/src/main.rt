@@ -18,37 +18,37 @@ fn usage() {
 }
 
 // One picture: `first` is the place of the first area among the arguments.
-fn one(first: usize, areas: &[u16])
+fn one(rt: HostRuntime, first: usize, areas: &[u16])
     requires { first ≤ 3 }
 {
     let mut file = memory::file();
     let mut words = memory::words();
     let mut totals = measured::room();
-    let read = measured::totals(1, first, &mut file, &mut words, areas, &mut totals);
+    let read = measured::totals(rt, 1, first, &mut file, &mut words, areas, &mut totals);
     if read.ok {
-        output::told(shown::all(first, areas, &totals, read.words));
+        output::told(shown::all(rt, first, areas, &totals, read.words));
     }
 }
 
-fn two(first: usize, areas: &[u16])
+fn two(rt: HostRuntime, first: usize, areas: &[u16])
     requires { first ≤ 3 }
 {
     let mut file = memory::file();
     let mut words = memory::words();
     let mut totals = measured::room();
-    let read = measured::totals(1, first, &mut file, &mut words, areas, &mut totals);
+    let read = measured::totals(rt, 1, first, &mut file, &mut words, areas, &mut totals);
     if !read.ok {
         return;
     }
     let mut others = measured::room();
-    let read = measured::totals(2, first, &mut file, &mut words, areas, &mut others);
+    let read = measured::totals(rt, 2, first, &mut file, &mut words, areas, &mut others);
     if read.ok {
-        output::told(shown::differences(first, areas, &totals, &others));
+        output::told(shown::differences(rt, first, areas, &totals, &others));
     }
 }
 
 // `first` is 2 behind one picture, 3 behind two.
-fn run(first: usize, count: usize)
+fn run(rt: HostRuntime, first: usize, count: usize)
     requires { first ≤ 3 }
 {
     if count <= first {
@@ -56,27 +56,27 @@ fn run(first: usize, count: usize)
         return;
     }
     let mut areas = given::room();
-    let taken = given::areas(first, count, &mut areas);
+    let taken = given::areas(rt, first, count, &mut areas);
     if !taken.ok {
         return;
     }
     let n = taken.numbers;
     if first == 2 {
-        one(first, &areas[..n]);
+        one(rt, first, &areas[..n]);
     } else {
-        two(first, &areas[..n]);
+        two(rt, first, &areas[..n]);
     }
 }
 
-fn main() {
-    let count = os::arg_count();
-    if count < 3 || input::is_option(1) {
+fn main(rt: HostRuntime) {
+    let count = input::count(rt);
+    if count < 3 || input::is_option(rt, 1) {
         usage();
         return;
     }
-    if given::is_area(2) {
-        run(2, count);
+    if given::is_area(rt, 2) {
+        run(rt, 2, count);
     } else {
-        run(3, count);
+        run(rt, 3, count);
     }
 }

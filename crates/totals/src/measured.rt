@@ -1,10 +1,10 @@
 // The totals of a picture.
 ghost use Rattle.std.specs.Prelude.{◌≡◌, ◌≤◌, length};
 
+use cli::stream::STDERR_FILENO;
 use cli::{input, says, words};
 use frames::judge;
 use frames::judge::Judged;
-use libc::STDERR_FILENO;
 
 // Three totals for each of 64 areas.
 pub fn room() -> [u64; 192]
@@ -38,32 +38,31 @@ fn leaves(file: &[u8], words: &mut [u32], area: &[u16]) -> bool {
 }
 
 // Says behind argument k, an area, that it leaves the picture that argument i names.
-fn bad_area(i: usize, k: usize) {
-    says::name(STDERR_FILENO, k);
+fn bad_area(rt: HostRuntime, i: usize, k: usize) {
+    says::name(rt, STDERR_FILENO, k);
     says::text(b"bad area: it leaves the picture ");
-    says::argument(STDERR_FILENO, i);
+    says::argument(rt, STDERR_FILENO, i);
     says::text(b"\n");
 }
 
 // Which of the areas leaves the picture that argument i names: the first that is refused by itself.
-fn outside(i: usize, first: usize, file: &[u8], words: &mut [u32], areas: &[u16])
+fn outside(rt: HostRuntime, i: usize, first: usize, file: &[u8], words: &mut [u32], areas: &[u16])
     requires { first ≤ 3 }
 {
     let n = areas.len() / 4;
-    let mut k: usize = 0;
-    while k < n {
+    for k in 0..n {
         let at = 4 * k;
         let end = at + 4;
         if leaves(file, words, &areas[at..end]) {
-            bad_area(i, first + k);
+            bad_area(rt, i, first + k);
             return;
         }
-        k += 1;
     }
 }
 
 // The totals of the picture that argument i names; or a line that says why there are none.
 pub fn totals(
+    rt: HostRuntime,
     i: usize,
     first: usize,
     file: &mut [u8],
@@ -73,7 +72,7 @@ pub fn totals(
 ) -> Measured
     requires { first ≤ 3 }
 {
-    let loaded = input::named(i, file);
+    let loaded = input::named(rt, i, file);
     if !loaded.ok {
         return refused();
     }
@@ -81,7 +80,7 @@ pub fn totals(
     let more = loaded.more;
     let fault = frames::fault(&file[..n], more, 61440);
     if fault != 0 {
-        says::name(STDERR_FILENO, i);
+        says::name(rt, STDERR_FILENO, i);
         words::no_frame(STDERR_FILENO, fault);
         return refused();
     }
@@ -89,12 +88,12 @@ pub fn totals(
     match judged {
         Judged::Read(words) => Measured { ok: true, words },
         Judged::NoFrame(k) => {
-            says::name(STDERR_FILENO, i);
+            says::name(rt, STDERR_FILENO, i);
             words::no_frame(STDERR_FILENO, k);
             refused()
         }
         Judged::Refused(_) => {
-            outside(i, first, &file[..n], words, areas);
+            outside(rt, i, first, &file[..n], words, areas);
             refused()
         }
     }

@@ -1,10 +1,11 @@
-// What is written: a line for each area, behind the argument that gave it, and a last line of all. A function that writes lines says whether it wrote them;
-// after a line that was not written no other is.
+// What is written: a line for each area, behind the argument that gave it, and a last line of all. A function that writes lines answers the error
+// of the one that it could not write; after a line that was not written no other is.
 ghost use Rattle.std.specs.Prelude.{◌<◌, ◌≤◌};
 
 use cli::output::end;
 use cli::says;
-use libc::STDOUT_FILENO;
+use cli::stream::STDOUT_FILENO;
+use std::io::Error;
 
 fn text(words: &[u8]) {
     io::write_all(STDOUT_FILENO, words);
@@ -30,34 +31,36 @@ fn difference(a: u64, b: u64) {
 }
 
 // The totals of area k, behind argument i.
-fn line(i: usize, k: usize, totals: &[u64; 192]) -> bool
+fn line(rt: HostRuntime, i: usize, k: usize, totals: &[u64; 192]) -> Result<(), Error>
     requires { k < 64 }
 {
-    says::name(STDOUT_FILENO, i);
+    says::name(rt, STDOUT_FILENO, i);
     text(b"red ");
     number(totals[3 * k]);
     text(b", green ");
     number(totals[3 * k + 1]);
     text(b", blue ");
     number(totals[3 * k + 2]);
-    end(b"\n")
+    end(rt, b"\n")
 }
 
 // The totals of one picture.
-pub fn all(first: usize, areas: &[u16], totals: &[u64; 192], words: u32) -> bool
+pub fn all(
+    rt: HostRuntime,
+    first: usize,
+    areas: &[u16],
+    totals: &[u64; 192],
+    words: u32,
+) -> Result<(), Error>
     requires { first ≤ 3 }
 {
     let n = areas.len() / 4;
-    let mut k: usize = 0;
-    while k < n && k < 64 {
-        if !line(first + k, k, totals) {
-            return false;
-        }
-        k += 1;
+    for k in 0..n.min(64) {
+        line(rt, first + k, k, totals)?;
     }
     text(b"words read: ");
     number(words as u64);
-    end(b"\n")
+    end(rt, b"\n")
 }
 
 fn same(k: usize, a: &[u64; 192], b: &[u64; 192]) -> bool
@@ -81,12 +84,18 @@ fn differs(k: usize, a: &[u64; 192], b: &[u64; 192]) -> u64
 }
 
 // How area k differs, behind argument i.
-fn compared(i: usize, k: usize, totals: &[u64; 192], others: &[u64; 192]) -> bool
+fn compared(
+    rt: HostRuntime,
+    i: usize,
+    k: usize,
+    totals: &[u64; 192],
+    others: &[u64; 192],
+) -> Result<(), Error>
     requires { k < 64 }
 {
-    says::name(STDOUT_FILENO, i);
+    says::name(rt, STDOUT_FILENO, i);
     if same(k, totals, others) {
-        return end(b"the same\n");
+        return end(rt, b"the same\n");
     }
     text(b"differs: red ");
     difference(totals[3 * k], others[3 * k]);
@@ -94,25 +103,27 @@ fn compared(i: usize, k: usize, totals: &[u64; 192], others: &[u64; 192]) -> boo
     difference(totals[3 * k + 1], others[3 * k + 1]);
     text(b", blue ");
     difference(totals[3 * k + 2], others[3 * k + 2]);
-    end(b"\n")
+    end(rt, b"\n")
 }
 
 // Of two pictures: which area differs, and by how much the second is above the first.
-pub fn differences(first: usize, areas: &[u16], totals: &[u64; 192], others: &[u64; 192]) -> bool
+pub fn differences(
+    rt: HostRuntime,
+    first: usize,
+    areas: &[u16],
+    totals: &[u64; 192],
+    others: &[u64; 192],
+) -> Result<(), Error>
     requires { first ≤ 3 }
 {
     let n = areas.len() / 4;
     let mut different: u64 = 0;
-    let mut k: usize = 0;
-    while k < n && k < 64 {
-        if !compared(first + k, k, totals, others) {
-            return false;
-        }
+    for k in 0..n.min(64) {
+        compared(rt, first + k, k, totals, others)?;
         different += differs(k, totals, others);
-        k += 1;
     }
     number(different);
     text(b" of ");
     number(n as u64);
-    end(b" areas differ\n")
+    end(rt, b" areas differ\n")
 }
