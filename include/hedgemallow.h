@@ -93,8 +93,8 @@
  *
  * Stack. hedgemallow_apply, hedgemallow_show and hedgemallow_play take less than 52 KiB, whatever the card, the
  * sizes of the frames and the number of events, and hedgemallow_areas less than 44 KiB (33,192, 33,720, 36,344
- * and 41,288 bytes were measured on 2026-11-18). A thread that is made with a small stack should have 64 KiB left
- * for each of them.
+ * and 41,288 bytes were measured on 2026-11-18, with an older toolchain). A thread that is made with a small
+ * stack should have 64 KiB left for each of them.
  *
  * No function keeps a pointer, allocates, or has state of its own, so calls on different buffers
  * may run at the same time.

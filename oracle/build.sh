@@ -1,7 +1,5 @@
-# Sourced by compare, hosts, bench, counts, record, fuzz and variants, and by examples/pictures, from the repository's root: how the comparison
-# and what it links is built.
-
-. oracle/room.sh
+# Sourced by compare, hosts, bench, counts, record, fuzz, tables and variants, by ./install, bindings/rust/check and the scripts of
+# examples/, from the repository's root: how the comparison and what it links is built.
 
 # Ends the script where a tool is missing that it cannot do without.
 need() {
@@ -94,50 +92,14 @@ write_modules() {
     modules "$PWD/target/oracle/counted" >target/oracle/counted.rs
 }
 
-# Proves the named programs and leaves them in target/bin. What is proved already is not proved again.
-build_programs() {
+# Builds the named programs and static libraries by ./build, which says what went wrong.
+build_crates() {
     mkdir -p target/oracle || return 1
-    if ! rt check "$@" >target/oracle/programs.log 2>&1; then
-        echo "The programs were not built. \`rt check $*\` said:" >&2
-        cat target/oracle/programs.log >&2
+    if ! ./build "$@" >target/oracle/build.log 2>&1; then
+        echo "Not built. \`./build $*\` said:" >&2
+        cat target/oracle/build.log >&2
         return 1
     fi
-}
-
-# Writes the named libraries for C and Rust to link, to target/staticlib, side by side: `rt staticlib` proves its crate each time. A
-# library that was written from its crate as it is, by the stamp of the last proof, is not written again.
-build_libraries() {
-    mkdir -p target/oracle target/staticlib || return 1
-    if ! rt check "$@" >target/oracle/libraries.log 2>&1; then
-        echo "The libraries are not proved. \`rt check $*\` said:" >&2
-        cat target/oracle/libraries.log >&2
-        return 1
-    fi
-    jobs=
-    for library; do
-        [ -f "target/staticlib/lib$library.a" ] && stamp_library "$library" | cmp -s - "target/staticlib/$library.stamp" && continue
-        build_library "$library" &
-        jobs="$jobs $!"
-    done
-    for job in $jobs; do
-        wait "$job" || return 1
-    done
-}
-
-# What library $1 was made of, and what it is.
-stamp_library() {
-    cat "target/stamp/$1"
-    cksum <"target/staticlib/lib$1.a"
-}
-
-build_library() {
-    room=target/oracle/$1
-    if ! { furnish "$room" && (cd "$room" && rt staticlib "$1") && mv "$room/target/staticlib/lib$1.a" target/staticlib/; } >"$room.log" 2>&1; then
-        echo "The library was not built. \`rt staticlib $1\` said:" >&2
-        cat "$room.log" >&2
-        return 1
-    fi
-    stamp_library "$1" >"target/staticlib/$1.stamp"
 }
 
 # Compiles the comparison program with the two libraries. The arguments say what of it, and where to.
@@ -148,7 +110,7 @@ compile() {
 # Writes the libraries `probe` and `bridge`, and compiles the program with them and with the original, if there is one.
 build() {
     need rt
-    build_libraries probe bridge || return 1
+    build_crates probe bridge || return 1
     if [ -n "$original" ]; then
         write_modules || return 1
     fi

@@ -1,28 +1,8 @@
-# Sourced by edits and variants, from the repository's root: how an edit is applied.
+# Sourced by variants, from the repository's root: how the text of an edit is replaced.
 #
 # An edit is a file of lines. A line `file: PATH` holds for the pairs after it; a pair is a line `old: TEXT` and a line `new: TEXT`,
 # and means that TEXT, which stands in the file once, is replaced. All other lines are words for the reader: the first says what is
 # wrong with the program that comes out.
-
-# Applies the edit $1 to the files below the folder $2. Says why and fails where it does not fit.
-apply_edit() {
-    file='' old='' pairs=0
-    while IFS= read -r line || [ -n "$line" ]; do
-        case $line in
-        'file: '*) file=${line#file: } ;;
-        'old: '*) old=${line#old: } ;;
-        'new:'*)
-            new=${line#new:}
-            replace_once "$2/$file" "$old" "${new# }" || return 1
-            old='' pairs=$((pairs + 1))
-            ;;
-        esac
-    done <"$1"
-    [ "$pairs" -gt 0 ] || {
-        echo "it has no pair of old and new"
-        return 1
-    }
-}
 
 # Replaces the text $2, which must stand once in the file $1, by $3.
 replace_once() {

@@ -157,6 +157,7 @@ function skip_past(text) {
 function skip_attributes() {
     while (T[p] == "#" || T[p] == "pub") {
         p++
+        if (T[p] == "!") p++
         if (T[p] == "[" || T[p] == "(") skip_brackets()
     }
 }
@@ -237,7 +238,9 @@ function skip_signature() {
     while (T[p] != "{") {
         if (p > end) stop("a function has no body")
         if (T[p] == "requires" || T[p] == "ensures") {
-            p++
+            # a clause may have a name
+            p += T[p + 1] == "{" ? 1 : 2
+            if (T[p] != "{") stop("a clause has no brackets")
             skip_brackets()
         } else if (T[p] == "(" || T[p] == "[") skip_brackets()
         else p++

@@ -1,4 +1,4 @@
-//! Where the library is: HEDGEMALLOW_LIB, or where `rt staticlib bridge` leaves it in this repository, as libbridge.a. In an installation it is
+//! Where the library is: HEDGEMALLOW_LIB, or where `./build bridge` leaves it in this repository, as libbridge.a. In an installation it is
 //! libhedgemallow.a: then a copy is linked under the name that the wrapper knows. A new library is linked anew, and one that is missing is
 //! said so, with the command that makes it.
 
@@ -19,7 +19,7 @@ fn main() {
         copied(&installed)
     } else {
         eprintln!("There is no {}, and no {}.", built.display(), installed.display());
-        eprintln!("`rt staticlib bridge`, in the repository, makes it; HEDGEMALLOW_LIB names the folder where it lies elsewhere, by its whole path.");
+        eprintln!("`./build bridge`, in the repository, makes it; HEDGEMALLOW_LIB names the folder where it lies elsewhere, by its whole path.");
         std::process::exit(1);
     };
     println!("cargo:rustc-link-search=native={}", folder.display());

@@ -1,5 +1,5 @@
-//! A program inside the fuzzer's process: its object file, in which oracle/fuzz renamed `main`, `read`, `write` and `close`. What it
-//! calls of the system stands here, over arguments, files and a standard input that are in memory. Assumes one thread.
+//! A program inside the fuzzer's process: its object file, in which oracle/fuzz renamed `main`, `open`, `read`, `write`, `lseek` and
+//! `close`. What it calls of the system stands here, over arguments, files and a standard input that are in memory. Assumes one thread.
 
 use std::cell::RefCell;
 
@@ -31,6 +31,8 @@ const FIRST: usize = 3;
 
 const ENOENT: i32 = 2;
 const EISDIR: i32 = 21;
+const EINVAL: i32 = 22;
+const ESPIPE: i32 = 29;
 
 thread_local! {
     static RUNNING: RefCell<Option<Running>> = const { RefCell::new(None) };
@@ -147,8 +149,34 @@ extern "C" fn inside_close(file: i32) -> i32 {
     })
 }
 
+/// Where the next read of a file begins. The standard input is a pipe, which has no such place.
 #[no_mangle]
-extern "C" fn rattle_open_to_read(path: *const std::ffi::c_char) -> i32 {
+extern "C" fn inside_lseek(file: i32, offset: i64, whence: i32) -> i64 {
+    with(|running| {
+        if file < FIRST as i32 {
+            running.errno = ESPIPE;
+            return -1;
+        }
+        let (name, read) = running.open[place(file)].expect("the file is open");
+        let length = running.world.files[name].1.as_ref().map_or(0, Vec::len);
+        let from = [0, read, length][whence as usize] as i64;
+        match usize::try_from(from + offset) {
+            Ok(to) => {
+                running.open[place(file)] = Some((name, to.min(length)));
+                to as i64
+            }
+            Err(_) => {
+                running.errno = EINVAL;
+                -1
+            }
+        }
+    })
+}
+
+/// Opens a file, or a folder, to be read: the flags ask for no more.
+#[no_mangle]
+extern "C" fn inside_open(path: *const std::ffi::c_char, flags: i32) -> i32 {
+    assert!(flags & 3 == 0, "a file is opened to be written");
     // SAFETY: the program lends a path that is ended by 0.
     let path = unsafe { std::ffi::CStr::from_ptr(path) }.to_bytes();
     with(|running| {
@@ -184,11 +212,11 @@ extern "C" fn rattle_arg_count() -> usize {
 #[no_mangle]
 extern "C" fn rattle_arg(i: usize, to: *mut u8, room: usize) -> isize {
     with(|running| {
-        let argument = i
-            .checked_sub(1)
-            .and_then(|place| running.world.arguments.get(place));
-        let Some(argument) = argument.map(String::as_bytes) else {
-            // The program's own name is not asked for.
+        let argument = match i.checked_sub(1) {
+            None => Some("program"),
+            Some(place) => running.world.arguments.get(place).map(String::as_str),
+        };
+        let Some(argument) = argument.map(str::as_bytes) else {
             return -1;
         };
         let count = room.min(argument.len());

@@ -6,7 +6,7 @@ use std::path::{Path, PathBuf};
 use std::process::{Command, Output, Stdio};
 use std::thread;
 
-/// Where `rt check` leaves the programs, and where the folders are, from the repository's root.
+/// Where `./build` leaves the programs, and where the folders are, from the repository's root.
 const PROGRAMS: &str = "target/bin";
 const FOLDERS: &str = "target/oracle/programs";
 

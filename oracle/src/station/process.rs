@@ -4,7 +4,7 @@ use std::io::{self, Read, Write};
 use std::process::{Command, Stdio};
 use std::thread;
 
-/// Where `rt check` leaves it, from the repository's root.
+/// Where `./build` leaves it, from the repository's root.
 const PROGRAM: &str = "target/bin/station";
 
 /// What the program writes, given this input.
