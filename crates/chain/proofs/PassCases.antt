@@ -219,49 +219,69 @@ no_samples w h (Crt strength) n b = refl
 no_samples w h (Vignette strength) n b = refl
 no_samples w h (Scanlines strength) n b = refl
 
--- ## What the other arm of a `match` tells
-
--- the kinds stand in the order of the enum's cases
-tag_kind : (p : Pass) → kind_of p ≡ suc (tag_of the_type p)
-tag_kind (Ntsc strength bleed) = refl
-tag_kind (Bloom threshold strength radius) = refl
-tag_kind (AutoGradient strength vertical horizontal) = refl
-tag_kind (Persistence amount depth) = refl
-tag_kind (Lut preset strength) = refl
-tag_kind (Curvature amount) = refl
-tag_kind (ColorCorrection brightness contrast saturation gamma) = refl
-tag_kind (Crt strength) = refl
-tag_kind (Vignette strength) = refl
-tag_kind (Scanlines strength) = refl
-
--- a pass of the cases that are left has not that kind
-abbrev Not : (others : List ℕ) → (kind : ℕ) → Type 0
-Not others kind = (p : Pass) → OneOf others (tag_of the_type p) → kind_of p ≡ kind → ⊥
-
-not-among : (others : List ℕ) (tag : ℕ) → T (not (has_key others tag)) → Not others (suc tag)
-not-among others tag out p t e =
-    let here : tag_of the_type p ≡ tag = omega (arith, tag_kind p) in
-    miss others tag out (subst (OneOf others) here t)
+-- ## What the other arm of a `match` tells: a pass that is not that variant has not its kind
 
 -- any pass but persistence
 abbrev pub Painter : Pass → Type 0
-Painter p = OneOf (0 ∷ 1 ∷ 2 ∷ 4 ∷ 5 ∷ 6 ∷ 7 ∷ 8 ∷ 9 ∷ []) (tag_of the_type p)
+Painter p = (amount : Float) (depth : ℕ) → p ≡ Persistence amount depth → ⊥
 
 pub not-persistence : (p : Pass) → Painter p → kind_of p ≡ 4 → ⊥
-not-persistence = not-among (0 ∷ 1 ∷ 2 ∷ 4 ∷ 5 ∷ 6 ∷ 7 ∷ 8 ∷ 9 ∷ []) 3 tt
+not-persistence (Ntsc strength bleed) other same = omega arith
+not-persistence (Bloom threshold strength radius) other same = omega arith
+not-persistence (AutoGradient strength vertical horizontal) other same = omega arith
+not-persistence (Persistence amount depth) other same = other amount depth refl
+not-persistence (Lut preset strength) other same = omega arith
+not-persistence (Curvature amount) other same = omega arith
+not-persistence (ColorCorrection brightness contrast saturation gamma) other same = omega arith
+not-persistence (Crt strength) other same = omega arith
+not-persistence (Vignette strength) other same = omega arith
+not-persistence (Scanlines strength) other same = omega arith
 
-pub not-lut : Not (0 ∷ 1 ∷ 2 ∷ 3 ∷ 5 ∷ 6 ∷ 7 ∷ 8 ∷ 9 ∷ []) 5
-not-lut = not-among (0 ∷ 1 ∷ 2 ∷ 3 ∷ 5 ∷ 6 ∷ 7 ∷ 8 ∷ 9 ∷ []) 4 tt
+pub not-lut : (p : Pass) → ((preset : ℕ) (strength : Float) → p ≡ Lut preset strength → ⊥) → kind_of p ≡ 5 → ⊥
+not-lut (Ntsc strength bleed) other same = omega arith
+not-lut (Bloom threshold strength radius) other same = omega arith
+not-lut (AutoGradient strength vertical horizontal) other same = omega arith
+not-lut (Persistence amount depth) other same = omega arith
+not-lut (Lut preset strength) other same = other preset strength refl
+not-lut (Curvature amount) other same = omega arith
+not-lut (ColorCorrection brightness contrast saturation gamma) other same = omega arith
+not-lut (Crt strength) other same = omega arith
+not-lut (Vignette strength) other same = omega arith
+not-lut (Scanlines strength) other same = omega arith
 
-pub not-colour : Not (0 ∷ 1 ∷ 2 ∷ 3 ∷ 4 ∷ 5 ∷ 7 ∷ 8 ∷ 9 ∷ []) 7
-not-colour = not-among (0 ∷ 1 ∷ 2 ∷ 3 ∷ 4 ∷ 5 ∷ 7 ∷ 8 ∷ 9 ∷ []) 6 tt
+pub not-colour : (p : Pass) → ((brightness contrast saturation gamma : Float) → p ≡ ColorCorrection brightness contrast saturation gamma → ⊥) → kind_of p ≡ 7 → ⊥
+not-colour (Ntsc strength bleed) other same = omega arith
+not-colour (Bloom threshold strength radius) other same = omega arith
+not-colour (AutoGradient strength vertical horizontal) other same = omega arith
+not-colour (Persistence amount depth) other same = omega arith
+not-colour (Lut preset strength) other same = omega arith
+not-colour (Curvature amount) other same = omega arith
+not-colour (ColorCorrection brightness contrast saturation gamma) other same = other brightness contrast saturation gamma refl
+not-colour (Crt strength) other same = omega arith
+not-colour (Vignette strength) other same = omega arith
+not-colour (Scanlines strength) other same = omega arith
 
 -- neither of the two that blur
-abbrev pub unblurring : List ℕ
-unblurring = 2 ∷ 3 ∷ 4 ∷ 5 ∷ 6 ∷ 7 ∷ 8 ∷ 9 ∷ []
+pub not-ntsc : (p : Pass) → ((strength : Float) (bleed : ℕ) → p ≡ Ntsc strength bleed → ⊥) → kind_of p ≡ 1 → ⊥
+not-ntsc (Ntsc strength bleed) other same = other strength bleed refl
+not-ntsc (Bloom threshold strength radius) other same = omega arith
+not-ntsc (AutoGradient strength vertical horizontal) other same = omega arith
+not-ntsc (Persistence amount depth) other same = omega arith
+not-ntsc (Lut preset strength) other same = omega arith
+not-ntsc (Curvature amount) other same = omega arith
+not-ntsc (ColorCorrection brightness contrast saturation gamma) other same = omega arith
+not-ntsc (Crt strength) other same = omega arith
+not-ntsc (Vignette strength) other same = omega arith
+not-ntsc (Scanlines strength) other same = omega arith
 
-pub not-ntsc : Not unblurring 1
-not-ntsc = not-among unblurring 0 tt
-
-pub not-bloom : Not unblurring 2
-not-bloom = not-among unblurring 1 tt
+pub not-bloom : (p : Pass) → ((threshold : ℕ) (strength : Float) (radius : ℕ) → p ≡ Bloom threshold strength radius → ⊥) → kind_of p ≡ 2 → ⊥
+not-bloom (Ntsc strength bleed) other same = omega arith
+not-bloom (Bloom threshold strength radius) other same = other threshold strength radius refl
+not-bloom (AutoGradient strength vertical horizontal) other same = omega arith
+not-bloom (Persistence amount depth) other same = omega arith
+not-bloom (Lut preset strength) other same = omega arith
+not-bloom (Curvature amount) other same = omega arith
+not-bloom (ColorCorrection brightness contrast saturation gamma) other same = omega arith
+not-bloom (Crt strength) other same = omega arith
+not-bloom (Vignette strength) other same = omega arith
+not-bloom (Scanlines strength) other same = omega arith
