@@ -1,0 +1,15 @@
+-- `cabinet::enlarge::line` meets its contract: three words for each number. Assumes nothing.
+use Prim.Native.Nat.{ℕ, ◌+◌, ◌-◌, ◌*◌, ◌/◌, ◌<◌}
+use mathlib.Core.Path.{ap, ◌∙◌}
+use native.Mathlib.Omega.{arith}
+use lib.ListN.{length, get_or, set, length-set}
+use Rattle.num.specs.Laws.Rewrite.{Rewritten, none, all}
+use Rattle.cabinet.specs.Source.{shown_by}
+use Rattle.cabinet.proofs.Sources.{tripled}
+use Rattle.cabinet.proofs.enlarge.line.Given as goal
+
+abbrev pub invariant-loop-x : goal.invariant-loop-x
+invariant-loop-x l = Rewritten (3 * l.x) (λ k w. shown_by l.colours (get_or l.row (k / 3) 0)) l.initial.out l.out
+
+abbrev pub decreases-loop-x : goal.decreases-loop-x
+decreases-loop-x l = length l.row - l.x

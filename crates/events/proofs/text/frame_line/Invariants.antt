@@ -1,0 +1,13 @@
+-- `events::text::frame_line` meets its contract: pixel after pixel, each in seven bytes that are lent. Assumes nothing.
+use Prim.Native.Nat.{◌+◌, ◌-◌, ◌≤◌, ◌<◌}
+use mathlib.Core.Path.{◌≡◌}
+use native.Mathlib.Omega.{arith}
+use lib.ListN.{length, set, length-set}
+use Rattle.events.proofs.Lines.{lent_length, Shown, no_pixel, next-pixel, line-ends}
+use Rattle.events.proofs.text.frame_line.Given as goal
+
+abbrev pub invariant-loop-i : goal.invariant-loop-i
+invariant-loop-i l = Shown l.i l.frame l.at l.initial.out l.out
+
+abbrev pub decreases-loop-i : goal.decreases-loop-i
+decreases-loop-i l = length l.frame - l.i
