@@ -1,0 +1,12 @@
+-- `bridge::calls::hedgemallow_commit` meets its contract: no state, or the call's reply. Word for word as hedgemallow_reset. Assumes nothing.
+use borrow.Author.Rules.{rules}
+use Rattle.chain.specs.Answers.{called}
+use Rattle.bridge.proofs.Replies.{read, unread, on_none, on-station}
+use Rattle.bridge.proofs.calls.hedgemallow_commit.Goals as goal
+
+pub returns-in-Refused : goal.returns-in-Refused
+returns-in-Refused c = on_none _ _ _ _ (unread _ _ c.decode-opened.ensures _ c.in-Refused.is) c.refusal.ensures
+
+pub returns : goal.returns
+returns c = on-station _ _ _ (called c.commit-called.result) _ (read _ _ c.decode-opened.ensures c.in_default.is) c.commit-called.ensures
+    c.keep.ensures

@@ -1,9 +1,0 @@
--- `player::play` meets its contract: a line lies within its buffer. Assumes nothing.
-use mathlib.Core.Path.{sym}
-use lib.Seq.{length-take-le}
-use Rattle.events.specs.Laws.Buffers.{fits}
-use Rattle.player.proofs.play.Statement.{statement}
-use Rattle.player.proofs.play.Tie as tie
-
-pub play-spec : {M : Type 1} → statement M
-play-spec = tie.close (tie.spec (λ c. sym (length-take-le _ _ c.before.before.requires)) (λ c κs. tt) (λ c. fits c.play.ensures.says.prints))
