@@ -23,7 +23,7 @@ abbrev opens : lts.After-pending_of tie.the-claims reads.Pre reads.Post → lts.
 opens c = (holds c).before.before
 
 abbrev ends : lts.After-pending_of tie.the-claims reads.Pre reads.Post → lts.After-card_end tie.the-claims reads.Pre reads.Post
-ends c = (opens c).before.before.before
+ends c = (opens c).before.before
 
 -- the card's part of the bytes
 part : (c : lts.After-pending_of tie.the-claims reads.Pre reads.Post) → take (c.card_end-end.result - 1) (drop 1 c.args.state) ≡ card_in c.args.state

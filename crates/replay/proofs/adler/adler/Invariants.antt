@@ -1,0 +1,22 @@
+-- `replay::adler::adler` meets its contract: the sums of the first i bytes. Assumes nothing.
+use Prim.Native.Nat.{ℕ, ◌+◌, ◌*◌, ◌-◌, ◌≤◌}
+use mathlib.Core.Path.{ap}
+use mathlib.Core.List.{List}
+use native.Mathlib.Omega.{arith}
+use lib.ListN.{length}
+use Rattle.passes.specs.Laws.Fold.{Folded, none, more, all}
+use Rattle.replay.specs.Adler.{sums, add_byte, adler_of}
+use Rattle.replay.specs.declared.adler.Sums.{Sums}
+use Rattle.replay.proofs.adler.adler.Given as goal
+
+-- both sums stay below 65521
+pub record Summed (bytes : List ℕ) (s : Sums) (i : ℕ) : Type 0 where
+  pub so_far : Folded i add_byte (sums 1 0) bytes s
+  pub small_a : s.a ≤ 65520
+  pub small_b : s.b ≤ 65520
+
+abbrev pub invariant-loop-i : goal.invariant-loop-i
+invariant-loop-i l = Summed l.bytes l.s l.i
+
+abbrev pub decreases-loop-i : goal.decreases-loop-i
+decreases-loop-i l = length l.bytes - l.i

@@ -1,0 +1,13 @@
+-- `sheet::play::all` meets its contract: a turn for each event, of which none is longer than the largest frame. Assumes nothing.
+use borrow.Author.Rules.{rules}
+use Prim.Native.Nat.{◌+◌, ◌-◌, ◌*◌, ◌≤◌}
+use native.Mathlib.Omega.{arith}
+use Rattle.sheets.specs.Promises.{Within}
+use Rattle.sheets.proofs.Reading.{read_took}
+use Rattle.sheet.proofs.play.all.Given as goal
+
+abbrev pub invariant-loop-i : goal.invariant-loop-i
+invariant-loop-i l = (l.i ≤ l.n) × (l.accepted ≤ l.i) × (l.next ≤ 16 + l.i * 100565041)
+
+abbrev pub decreases-loop-i : goal.decreases-loop-i
+decreases-loop-i l = l.n - l.i
