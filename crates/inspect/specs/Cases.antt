@@ -23,7 +23,6 @@ use Rattle.inspect.specs.declared.difference.Difference.TheVariants.{Alike, Leng
 use Rattle.inspect.specs.declared.extent.Extent.{Extent}
 use Rattle.inspect.specs.declared.extent.Extent.TheVariants.{Sides, NoSize}
 use Rattle.inspect.specs.declared.layout.Field.{Field}
-use Rattle.inspect.specs.declared.layout.Field.TheVariants as Field
 use Rattle.inspect.specs.declared.hexadecimal.Decoded.{Decoded}
 use Rattle.inspect.specs.declared.hexadecimal.Decoded.TheVariants.{Bytes, Text, Long}
 

@@ -1,6 +1,5 @@
 -- `inspect::decimal::reduced` meets its contract: each turn halves both parts. Assumes nothing.
-use Prim.Native.Nat.{◌*◌, ◌^◌, ◌≤◌}
-use mathlib.Core.Path.{◌≡◌, refl}
+use mathlib.Core.Path.{refl}
 use native.Mathlib.Omega.{arith}
 use Rattle.inspect.proofs.Powers.{halved}
 use Rattle.inspect.proofs.decimal.reduced.Goals as goal
