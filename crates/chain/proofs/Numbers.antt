@@ -24,7 +24,7 @@ use Rattle.passes.specs.Laws.Casts.{casts_agree, checked_agree}
 use Rattle.passes.specs.ColorCorrection.{good_curve}
 use Rattle.passes.specs.Flow.{Flow, flow}
 use Rattle.passes.specs.Laws.Curves.{curve_within}
-use Rattle.passes.specs.Laws.Inside as Inside
+use Rattle.passes.proofs.Inside as Inside
 use Rattle.passes.specs.Painted.{Painted, painted}
 use Rattle.passes.specs.Laws.Range as Range
 use Rattle.passes.specs.Rows.{Frame}

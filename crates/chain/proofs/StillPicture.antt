@@ -24,8 +24,8 @@ use Rattle.passes.specs.Laws.Lengths.{history_length}
 use Rattle.passes.specs.Painted.{painted}
 use Rattle.passes.specs.Plain.Persistence.{persistence, copies}
 use Rattle.passes.specs.Still.{Still}
-use Rattle.passes.specs.Laws.Still.Pictures.{still_itself, persistence-still}
-use Rattle.passes.specs.Laws.Still.Places.{Full}
+use Rattle.passes.proofs.Still.Pictures.{still_itself, persistence-still}
+use Rattle.passes.proofs.Still.Places.{Full}
 use Rattle.cards.specs.Answers.{acceptance, ok, reply, refusing}
 use Rattle.chain.specs.Agree.{SameFirst, SameCall, frames}
 use Rattle.cards.specs.Alike.{chain_of}

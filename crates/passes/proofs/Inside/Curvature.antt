@@ -17,7 +17,7 @@ use Rattle.num.specs.Ranges.{within}
 use Rattle.passes.specs.Arith.{Arith, Agrees, plain}
 use Rattle.passes.specs.Curvature as Curvature
 use Rattle.num.specs.Laws.Bools.{neither}
-use Rattle.passes.specs.Laws.Inside.Shared.{position_in}
+use Rattle.passes.proofs.Inside.Shared.{position_in}
 use Rattle.passes.specs.Laws.Range.{Has, signed, lit, lit⁺, whole⁺, plus, times, negated, round, one⁺}
 use Rattle.passes.specs.Rows.{Frame}
 use Rattle.passes.specs.Laws.Rows.{placed_ext, row_ends}

@@ -16,9 +16,9 @@ use Rattle.num.specs.Ranges.{within}
 use Rattle.passes.specs.Arith.{Arith, Agrees, plain}
 use Rattle.passes.specs.Bloom as Bloom
 use Rattle.passes.specs.Blur.{blur_at}
-use Rattle.passes.specs.Laws.Inside.Blur.{blur_in}
-use Rattle.passes.specs.Laws.Inside.Shared.{Tint, tint, loose, unpacked, scaled_in, channel_in, clamped_three}
-use Rattle.passes.specs.Laws.Inside.Shared.{luma709_in, cell_same}
+use Rattle.passes.proofs.Inside.Blur.{blur_in}
+use Rattle.passes.proofs.Inside.Shared.{Tint, tint, loose, unpacked, scaled_in, channel_in, clamped_three}
+use Rattle.passes.proofs.Inside.Shared.{luma709_in, cell_same}
 use Rattle.passes.specs.Pixel.{unpack, luma709, scaled}
 use Rattle.passes.specs.Laws.Painted.{placed_same}
 use Rattle.passes.specs.Laws.Range.{Has, Plus, Big, signed, lit⁺, whole⁺, wide, difference, plus, minus, times}

@@ -8,8 +8,8 @@ use Rattle.num.specs.Const.{c2_03211}
 use Rattle.num.specs.Ranges.{within}
 use Rattle.passes.specs.Arith.{Arith, Agrees, plain}
 use Rattle.passes.specs.Blur.{blur_at}
-use Rattle.passes.specs.Laws.Inside.Blur.{blur_in}
-use Rattle.passes.specs.Laws.Inside.Shared.{Tint, loose, unpacked, clamped_three, luma601_in, cell_same}
+use Rattle.passes.proofs.Inside.Blur.{blur_in}
+use Rattle.passes.proofs.Inside.Shared.{Tint, loose, unpacked, clamped_three, luma601_in, cell_same}
 use Rattle.passes.specs.Ntsc as Ntsc
 use Rattle.passes.specs.Laws.Painted.{placed_same}
 use Rattle.passes.specs.Laws.Range.{Has, signed, lit, lit⁺, plus, minus, times, negated}

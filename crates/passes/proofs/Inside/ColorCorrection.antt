@@ -11,7 +11,7 @@ use Rattle.num.specs.Laws.Bounds.{widen}
 use Rattle.num.specs.Ranges.{within}
 use Rattle.passes.specs.Arith.{Arith, Agrees, plain}
 use Rattle.passes.specs.ColorCorrection as ColorCorrection
-use Rattle.passes.specs.Laws.Inside.Shared.{Tint, Tint⁺, tint, tint⁺, unit_same, luma709_in}
+use Rattle.passes.proofs.Inside.Shared.{Tint, Tint⁺, tint, tint⁺, unit_same, luma709_in}
 use Rattle.passes.specs.Laws.Painted.{converted_same}
 use Rattle.passes.specs.Pixel.{by_number, luma709}
 use Rattle.passes.specs.Laws.Range.{sized, Has, Plus, signed, lit, lit⁺, lit_big, whole⁺, over⁺, plus, minus, times}

@@ -12,7 +12,7 @@ use Rattle.num.specs.Laws.Sized.{exact}
 use Rattle.num.specs.Laws.Squares.{plus_signed, square_signed}
 use Rattle.num.specs.Ranges.{within, Signed}
 use Rattle.passes.specs.Arith.{Arith, Agrees, plain}
-use Rattle.passes.specs.Laws.Inside.Shared.{dimmed}
+use Rattle.passes.proofs.Inside.Shared.{dimmed}
 use Rattle.passes.specs.Laws.Range.{Has, Plus, signed, lit⁺, lit_big, whole⁺, difference, over, plus⁺, times⁺, over⁺}
 use Rattle.passes.specs.Laws.Range.{square⁺, root⁺, least_one, one_less}
 use Rattle.passes.specs.Rows.{Frame}

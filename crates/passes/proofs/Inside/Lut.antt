@@ -10,7 +10,7 @@ use Rattle.num.specs.Const.{c1_0, c1_01, c1_03, c1_05, c1_06, c1_25, c3_0}
 use Rattle.num.specs.Laws.Sized.{exact}
 use Rattle.num.specs.Ranges.{within}
 use Rattle.passes.specs.Arith.{Arith, Agrees, plain}
-use Rattle.passes.specs.Laws.Inside.Shared.{Tint, Tint⁺, tint, united, unit_same, luma601_in}
+use Rattle.passes.proofs.Inside.Shared.{Tint, Tint⁺, tint, united, unit_same, luma601_in}
 use Rattle.passes.specs.Lut.{transform, blend, colour, lut}
 use Rattle.passes.specs.Laws.Painted.{converted_same}
 use Rattle.passes.specs.Pixel.{luma601}

@@ -13,7 +13,7 @@ use Rattle.num.specs.Ranges.{within}
 use Rattle.passes.specs.Arith.{Arith, Agrees, plain}
 use Rattle.passes.specs.AutoGradient.{add_luma, adaptive, warm, fall, brightness, shade, shaded, auto_gradient}
 use Rattle.passes.specs.Fold.{fold}
-use Rattle.passes.specs.Laws.Inside.Shared.{loose, unpacked, clamped_three, luma709_in, position_in}
+use Rattle.passes.proofs.Inside.Shared.{loose, unpacked, clamped_three, luma709_in, position_in}
 use Rattle.passes.specs.Laws.Painted.{placed_same}
 use Rattle.passes.specs.Laws.Range.{Has, signed, lit, lit⁺, lit_big, whole_big, wide, plus, plus_exact, minus, times}
 use Rattle.passes.specs.Laws.Range.{over-one, negated, abs, times⁺}

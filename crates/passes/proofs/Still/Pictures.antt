@@ -17,9 +17,9 @@ use Rattle.passes.specs.Plain.Persistence.{total, weight, mix, blend, copies, re
 use Rattle.passes.specs.Plain.Pixel.{pack_clamped}
 use Rattle.passes.specs.Laws.Persistence.{blend_paints, blend-take}
 use Rattle.passes.specs.Still.{StillWord, Still}
-use Rattle.passes.specs.Laws.Still.Words.{mix-equal, packed-still}
-use Rattle.passes.specs.Laws.Still.Counts.{channel-still}
-use Rattle.passes.specs.Laws.Still.Places.{Full, copies-word, full-refilled, full-shifted}
+use Rattle.passes.proofs.Still.Words.{mix-equal, packed-still}
+use Rattle.passes.proofs.Still.Counts.{channel-still}
+use Rattle.passes.proofs.Still.Places.{Full, copies-word, full-refilled, full-shifted}
 use Rattle.passes.specs.declared.pixel.Rgb.{Rgb}
 
 pub still_itself : (frame : List ℕ) → Still frame frame

@@ -16,7 +16,7 @@ use Rattle.num.specs.Laws.Sized.{exact}
 use Rattle.num.specs.Ranges.{within}
 use Rattle.passes.specs.Arith.{Arith, Agrees, plain}
 use Rattle.passes.specs.Flow.{Flow, flow}
-use Rattle.passes.specs.Laws.Inside.Shared.{Tint, tint, loose, unpacked, scaled_in, clamped_same}
+use Rattle.passes.proofs.Inside.Shared.{Tint, tint, loose, unpacked, scaled_in, clamped_same}
 use Rattle.passes.specs.Painted.{Painted, painted}
 use Rattle.passes.specs.Laws.Painted.{converted_same}
 use Rattle.passes.specs.Persistence.{decay, total, weight, add, mix, blend, shifted, refilled}

@@ -5,7 +5,7 @@ use Rattle.std.proofs.Math.Path.{refl}
 use Rattle.num.specs.Laws.Rewrite.{rewrite_ext}
 use Rattle.num.specs.Ranges.{within}
 use Rattle.passes.specs.Arith.{Arith, Agrees, plain}
-use Rattle.passes.specs.Laws.Inside.Shared.{dimmed}
+use Rattle.passes.proofs.Inside.Shared.{dimmed}
 use Rattle.passes.specs.Laws.Range.{lit⁺, one_less}
 use Rattle.passes.specs.Scanlines.{in_row, scanlines}
 

@@ -19,7 +19,7 @@ use Rattle.num.specs.Laws.Units.{product_moved, times_moved, quotient_moved, Off
 use Rattle.passes.specs as Text
 use Rattle.passes.specs.Plain.Persistence.{decay, total, weight}
 use Rattle.passes.specs.Still.{OrBelow}
-use Rattle.passes.specs.Laws.Still.Words.{equal}
+use Rattle.passes.proofs.Still.Words.{equal}
 
 -- ---- whole numbers: a word more is mixed
 

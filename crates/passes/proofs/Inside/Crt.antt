@@ -9,7 +9,7 @@ use Rattle.num.specs.Const.{c0_035, c0_12, c0_5, c1_0}
 use Rattle.num.specs.Ranges.{within}
 use Rattle.passes.specs.Arith.{Arith, Agrees, plain}
 use Rattle.passes.specs.Crt as Crt
-use Rattle.passes.specs.Laws.Inside.Shared.{Tint⁺, tint⁺, unpacked, scaled_in, packed_nearest}
+use Rattle.passes.proofs.Inside.Shared.{Tint⁺, tint⁺, unpacked, scaled_in, packed_nearest}
 use Rattle.passes.specs.Laws.Range.{Has, Plus, signed, lit⁺, whole⁺, minus, times, plus⁺, times⁺, over⁺, square⁺}
 use Rattle.passes.specs.Laws.Range.{most-one, one⁺, one_less, clamp_one}
 use Rattle.passes.specs.Rows.{Frame}
