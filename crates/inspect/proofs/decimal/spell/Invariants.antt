@@ -1,11 +1,6 @@
 -- `inspect::decimal::spell` meets its contract: digit after digit, from the last. Assumes nothing.
-use Prim.Native.Nat.{◌-◌, ◌^◌, ◌<◌}
-use mathlib.Core.Path.{◌∙◌, sym}
-use borrow.Author.Rules.{rules}
-use native.Mathlib.Nat.{lt_of_lt_of_le}
-use native.Mathlib.Omega.{arith}
-use lib.Dec.{lit≤}
-use Rattle.inspect.proofs.Digits.{Spelled, unspelled, spell_more, spelled_all}
+use Prim.Native.Nat.{◌-◌}
+use Rattle.inspect.proofs.Digits.{Spelled}
 use Rattle.inspect.proofs.decimal.spell.Given as goal
 
 abbrev pub invariant-loop-i : goal.invariant-loop-i

@@ -1,12 +1,12 @@
 -- `inspect::difference::chain_difference` meets its contract: record by record, until one chain ends. Assumes nothing.
 use borrow.Author.Rules.{rules}
-use Prim.Native.Nat.{◌-◌, ◌≤◌}
+use Prim.Native.Nat.{◌≤◌}
 use native.Mathlib.Omega.{arith}
 use mathlib.Core.Path.{◌≡◌, ap, sym, ◌∙◌}
 use borrow.Author.Tests.{not-true, not-false}
 use lib.ListN.{length}
 use Rattle.inspect.specs.Difference.{is_alike}
-use Rattle.inspect.proofs.Compared.{Walked, walked_none, walked_more, walked_found, walked_first, walked_second, walked_all}
+use Rattle.inspect.proofs.Compared.{walked_none, walked_more, walked_found, walked_first, walked_second, walked_all}
 use Rattle.inspect.proofs.difference.chain_difference.Goals as goal
 use Rattle.inspect.proofs.difference.chain_difference.Lts as lts
 use Rattle.inspect.proofs.difference.chain_difference.Reads as reads

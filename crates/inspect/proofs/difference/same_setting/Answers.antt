@@ -1,5 +1,4 @@
 -- `inspect::difference::same_setting` meets its contract. Assumes nothing.
-use borrow.Author.Rules.{rules}
 use Rattle.inspect.proofs.difference.same_setting.Goals as goal
 
 pub returns-in-Real-b : goal.returns-in-Real-b

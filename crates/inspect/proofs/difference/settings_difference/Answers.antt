@@ -1,12 +1,11 @@
 -- `inspect::difference::settings_difference` meets its contract: place by place, and past the fourth there is none. Assumes nothing.
-use Prim.Native.Nat.{◌-◌}
 use native.Mathlib.Omega.{arith}
 use mathlib.Core.Path.{◌≡◌, ap₂, sym, ◌∙◌}
 use borrow.Author.Tests.{not-true, not-false}
-use Rattle.inspect.specs.Settings.{settings_of, setting_of}
+use Rattle.inspect.specs.Settings.{setting_of}
 use Rattle.inspect.specs.Difference.{same_setting}
 use Rattle.inspect.proofs.Arms.{few}
-use Rattle.inspect.proofs.Compared.{Compared, compared_none, compared_more, compared_found, compared_all}
+use Rattle.inspect.proofs.Compared.{compared_none, compared_more, compared_found, compared_all}
 use Rattle.inspect.proofs.difference.settings_difference.Goals as goal
 use Rattle.inspect.proofs.difference.settings_difference.Lts as lts
 use Rattle.inspect.proofs.difference.settings_difference.Reads as reads

@@ -1,12 +1,12 @@
 -- `inspect::extent::read` meets its contract: byte after byte. Assumes nothing.
-use Prim.Native.Nat.{ℕ, ◌+◌, ◌-◌, ◌≤◌, ◌<◌}
+use Prim.Native.Nat.{ℕ, ◌+◌, ◌≤◌, ◌<◌}
 use mathlib.Core.List.{List, ◌∷◌}
 use mathlib.Core.Path.{◌≡◌, refl, sym, ap, ◌∙◌}
 use native.Mathlib.Numerals.{add-one}
 use native.Mathlib.Omega.{arith}
 use lib.ListN.{length, get_or, drop, drop_of_length-le}
 use lib.Seq.{drop-cons}
-use Rattle.inspect.specs.Extent.{step_of, unread, read_of}
+use Rattle.inspect.specs.Extent.{step_of, read_of}
 use Rattle.inspect.specs.declared.extent.Reading.{Reading}
 use Rattle.inspect.proofs.extent.read.Goals as goal
 

@@ -1,13 +1,8 @@
 -- `inspect::extent::read` meets its contract: byte after byte. Assumes nothing.
-use Prim.Native.Nat.{ℕ, ◌+◌, ◌-◌, ◌≤◌, ◌<◌}
-use mathlib.Core.List.{List, ◌∷◌}
-use mathlib.Core.Path.{◌≡◌, refl, sym, ap, ◌∙◌}
-use native.Mathlib.Numerals.{add-one}
-use native.Mathlib.Omega.{arith}
-use lib.ListN.{length, get_or, drop, drop_of_length-le}
-use lib.Seq.{drop-cons}
-use Rattle.inspect.specs.Extent.{step_of, unread, read_of}
-use Rattle.inspect.specs.declared.extent.Reading.{Reading}
+use Prim.Native.Nat.{◌-◌, ◌≤◌}
+use mathlib.Core.Path.{◌≡◌}
+use lib.ListN.{length, drop}
+use Rattle.inspect.specs.Extent.{unread, read_of}
 use Rattle.inspect.proofs.extent.read.Given as goal
 
 abbrev pub invariant-loop-i : goal.invariant-loop-i

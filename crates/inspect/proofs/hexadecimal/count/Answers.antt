@@ -1,14 +1,11 @@
 -- `inspect::hexadecimal::count` meets its contract: the bytes that are read are counted. Assumes nothing.
-use borrow.Author.Rules.{rules}
-use Prim.Native.Nat.{ℕ, ◌-◌, ◌≤◌}
 use native.Mathlib.Omega.{arith}
-use mathlib.Core.List.{List, [], ◌∷◌}
-use mathlib.Core.Path.{◌≡◌, refl, ap, sym, ◌∙◌}
-use lib.ListN.{length, length-append}
+use mathlib.Core.List.{[], ◌∷◌}
+use mathlib.Core.Path.{refl, ap, sym, ◌∙◌}
+use lib.ListN.{length-append}
 use Rattle.inspect.specs.Private.{count_of}
 use Rattle.inspect.specs.declared.hexadecimal.Counted.TheVariants.{Bytes}
-use Rattle.inspect.proofs.Tokens.{Read, read_none, read-space, read_pair, read-other, read_all}
-use Rattle.inspect.proofs.hexadecimal.count.Invariants.{Counts}
+use Rattle.inspect.proofs.Tokens.{read_none, read-space, read_pair, read-other, read_all}
 use Rattle.inspect.proofs.hexadecimal.count.Goals as goal
 
 pub loop-at-init : goal.loop-at-init

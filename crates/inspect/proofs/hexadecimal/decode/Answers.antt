@@ -1,5 +1,4 @@
 -- `inspect::hexadecimal::decode` meets its contract: by the count, the text is not hexadecimal, or has no room, or fills the buffer's start. Assumes nothing.
-use borrow.Author.Rules.{rules}
 use Prim.Native.Nat.{ℕ, ◌≤◌, ◌<◌}
 use native.Mathlib.Omega.{arith}
 use mathlib.Core.Bool.{true}

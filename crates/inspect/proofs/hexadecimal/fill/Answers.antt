@@ -1,6 +1,5 @@
 -- `inspect::hexadecimal::fill` meets its contract: the bytes that are read stand at the start of the buffer. Assumes nothing.
-use borrow.Author.Rules.{rules}
-use Prim.Native.Nat.{ℕ, suc, ◌+◌, ◌-◌, ◌<◌}
+use Prim.Native.Nat.{ℕ, suc, ◌+◌, ◌<◌}
 use native.Mathlib.Numerals.{add-one}
 use native.Mathlib.Omega.{arith}
 use mathlib.Core.List.{List, [], ◌∷◌, ◌++◌}
@@ -10,7 +9,6 @@ use lib.Seq.{append_snoc, drop-cons, set_at}
 use Rattle.num.specs.Laws.Bools.{false_true}
 use Rattle.inspect.specs.Hexadecimal.{Hex, is_hex, bytes_of}
 use Rattle.inspect.proofs.Tokens.{Read, read_none, read-space, read_pair, read-other, read_all, read-few}
-use Rattle.inspect.proofs.hexadecimal.fill.Invariants.{Fills}
 use Rattle.inspect.proofs.hexadecimal.fill.Goals as goal
 use Rattle.inspect.proofs.hexadecimal.fill.Lts as lts
 use Rattle.inspect.proofs.hexadecimal.fill.Reads as reads

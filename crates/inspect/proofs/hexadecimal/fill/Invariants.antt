@@ -1,15 +1,9 @@
 -- `inspect::hexadecimal::fill` meets its contract: the bytes that are read stand at the start of the buffer. Assumes nothing.
-use borrow.Author.Rules.{rules}
-use Prim.Native.Nat.{ℕ, suc, ◌+◌, ◌-◌, ◌<◌}
-use native.Mathlib.Numerals.{add-one}
-use native.Mathlib.Omega.{arith}
-use mathlib.Core.List.{List, [], ◌∷◌, ◌++◌}
-use mathlib.Core.Path.{◌≡◌, refl, ap, sym, ◌∙◌}
-use lib.ListN.{length, drop, set, get_or, length-append, length-set}
-use lib.Seq.{append_snoc, drop-cons, set_at}
-use Rattle.num.specs.Laws.Bools.{false_true}
-use Rattle.inspect.specs.Hexadecimal.{Hex, is_hex, bytes_of}
-use Rattle.inspect.proofs.Tokens.{Read, read_none, read-space, read_pair, read-other, read_all, read-few}
+use Prim.Native.Nat.{ℕ, ◌-◌}
+use mathlib.Core.List.{List, ◌++◌}
+use mathlib.Core.Path.{◌≡◌}
+use lib.ListN.{length, drop}
+use Rattle.inspect.proofs.Tokens.{Read}
 use Rattle.inspect.proofs.hexadecimal.fill.Given as goal
 
 -- n bytes are read, and stand before the rest of the old buffer

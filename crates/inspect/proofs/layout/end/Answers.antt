@@ -1,5 +1,4 @@
 -- `inspect::layout::end` meets its contract. Assumes nothing.
-use borrow.Author.Rules.{rules}
 use native.Mathlib.Omega.{arith}
 use Rattle.inspect.specs.Layout.{end_of}
 use Rattle.inspect.proofs.layout.end.Goals as goal

@@ -1,11 +1,8 @@
 -- `inspect::layout::field_at` meets its contract: record by record, until one holds the bit. Assumes nothing.
-use borrow.Author.Rules.{rules}
-use Prim.Native.Nat.{◌-◌}
-use native.Mathlib.Omega.{arith}
 use mathlib.Core.Path.{sym, ◌∙◌}
 use borrow.Author.Tests.{lt-ltb, le-ltb}
 use Rattle.inspect.specs.Layout.{field_of}
-use Rattle.inspect.proofs.Walking.{Walked, walked_none, walked_found, walked_more, walked_all}
+use Rattle.inspect.proofs.Walking.{walked_none, walked_found, walked_more, walked_all}
 use Rattle.inspect.proofs.layout.field_at.Goals as goal
 
 pub returns-then-at-lt4 : goal.returns-then-at-lt4

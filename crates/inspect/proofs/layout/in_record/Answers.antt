@@ -1,6 +1,4 @@
 -- `inspect::layout::in_record` meets its contract: each test went as the definition's. Assumes nothing.
-use borrow.Author.Rules.{rules}
-use native.Mathlib.Omega.{arith}
 use borrow.Author.Tests.{lt-ltb, le-ltb}
 use Rattle.inspect.specs.Layout.{in_record}
 use Rattle.inspect.proofs.layout.in_record.Goals as goal

@@ -1,5 +1,4 @@
 -- `inspect::layout::nibble` meets its contract: the field's value, and 0 where it is torn. Assumes nothing.
-use borrow.Author.Rules.{rules}
 use mathlib.Core.Path.{ap, sym, ◌∙◌}
 use Rattle.cards.specs.Step.{byte_step}
 use Rattle.inspect.specs.Layout.{value_in}

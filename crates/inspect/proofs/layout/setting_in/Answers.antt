@@ -1,5 +1,4 @@
 -- `inspect::layout::setting_in` meets its contract: each test went as the definition's. Assumes nothing.
-use borrow.Author.Rules.{rules}
 use borrow.Author.Tests.{lt-ltb, le-ltb}
 use Rattle.inspect.specs.Layout.{setting_in}
 use Rattle.inspect.proofs.layout.setting_in.Goals as goal

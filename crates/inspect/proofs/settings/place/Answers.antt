@@ -1,5 +1,4 @@
 -- `inspect::settings::place` meets its contract: past the fourth there is none. Assumes nothing.
-use borrow.Author.Rules.{rules}
 use mathlib.Core.List.{[], ◌∷◌}
 use mathlib.Core.Path.{sym}
 use native.Mathlib.Omega.{arith}

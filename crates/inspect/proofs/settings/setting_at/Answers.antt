@@ -1,5 +1,4 @@
 -- `inspect::settings::setting_at` meets its contract: each arm asks for what the definition lists. Assumes nothing.
-use borrow.Author.Rules.{rules}
 use Rattle.inspect.proofs.Arms.{arms}
 use Rattle.inspect.proofs.settings.setting_at.Goals as goal
 
