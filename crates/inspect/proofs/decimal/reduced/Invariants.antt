@@ -1,8 +1,6 @@
 -- `inspect::decimal::reduced` meets its contract: each turn halves both parts. Assumes nothing.
 use Prim.Native.Nat.{◌*◌, ◌^◌, ◌≤◌}
-use mathlib.Core.Path.{◌≡◌, refl}
-use native.Mathlib.Omega.{arith}
-use Rattle.inspect.proofs.Powers.{halved}
+use mathlib.Core.Path.{◌≡◌}
 use Rattle.inspect.proofs.decimal.reduced.Given as goal
 
 abbrev pub invariant-loop-q : goal.invariant-loop-q

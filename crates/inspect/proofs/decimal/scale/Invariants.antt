@@ -1,9 +1,7 @@
 -- `inspect::decimal::scale` meets its contract: what is left of the power stands beside the number. Assumes nothing.
 use Prim.Native.Nat.{◌*◌, ◌^◌}
-use mathlib.Core.Path.{◌≡◌, refl, sym, ◌∙◌}
-use native.Mathlib.Omega.{arith}
+use mathlib.Core.Path.{◌≡◌}
 use Rattle.inspect.specs.Decimal.{number, Digits}
-use Rattle.inspect.proofs.Powers.{room, once, finished}
 use Rattle.inspect.proofs.decimal.scale.Given as goal
 
 abbrev pub invariant-loop-left : goal.invariant-loop-left

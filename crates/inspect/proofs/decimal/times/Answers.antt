@@ -1,9 +1,9 @@
 -- `inspect::decimal::times` meets its contract: digit after digit, with the carry that is left. Assumes nothing.
-use Prim.Native.Nat.{◌+◌, ◌-◌, ◌*◌, ◌<◌}
+use Prim.Native.Nat.{◌+◌, ◌*◌, ◌<◌}
 use mathlib.Core.Path.{◌∙◌, sym}
 use lib.ListN.{get_or}
 use native.Mathlib.Omega.{arith}
-use Rattle.inspect.proofs.Digits.{Multiplied, none, little, turn, done}
+use Rattle.inspect.proofs.Digits.{none, little, turn, done}
 use Rattle.inspect.proofs.decimal.times.Goals as goal
 use Rattle.inspect.proofs.decimal.times.Lts as lts
 use Rattle.inspect.proofs.decimal.times.Reads as reads
@@ -36,4 +36,4 @@ pub shape_of-digits : goal.shape_of-digits
 shape_of-digits c = c.loop-i.invariant.digits.long ∙ sym c.requires.0.long
 
 pub returns : goal.returns
-returns c = done c.loop-i.invariant c.requires.0 c.loop-i-test.false c.requires.3
+returns c = done c.loop-i.invariant c.requires.0 c.loop-i-test.false

@@ -1,9 +1,6 @@
 -- `inspect::decimal::times` meets its contract: digit after digit, with the carry that is left. Assumes nothing.
-use Prim.Native.Nat.{◌+◌, ◌-◌, ◌*◌, ◌<◌}
-use mathlib.Core.Path.{◌∙◌, sym}
-use lib.ListN.{get_or}
-use native.Mathlib.Omega.{arith}
-use Rattle.inspect.proofs.Digits.{Multiplied, none, little, turn, done}
+use Prim.Native.Nat.{◌-◌}
+use Rattle.inspect.proofs.Digits.{Multiplied}
 use Rattle.inspect.proofs.decimal.times.Given as goal
 
 abbrev pub invariant-loop-i : goal.invariant-loop-i
