@@ -154,6 +154,7 @@ framed_state f keeps b words past old e =
 
 frame_state : (w h : ℕ) (b words past : List ℕ) (floats ints : ℕ) (curve : List Float) (old : List ℕ) → is_state b ≡ true
     → is_state (frame_shown w h b words past floats ints curve old).state ≡ true
+unfolding framed_on frame_shown
 frame_state w h b words past floats ints curve old e =
     framed_state (λ s. frame_reply w h s words past floats ints curve) (frame_whole w h words past floats ints curve) b words past old e
 

@@ -21,7 +21,6 @@ use Rattle.cards.specs.Write.{write_reply, write_into}
 use Rattle.chain.specs.declared.pipeline.Applied.{Applied}
 use Rattle.chain.specs.declared.pipeline.Called.{Called}
 use Rattle.chain.specs.declared.pipeline.Cycle.{Cycle}
-use Rattle.chain.specs.declared.pipeline.Cycle.TheVariants as Cycle
 use Rattle.chain.specs.declared.pipeline.Cycled.{Cycled}
 use Rattle.chain.specs.declared.pipeline.FrameAnswer.{FrameAnswer}
 use Rattle.chain.specs.declared.pipeline.FrameAnswer.TheVariants as Frame
@@ -31,7 +30,7 @@ use Rattle.cards.specs.declared.station.Answer.TheVariants.{Accepted, Refused}
 use Rattle.cards.specs.declared.station.Station.{Station}
 use Rattle.cards.specs.declared.writer.Written.{Written}
 use Rattle.bridge.specs.Outcomes.{Outcome, outcome, answered, damaged, opening, on_state, answered_with, depth_set, question_of, write_told, write_left}
-use Rattle.bridge.specs.Outcomes.{Shown, shown, framed_number, framed_shown, Kept, framed_on, freed, Leaves, Frames}
+use Rattle.bridge.specs.Outcomes.{Shown, shown, framed_number, framed_shown, Kept, framed_on, frame_shown, freed, Leaves, Frames}
 use Rattle.bridge.specs.Cabinets.{cabinet_shown, ShowsSource}
 use Rattle.bridge.specs.State.{encoded, station_in, is_state, decoded}
 
@@ -198,15 +197,22 @@ module _ (w h : ℕ) (b words past : List ℕ) (floats : List Float) (ints : Lis
   abbrev by_chain : Station → Framed
   by_chain s = frame_reply w h s words past (length floats) (length ints) curve
 
+  frames : (n : ℕ) (b' words' past' : List ℕ) (floats' : List Float) (ints' new : List ℕ)
+      → Leaves (framed_on by_chain b words past old) (float_room w h) (h * w) floats ints n b' words' past' floats' ints' new
+      → Frames w h b words past floats ints curve old n b' words' past' floats' ints' new
+  unfolding framed_on frame_shown
+  frames n b' words' past' floats' ints' new l = record { replies = l.replies; floats_stay = l.floats_stay; ints_stay = l.ints_stay }
+
   pub frame_none : (k n : ℕ) → Unread b k → n ≡ 256 + k → Frames w h b words past floats ints curve old n b words past floats ints old
-  frame_none = framed_none by_chain (float_room w h) (h * w) b words past floats ints old
+  frame_none k n u e = frames n b words past floats ints old (framed_none by_chain (float_room w h) (h * w) b words past floats ints old k n u e)
 
   pub frame_some : (s : Station) (r : Applied) (n : ℕ) (b' words' past' : List ℕ) (floats' : List Float) (ints' new : List ℕ) → Read b s
       → Applies w h s words past floats ints curve r words' past' floats' ints' → shown n b' words' past' new ≡ tells b old words' past' r
       → Frames w h b words past floats ints curve old n b' words' past' floats' ints' new
   frame_some s r n b' words' past' floats' ints' new t a e =
-      framed-some by_chain (float_room w h) (h * w) b words past floats ints old s r n b' words' past' floats' ints' new t a.replies a.floats_stay
-      a.ints_stay e
+      frames n b' words' past' floats' ints' new
+      (framed-some by_chain (float_room w h) (h * w) b words past floats ints old s r n b' words' past' floats' ints' new t a.replies a.floats_stay
+      a.ints_stay e)
 
 -- a source under the chain
 module _ (w h : ℕ) (picture colours b words past : List ℕ) (floats : List Float) (ints : List ℕ) (curve : List Float) (old : List ℕ) where

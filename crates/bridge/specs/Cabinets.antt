@@ -15,4 +15,5 @@ cabinet_shown w h picture colours b words past floats ints curve old =
 abbrev pub ShowsSource : (w h : ℕ) (picture colours b words past : List ℕ) (floats : List Float) (ints : List ℕ) (curve : List Float) (reports : List ℕ)
     (number : ℕ) (b' words' past' : List ℕ) (floats' : List Float) (ints' reports' : List ℕ) → Type 0
 ShowsSource w h picture colours b words past floats ints curve reports =
-    Leaves (cabinet_shown w h picture colours b words past (length floats) (length ints) curve reports) (float_room (3 * w) (3 * h)) (3 * h * (3 * w)) floats ints
+    Leaves (cabinet_shown w h picture colours b words past (length floats) (length ints) curve reports) (float_room (3 * w) (3 * h)) (3 * h * (3 * w))
+    floats ints

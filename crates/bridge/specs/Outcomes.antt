@@ -102,22 +102,25 @@ unfoldable pub framed_on : (Station → Framed) → (b words past old : List ℕ
 framed_on f b words past old = cond (is_state b) (framed_shown b old (f (station_in b))) (shown damaged b words past old)
 
 -- `floats` and `ints` are the lengths of the scratches
-abbrev pub frame_shown : (w h : ℕ) → (b words past : List ℕ) → (floats ints : ℕ) → (curve : List Float) → (old : List ℕ) → Shown
-frame_shown w h b words past floats ints curve old = framed_on (λ s. frame_reply w h s words past floats ints curve) b words past old
+unfoldable pub frame_shown : (w h : ℕ) → (b words past : List ℕ) → (floats ints : ℕ) → (curve : List Float) → (old : List ℕ) → Shown
+frame_shown w h b words past floats ints curve old =
+    cond (is_state b) (framed_shown b old (frame_reply w h (station_in b) words past floats ints curve)) (shown damaged b words past old)
 
 -- the scratch words that a frame may change: k, or none where it is refused
 abbrev pub freed : (number k : ℕ) → ℕ
 freed number k = cond (eqb number 0) k 0
 
--- what a frame promises that may use so many words of each scratch: the number, the state, the framebuffer, the history, what it reports, and the scratch
--- words that stay
+-- what a frame of a source promises, which may use so many words of each scratch: the number, the state, the framebuffer, the history, what it reports, and
+-- the scratch words that stay
 pub record Leaves (asked : Shown) (floats_free ints_free : ℕ) (floats : List Float) (ints : List ℕ) (number : ℕ) (b' words' past' : List ℕ)
     (floats' : List Float) (ints' reports' : List ℕ) : Type 0 where
   pub replies : shown number b' words' past' reports' ≡ asked
   pub floats_stay : drop (freed number floats_free) floats' ≡ drop (freed number floats_free) floats
   pub ints_stay : drop (freed number ints_free) ints' ≡ drop (freed number ints_free) ints
 
-abbrev pub Frames : (w h : ℕ) (b words past : List ℕ) (floats : List Float) (ints : List ℕ) (curve : List Float) (reports : List ℕ) (number : ℕ)
-    (b' words' past' : List ℕ) (floats' : List Float) (ints' reports' : List ℕ) → Type 0
-Frames w h b words past floats ints curve reports =
-    Leaves (frame_shown w h b words past (length floats) (length ints) curve reports) (float_room w h) (h * w) floats ints
+-- what a frame promises: the number, the state, the framebuffer, the history, what it reports, and the scratch words that stay
+pub record Frames (w h : ℕ) (b words past : List ℕ) (floats : List Float) (ints : List ℕ) (curve : List Float) (reports : List ℕ) (number : ℕ)
+    (b' words' past' : List ℕ) (floats' : List Float) (ints' reports' : List ℕ) : Type 0 where
+  pub replies : shown number b' words' past' reports' ≡ frame_shown w h b words past (length floats) (length ints) curve reports
+  pub floats_stay : drop (freed number (float_room w h)) floats' ≡ drop (freed number (float_room w h)) floats
+  pub ints_stay : drop (freed number (h * w)) ints' ≡ drop (freed number (h * w)) ints

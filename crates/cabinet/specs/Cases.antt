@@ -54,6 +54,6 @@ shown =
     ∷ []
 
 pub shown_hold : Hold shown
-unfolding cabinet_reply source_stops bad_source_side enlarged frame_reply_by unless shown_by stops bad_side good_station fine_held same_held normal_chain normal_pass settled
-    held_by holding depth reads_curve fold chain_by turn_by over_by rewrite converted
+unfolding cabinet_reply source_stops bad_source_side enlarged frame_reply_by unless shown_by stops bad_side good_station fine_held same_held
+    normal_chain normal_pass settled held_by holding depth reads_curve fold chain_by turn_by over_by rewrite converted
 shown_hold = refl

@@ -5,7 +5,6 @@ use Rattle.cards.specs.declared.station.Answer.{Answer}
 use Rattle.cards.specs.declared.station.Answer.TheVariants.{Accepted, Refused}
 use Rattle.cards.specs.declared.station.Station.{Station}
 use Rattle.cards.specs.declared.writer.Writing.{Writing}
-use Rattle.cards.specs.declared.writer.Writing.TheVariants as Writing
 use Rattle.cards.specs.declared.writer.Written.{Written}
 
 -- document 01's answer: a refusal's number, or acceptance with all that the call reports

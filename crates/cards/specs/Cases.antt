@@ -92,8 +92,8 @@ stopped_at =
     ∷ []
 
 pub stopped_at_hold : Hold stopped_at
-unfolding stopped_of station_at header_at field_at value_at refuse_if records_at end_at ends_at record_at pass_at persistence_at lut_at color_correction_at scanlines_at count_at
-    preset_at limited_at within_at raised_at finite_at of_bits lt eq neg limit_of plus_zero_of clamp_of
+unfolding stopped_of station_at header_at field_at value_at refuse_if records_at end_at ends_at record_at pass_at persistence_at lut_at
+    color_correction_at scanlines_at count_at preset_at limited_at within_at raised_at finite_at of_bits lt eq neg limit_of plus_zero_of clamp_of
 stopped_at_hold = refl
 
 -- ● Card 11 AA 00 00 00 00 (scanlines, strength 2.0) normalises to 11 A9 FC 00 00 00. Card 10 is normalised; so is 11 48 00 00 00 00 08 once its depth is 1.
@@ -114,7 +114,7 @@ written =
     ∷ []
 
 pub written_hold : Hold written
-unfolding open_of station_at header_at field_at value_at refuse_if records_at end_at ends_at record_at pass_at persistence_at color_correction_at scanlines_at count_at
-    limited_at within_at raised_at finite_at of_bits to_bits lt eq neg limit_of plus_zero_of clamp_of card_of chain_card pack value_of chain_bits records_bits record_bits
-    pass_bits bits
+unfolding open_of station_at header_at field_at value_at refuse_if records_at end_at ends_at record_at pass_at persistence_at color_correction_at
+    scanlines_at count_at limited_at within_at raised_at finite_at of_bits to_bits lt eq neg limit_of plus_zero_of clamp_of card_of chain_card pack
+    value_of chain_bits records_bits record_bits pass_bits bits
 written_hold = refl

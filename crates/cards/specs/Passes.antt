@@ -71,7 +71,8 @@ scanlines_at = do
 
 -- the settings of each kind, from 0 on; 0 has none
 abbrev pub by_kind : List (Reader Pass)
-by_kind = refuse 4 ∷ ntsc_at ∷ bloom_at ∷ auto_gradient_at ∷ persistence_at ∷ lut_at ∷ curvature_at ∷ color_correction_at ∷ crt_at ∷ vignette_at ∷ scanlines_at ∷ []
+by_kind =
+    refuse 4 ∷ ntsc_at ∷ bloom_at ∷ auto_gradient_at ∷ persistence_at ∷ lut_at ∷ curvature_at ∷ color_correction_at ∷ crt_at ∷ vignette_at ∷ scanlines_at ∷ []
 
 unfoldable pub pass_at : ℕ → Reader Pass
 pass_at kind = get_or by_kind kind (refuse 4)

@@ -10,7 +10,6 @@ use lib.Ieee.{Float}
 use lib.ListN.{length, take, drop, length-append, length-drop}
 use lib.Seq.{take-append-le, take-take, length-take-le, drop_at, take-add, drop-drop}
 use Rattle.num.specs.Held.{Held, sized, area}
-use Rattle.num.specs.Laws.Held.{same_held_lem}
 use Rattle.passes.specs.Flow.{Flow, flow}
 use Rattle.passes.specs.Painted.{Painted}
 use Rattle.passes.specs.Laws.Lengths.{persistence-held}

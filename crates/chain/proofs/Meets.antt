@@ -20,7 +20,7 @@ use Rattle.passes.specs.Laws.Persistence.{resized_same, resized-length}
 use Rattle.passes.specs.Plain.Persistence.{resized}
 use Rattle.chain.specs.Agree.{SameFirst, SameCall, frames, resets, switches_to, asks, commits, steps, new-depths, lent, Lends}
 use Rattle.cards.specs.Answers.{refusal, acceptance, ok, reply, refusing}
-use Rattle.chain.specs.Agree.{on, takes, switches_off, ends, changes}
+use Rattle.chain.specs.Agree.{takes, switches_off, ends, changes}
 use Rattle.cards.specs.Alike.{chain_of}
 use Rattle.chain.specs.Calls.{rechain, pend, stops, lacks, waits, ask_stops, commit_stops, on_first, forget, with_switch, switched, stepped, committed}
 use Rattle.chain.specs.Calls.{presets, step_lut, Framed, framed, refusing_frame, shown, shown_by, frame_reply_by, first_held, first_depth, depth_stops, redepth, depth_reply}

@@ -1,17 +1,14 @@
 -- The ten passes by cases: persistence or a pass that only paints the frame; a LUT, persistence or a pass that no call changes but in its switch; and what the
 -- other arm of a `match` tells. Assumes nothing.
-use Prim.Native.Nat.{ℕ, suc, ◌+◌, ◌*◌, ◌≤◌, zero-le}
+use Prim.Native.Nat.{ℕ, ◌+◌, ◌*◌, ◌≤◌, zero-le}
 use native.Mathlib.Omega.{arith}
-use mathlib.Core.Path.{◌≡◌, refl, sym, ap, subst, ◌∙◌}
-use mathlib.Core.Bool.{false, not}
-use mathlib.Core.List.{List, [], ◌∷◌, ◌++◌}
-use denote.Enum.Declared.{tag_of}
-use lib.Dec.{T, eqb}
+use mathlib.Core.Path.{◌≡◌, refl, sym, ap, ◌∙◌}
+use mathlib.Core.Bool.{false}
+use mathlib.Core.List.{List, [], ◌++◌}
+use lib.Dec.{eqb}
 use lib.Ieee.{Float}
 use lib.ListN.{length, get_or, drop}
 use lib.Seq.{drop-append_seam}
-use mir.Val.{has_key}
-use types.Run.{OneOf, miss}
 use Rattle.num.specs.Held.{sized}
 use Rattle.passes.specs.Flow.{Flow}
 use Rattle.passes.specs.Laws.Lengths.{ntsc_paints, bloom_paints, auto_gradient_paints, lut_paints, color_correction_paints}
@@ -25,7 +22,6 @@ use Rattle.cards.specs.Passes.{kind_of}
 use Rattle.cards.specs.declared.station.Pass.{Pass}
 use Rattle.cards.specs.declared.station.Pass.TheVariants.{Ntsc, Bloom, AutoGradient, Persistence, Lut, Curvature}
 use Rattle.cards.specs.declared.station.Pass.TheVariants.{ColorCorrection, Crt, Vignette, Scanlines}
-use Rattle.cards.specs.contracts.station.Pass.{the_type}
 
 -- ## Persistence, or a pass that only paints the frame
 

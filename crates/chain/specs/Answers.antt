@@ -6,13 +6,10 @@ use Rattle.chain.specs.declared.pipeline.Applied.{Applied}
 use Rattle.chain.specs.declared.pipeline.Called.{Called}
 use Rattle.chain.specs.declared.pipeline.Cycled.{Cycled}
 use Rattle.chain.specs.declared.pipeline.Cycle.{Cycle}
-use Rattle.chain.specs.declared.pipeline.Cycle.TheVariants as Cycle
 use Rattle.chain.specs.declared.pipeline.FrameAnswer.{FrameAnswer}
 use Rattle.chain.specs.declared.pipeline.FrameAnswer.TheVariants as Frame
 use Rattle.chain.specs.declared.pipeline.Question.{Question}
-use Rattle.chain.specs.declared.pipeline.Question.TheVariants as Question
 use Rattle.chain.specs.declared.samples.Sampling.{Sampling}
-use Rattle.chain.specs.declared.samples.Sampling.TheVariants as Sampling
 use Rattle.cards.specs.declared.station.Station.{Station}
 
 -- of a frame: acceptance reports how many channels were clipped, and how many samples were taken

@@ -97,7 +97,10 @@ stopped_hold = refl
 -- How many f32 words of scratch a frame asks for (request P6): six for a frame of one word; at height 1 six for each word; at 256 by 240 half of
 -- that and a row's; at most 3,148,800.
 abbrev pub rooms : List (ℕ × ℕ)
-rooms = (float_room 1 1, 6) ∷ (float_room 1024 1, 6 * 1024) ∷ (float_room 1 1024, 3 * 1024 + 3) ∷ (float_room 256 240, 185088) ∷ (float_room 1024 1024, 3148800) ∷ []
+rooms =
+    (float_room 1 1, 6) ∷ (float_room 1024 1, 6 * 1024) ∷ (float_room 1 1024, 3 * 1024 + 3) ∷ (float_room 256 240, 185088)
+    ∷ (float_room 1024 1024, 3148800)
+    ∷ []
 
 pub rooms_hold : Hold rooms
 rooms_hold = refl
@@ -134,13 +137,12 @@ reports =
     ∷ []
 
 pub reports_hold : Hold reports
-unfolding frame_reply_by unless shown_by on_first stops bad_side good_station fine_held same_held normal_chain normal_pass settled held_by holding depth reads_curve
-    record_samples fold chain_by turn_by over_by wash of_bits of_int add sub mul div neg lt clamp_of cut_of rewrite sum converted Text.Pixel.unpack Text.Pixel.unit
-    Text.Pixel.pack Text.Pixel.pack_clamped Text.Pixel.pack_unit Text.Pixel.clip Text.Pixel.clips Text.Pixel.dim Text.Pixel.luma709
-    Text.ColorCorrection.color_correction Text.ColorCorrection.curved Text.ColorCorrection.start Text.ColorCorrection.colour eq ne
-    Text.Lut.lut Text.Lut.colour Text.Lut.transform
-    Text.Scanlines.scanlines Text.Scanlines.in_row Text.Persistence.persistence Text.Persistence.decay Text.Persistence.total
-    Text.Persistence.add Text.Persistence.mix Text.Persistence.blend Persistence.copies Persistence.refilled
+unfolding frame_reply_by unless shown_by on_first stops bad_side good_station fine_held same_held normal_chain normal_pass settled held_by holding
+    depth reads_curve record_samples fold chain_by turn_by over_by wash of_bits of_int add sub mul div neg lt clamp_of cut_of rewrite sum converted
+    Text.Pixel.unpack Text.Pixel.unit Text.Pixel.pack Text.Pixel.pack_clamped Text.Pixel.pack_unit Text.Pixel.clip Text.Pixel.clips Text.Pixel.dim
+    Text.Pixel.luma709 Text.ColorCorrection.color_correction Text.ColorCorrection.curved Text.ColorCorrection.start Text.ColorCorrection.colour eq ne
+    Text.Lut.lut Text.Lut.colour Text.Lut.transform Text.Scanlines.scanlines Text.Scanlines.in_row Text.Persistence.persistence Text.Persistence.decay
+    Text.Persistence.total Text.Persistence.add Text.Persistence.mix Text.Persistence.blend Persistence.copies Persistence.refilled
     Persistence.shifted
 reports_hold = refl
 
@@ -174,8 +176,8 @@ questions =
     ∷ []
 
 pub questions_hold : Hold questions
-unfolding samples_stops on_first unless bad_side good_station fine_held same_held normal_chain normal_pass settled held_by holding of_bits lt fold record_samples samples
-    ntsc_samples bloom_samples
+unfolding samples_stops on_first unless bad_side good_station fine_held same_held normal_chain normal_pass settled held_by holding of_bits lt fold
+    record_samples samples ntsc_samples bloom_samples
 questions_hold = refl
 
 -- Frames with a curve (request P3): of one word, with all that is lent but the curve. Gamma 1.0 needs none, whatever is lent. At gamma 2, on or off, 255
@@ -215,10 +217,11 @@ tints =
     ∷ []
 
 pub tints_hold : Hold tints
-unfolding times frame_reply_by unless shown_by stops bad_side good_station fine_held same_held normal_chain normal_pass settled held_by holding depth reads_curve
-    Text.ColorCorrection.good_curve Text.ColorCorrection.all_in_unit Text.ColorCorrection.in_unit fold chain_by turn_by over_by wash of_bits of_int add sub mul div
-    neg lt le eq ne clamp_of cut_of rewrite sum converted Text.Pixel.pack Text.Pixel.pack_unit Text.Pixel.clip Text.Pixel.clips Text.Pixel.luma709
-    Text.ColorCorrection.color_correction Text.ColorCorrection.curved Text.ColorCorrection.start Text.ColorCorrection.colour
+unfolding times frame_reply_by unless shown_by stops bad_side good_station fine_held same_held normal_chain normal_pass settled held_by holding depth
+    reads_curve Text.ColorCorrection.good_curve Text.ColorCorrection.all_in_unit Text.ColorCorrection.in_unit fold chain_by turn_by over_by wash
+    of_bits of_int add sub mul div neg lt le eq ne clamp_of cut_of rewrite sum converted Text.Pixel.pack Text.Pixel.pack_unit Text.Pixel.clip
+    Text.Pixel.clips Text.Pixel.luma709 Text.ColorCorrection.color_correction Text.ColorCorrection.curved Text.ColorCorrection.start
+    Text.ColorCorrection.colour
 tints_hold = refl
 
 -- Turned frames (request P1). Persistence 0.5 of depth 1, frames of two words, upright (1 by 2) and turned (2 by 1). A black frame shows
@@ -249,11 +252,11 @@ turns =
     ∷ []
 
 pub turns_hold : Hold turns
-unfolding run saw after call frame_reply_by unless shown_by stops bad_side good_station fine_held same_held normal_chain normal_pass settled held_by holding
-    depth reads_curve fold chain_by turn_by over_by of_bits of_int add sub mul div neg lt clamp_of cut_of rewrite sum converted Text.Pixel.unpack Text.Pixel.pack
-    Text.Pixel.pack_clamped Text.Pixel.clip Text.Pixel.clips Text.Persistence.persistence Text.Persistence.decay
-    Text.Persistence.total Text.Persistence.add Text.Persistence.mix Text.Persistence.blend Persistence.copies
-    Persistence.refilled Persistence.shifted
+unfolding run saw after call frame_reply_by unless shown_by stops bad_side good_station fine_held same_held normal_chain normal_pass settled held_by
+    holding depth reads_curve fold chain_by turn_by over_by of_bits of_int add sub mul div neg lt clamp_of cut_of rewrite sum converted
+    Text.Pixel.unpack Text.Pixel.pack Text.Pixel.pack_clamped Text.Pixel.clip Text.Pixel.clips Text.Persistence.persistence Text.Persistence.decay
+    Text.Persistence.total Text.Persistence.add Text.Persistence.mix Text.Persistence.blend Persistence.copies Persistence.refilled
+    Persistence.shifted
 turns_hold = refl
 
 -- Switches that are asked for (request P7). Asking, asking again (17), committing, committing again (18), on a station with persistence alone; a kind that is
@@ -276,7 +279,8 @@ asks =
     ∷ []
 
 pub asks_hold : Hold asks
-unfolding run saw after call ask_stops commit_stops lacks on_first unless good_station fine_held same_held normal_chain normal_pass settled held_by holding of_bits lt
+unfolding run saw after call ask_stops commit_stops lacks on_first unless good_station fine_held same_held normal_chain normal_pass settled held_by
+    holding of_bits lt
 asks_hold = refl
 
 -- What is asked for after that: asking records it, the present position too; a reset, a plain switch, a frame and refused calls leave it; committing clears it.
@@ -292,10 +296,11 @@ waiting =
     ∷ []
 
 pub waiting_hold : Hold waiting
-unfolding run after call ask_stops commit_stops lacks on_first frame_reply_by unless shown_by stops bad_side good_station fine_held same_held normal_chain normal_pass
-    settled held_by holding depth reads_curve fold chain_by turn_by over_by of_bits of_int add sub mul div neg lt clamp_of cut_of rewrite sum converted
-    Text.Pixel.unpack Text.Pixel.pack Text.Pixel.pack_clamped Text.Pixel.clip Text.Pixel.clips Text.Persistence.persistence Text.Persistence.decay
-    Text.Persistence.total Text.Persistence.add Text.Persistence.mix Text.Persistence.blend Persistence.copies Persistence.refilled Persistence.shifted
+unfolding run after call ask_stops commit_stops lacks on_first frame_reply_by unless shown_by stops bad_side good_station fine_held same_held
+    normal_chain normal_pass settled held_by holding depth reads_curve fold chain_by turn_by over_by of_bits of_int add sub mul div neg lt clamp_of
+    cut_of rewrite sum converted Text.Pixel.unpack Text.Pixel.pack Text.Pixel.pack_clamped Text.Pixel.clip Text.Pixel.clips
+    Text.Persistence.persistence Text.Persistence.decay Text.Persistence.total Text.Persistence.add Text.Persistence.mix Text.Persistence.blend
+    Persistence.copies Persistence.refilled Persistence.shifted
 waiting_hold = refl
 
 -- Persistence asked to be off: the ghost is still shown in two frames; committed, the next frame is unaltered. A plain switch to off and on between asking and
@@ -312,11 +317,11 @@ until_committed = (
     ∷ []
 
 pub until_committed_hold : Hold until_committed
-unfolding run saw after call ask_stops commit_stops lacks on_first frame_reply_by unless shown_by stops bad_side good_station fine_held same_held normal_chain
-    normal_pass settled held_by holding depth reads_curve fold chain_by turn_by over_by of_bits of_int add sub mul div neg lt clamp_of cut_of rewrite sum converted
-    Text.Pixel.unpack Text.Pixel.pack Text.Pixel.pack_clamped Text.Pixel.clip Text.Pixel.clips Text.Persistence.persistence Text.Persistence.decay
-    Text.Persistence.total Text.Persistence.add Text.Persistence.mix Text.Persistence.blend Persistence.copies
-    Persistence.refilled Persistence.shifted
+unfolding run saw after call ask_stops commit_stops lacks on_first frame_reply_by unless shown_by stops bad_side good_station fine_held same_held
+    normal_chain normal_pass settled held_by holding depth reads_curve fold chain_by turn_by over_by of_bits of_int add sub mul div neg lt clamp_of
+    cut_of rewrite sum converted Text.Pixel.unpack Text.Pixel.pack Text.Pixel.pack_clamped Text.Pixel.clip Text.Pixel.clips
+    Text.Persistence.persistence Text.Persistence.decay Text.Persistence.total Text.Persistence.add Text.Persistence.mix Text.Persistence.blend
+    Persistence.copies Persistence.refilled Persistence.shifted
 until_committed_hold = refl
 
 -- A new depth (request P11). Persistence 0.5 of depth 3, frames of one word, an own buffer of five words. After three frames, depth 2 leaves all words; depth 4
@@ -345,11 +350,11 @@ renewed =
     ∷ []
 
 pub renewed_hold : Hold renewed
-unfolding run after call depth_reply depth_stops lacks of_first on_first redepth frame_reply_by unless shown_by stops bad_side good_station fine_held same_held
-    normal_chain normal_pass settled held_by holding depth reads_curve fold chain_by turn_by over_by of_bits of_int add sub mul div neg lt clamp_of cut_of rewrite sum
-    converted Text.Pixel.unpack Text.Pixel.pack Text.Pixel.pack_clamped Text.Pixel.clip Text.Pixel.clips Text.Persistence.persistence Text.Persistence.decay
-    Text.Persistence.total Text.Persistence.add Text.Persistence.mix Text.Persistence.blend Persistence.copies Persistence.refilled Persistence.shifted
-    Persistence.resized
+unfolding run after call depth_reply depth_stops lacks of_first on_first redepth frame_reply_by unless shown_by stops bad_side good_station fine_held
+    same_held normal_chain normal_pass settled held_by holding depth reads_curve fold chain_by turn_by over_by of_bits of_int add sub mul div neg lt
+    clamp_of cut_of rewrite sum converted Text.Pixel.unpack Text.Pixel.pack Text.Pixel.pack_clamped Text.Pixel.clip Text.Pixel.clips
+    Text.Persistence.persistence Text.Persistence.decay Text.Persistence.total Text.Persistence.add Text.Persistence.mix Text.Persistence.blend
+    Persistence.copies Persistence.refilled Persistence.shifted Persistence.resized
 renewed_hold = refl
 
 -- the next picture
@@ -359,11 +364,11 @@ renewed_pictures =
     ∷ []
 
 pub renewed_pictures_hold : Hold renewed_pictures
-unfolding run saw after call depth_reply depth_stops lacks of_first on_first redepth frame_reply_by unless shown_by stops bad_side good_station fine_held same_held
-    normal_chain normal_pass settled held_by holding depth reads_curve fold chain_by turn_by over_by of_bits of_int add sub mul div neg lt clamp_of cut_of rewrite sum
-    converted Text.Pixel.unpack Text.Pixel.pack Text.Pixel.pack_clamped Text.Pixel.clip Text.Pixel.clips Text.Persistence.persistence Text.Persistence.decay
-    Text.Persistence.total Text.Persistence.add Text.Persistence.mix Text.Persistence.blend Persistence.copies Persistence.refilled Persistence.shifted
-    Persistence.resized
+unfolding run saw after call depth_reply depth_stops lacks of_first on_first redepth frame_reply_by unless shown_by stops bad_side good_station
+    fine_held same_held normal_chain normal_pass settled held_by holding depth reads_curve fold chain_by turn_by over_by of_bits of_int add sub mul
+    div neg lt clamp_of cut_of rewrite sum converted Text.Pixel.unpack Text.Pixel.pack Text.Pixel.pack_clamped Text.Pixel.clip Text.Pixel.clips
+    Text.Persistence.persistence Text.Persistence.decay Text.Persistence.total Text.Persistence.add Text.Persistence.mix Text.Persistence.blend
+    Persistence.copies Persistence.refilled Persistence.shifted Persistence.resized
 renewed_pictures_hold = refl
 
 -- What it answers: 9 is above 8 (6), also where no word is lent; of one held word, four words are enough for depth 4 and three are not (10), and for depth 0
@@ -380,11 +385,11 @@ deeper =
     ∷ []
 
 pub deeper_hold : Hold deeper
-unfolding run saw after call depth_reply depth_stops lacks of_first on_first redepth frame_reply_by unless shown_by stops bad_side good_station fine_held same_held
-    normal_chain normal_pass settled held_by holding depth reads_curve fold chain_by turn_by over_by of_bits of_int add sub mul div neg lt clamp_of cut_of rewrite sum
-    converted Text.Pixel.unpack Text.Pixel.pack Text.Pixel.pack_clamped Text.Pixel.clip Text.Pixel.clips Text.Persistence.persistence Text.Persistence.decay
-    Text.Persistence.total Text.Persistence.add Text.Persistence.mix Text.Persistence.blend Persistence.copies Persistence.refilled Persistence.shifted
-    Persistence.resized
+unfolding run saw after call depth_reply depth_stops lacks of_first on_first redepth frame_reply_by unless shown_by stops bad_side good_station
+    fine_held same_held normal_chain normal_pass settled held_by holding depth reads_curve fold chain_by turn_by over_by of_bits of_int add sub mul
+    div neg lt clamp_of cut_of rewrite sum converted Text.Pixel.unpack Text.Pixel.pack Text.Pixel.pack_clamped Text.Pixel.clip Text.Pixel.clips
+    Text.Persistence.persistence Text.Persistence.decay Text.Persistence.total Text.Persistence.add Text.Persistence.mix Text.Persistence.blend
+    Persistence.copies Persistence.refilled Persistence.shifted Persistence.resized
 deeper_hold = refl
 
 -- Two glows (request P12). Persistence 0.5 of depth 1 and after it of depth 2, frames of one word, an own buffer of five words: the first history is its first
@@ -420,9 +425,9 @@ glowing_runs = (
     ∷ []
 
 pub glowing_runs_hold : Hold glowing_runs
-unfolding run saw after call depth_reply depth_stops lacks of_first on_first redepth frame_reply_by unless shown_by stops bad_side good_station fine_held same_held
-    normal_chain normal_pass settled held_by holding depth reads_curve fold chain_by turn_by over_by of_bits of_int add sub mul div neg lt clamp_of cut_of rewrite sum
-    converted Text.Pixel.unpack Text.Pixel.pack Text.Pixel.pack_clamped Text.Pixel.clip Text.Pixel.clips Text.Persistence.persistence Text.Persistence.decay
-    Text.Persistence.total Text.Persistence.add Text.Persistence.mix Text.Persistence.blend Persistence.copies
-    Persistence.refilled Persistence.shifted Persistence.resized
+unfolding run saw after call depth_reply depth_stops lacks of_first on_first redepth frame_reply_by unless shown_by stops bad_side good_station
+    fine_held same_held normal_chain normal_pass settled held_by holding depth reads_curve fold chain_by turn_by over_by of_bits of_int add sub mul
+    div neg lt clamp_of cut_of rewrite sum converted Text.Pixel.unpack Text.Pixel.pack Text.Pixel.pack_clamped Text.Pixel.clip Text.Pixel.clips
+    Text.Persistence.persistence Text.Persistence.decay Text.Persistence.total Text.Persistence.add Text.Persistence.mix Text.Persistence.blend
+    Persistence.copies Persistence.refilled Persistence.shifted Persistence.resized
 glowing_runs_hold = refl

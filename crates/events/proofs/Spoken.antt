@@ -13,7 +13,6 @@ use Rattle.chain.specs.Laws.Answers.{stay}
 use Rattle.chain.specs.Calls.{Framed, float_room, stops, frame_reply}
 use Rattle.chain.specs.declared.pipeline.Applied.{Applied}
 use Rattle.chain.specs.declared.pipeline.Cycle.{Cycle}
-use Rattle.chain.specs.declared.pipeline.Cycle.TheVariants as Cycle
 use Rattle.chain.specs.declared.pipeline.FrameAnswer.{FrameAnswer}
 use Rattle.chain.specs.declared.pipeline.FrameAnswer.TheVariants as Frame
 use Rattle.cards.specs.declared.reader.Opened.{Opened}

@@ -9,7 +9,6 @@ use Rattle.num.specs.Laws.Refusals.{accepts}
 use Rattle.raster.specs.Pixels.{unpacked}
 use Rattle.raster.specs.Ppm.{parse_of}
 use Rattle.raster.specs.declared.ppm.Parsed.{Parsed}
-use Rattle.raster.specs.declared.ppm.Parsed.TheVariants as Parsed
 use Rattle.chain.specs.Calls as Calls
 use Rattle.chain.specs.Calls.{Framed, stops, refusing_frame, shown_by, frame_reply_by}
 use Rattle.cards.specs.declared.station.Station.{Station}

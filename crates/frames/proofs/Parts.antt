@@ -15,7 +15,6 @@ use Rattle.raster.specs.Claims.{Whole}
 use Rattle.raster.specs.Ppm.{parse_of}
 use Rattle.raster.specs.Pixels.{unpacked, packed_bytes}
 use Rattle.raster.specs.declared.ppm.Parsed.{Parsed}
-use Rattle.raster.specs.declared.ppm.Parsed.TheVariants as Parsed
 use Rattle.chain.specs.Answers.{reported_frame, Applies}
 use Rattle.chain.specs.Laws.Answers.{stay}
 use Rattle.chain.specs.Calls.{Framed, float_room, stops, frame_reply}

@@ -4,7 +4,6 @@ use Rattle.num.specs.Refusals.{unless}
 use Rattle.raster.specs.Pixels.{unpacked, packed_bytes}
 use Rattle.raster.specs.Ppm.{header_cut, pixels_cut, left_over, parse_of}
 use Rattle.raster.specs.declared.ppm.Parsed.{Parsed}
-use Rattle.raster.specs.declared.ppm.Parsed.TheVariants as Parsed
 use Rattle.cards.specs.Answers.{Report, refusal, acceptance}
 use Rattle.chain.specs.Calls.{Framed, float_room, stops, frame_reply}
 use Rattle.cards.specs.declared.station.Station.{Station}

@@ -2,11 +2,9 @@
 use Rattle.std.specs.Prelude.{ℕ, ◌*◌, List, ◌++◌, length, drop}
 use Rattle.areas.specs.Areas.{judged}
 use Rattle.areas.specs.declared.Answer.{Answer}
-use Rattle.areas.specs.declared.Answer.TheVariants as Answer
 use Rattle.raster.specs.Pixels.{unpacked}
 use Rattle.raster.specs.Ppm.{parse_of}
 use Rattle.raster.specs.declared.ppm.Parsed.{Parsed}
-use Rattle.raster.specs.declared.ppm.Parsed.TheVariants as Parsed
 use Rattle.frames.specs.declared.judge.Judged.{Judged}
 use Rattle.frames.specs.declared.judge.Judged.TheVariants.{Read, NoFrame, Refused}
 

@@ -63,7 +63,10 @@ parsed =
     ∷ (parse_of 1024 (file n1024 n1 n255 3072), Frame 1024 1 14)
     ∷ (parse_of 1024 (file n1 n1024 n255 3072), Frame 1 1024 14)
     ∷ (parse_of 1023 (file n1024 n1 n255 3072), Refused too_large)
-    ∷ (parse_of 9999 (file (49 ∷ 56 ∷ 52 ∷ 52 ∷ 54 ∷ 55 ∷ 52 ∷ 52 ∷ 48 ∷ 55 ∷ 51 ∷ 55 ∷ 48 ∷ 57 ∷ 53 ∷ 53 ∷ 49 ∷ 54 ∷ 49 ∷ 55 ∷ []) n1 n255 3), Refused too_large)
+    ∷ (
+      parse_of 9999 (file (49 ∷ 56 ∷ 52 ∷ 52 ∷ 54 ∷ 55 ∷ 52 ∷ 52 ∷ 48 ∷ 55 ∷ 51 ∷ 55 ∷ 48 ∷ 57 ∷ 53 ∷ 53 ∷ 49 ∷ 54 ∷ 49 ∷ 55 ∷ []) n1 n255 3),
+      Refused too_large,
+    )
     ∷ (parse_of 4 (file n2 n2 n255 12), Frame 2 2 11)
     ∷ (parse_of 3 (file n2 n2 n255 12), Refused too_large)
     -- a byte too few, and one too many

@@ -17,7 +17,8 @@ WordsSame = (words : List ℕ) → ((i : ℕ) → i < length words → get_or wo
 -- and bytes come back from their words
 abbrev pub BytesBack : Type 0
 BytesBack =
-    (n : ℕ) (bytes : List ℕ) → ((i : ℕ) → i < length bytes → get_or bytes i 0 < 256) → 3 * n ≤ length bytes → packed_bytes (unpacked n bytes) ≡ take (3 * n) bytes
+    (n : ℕ) (bytes : List ℕ) → ((i : ℕ) → i < length bytes → get_or bytes i 0 < 256) → 3 * n ≤ length bytes
+    → packed_bytes (unpacked n bytes) ≡ take (3 * n) bytes
 
 -- ## Files
 

@@ -1,6 +1,7 @@
 // A whole file that should be one frame as binary PPM (netpbm's P6), read: its size and where its pixels start, or why it is refused.
 ghost use Rattle.std.specs.Prelude.{◌≡◌, ◌≤◌, drop};
-ghost use Rattle.raster.specs.Ppm.{is_white, ends_line, is_digit, in_gap, in_comment, grow, value_of, gap_end, digits_end, number_in, is_p6, header_in, parse_of};
+ghost use Rattle.raster.specs.Ppm.{is_white, ends_line, is_digit, in_gap, in_comment, grow, value_of, gap_end, digits_end, number_in, is_p6};
+ghost use Rattle.raster.specs.Ppm.{header_in, parse_of};
 ghost use Rattle.raster.specs.Private.{number_step, header_step, refusal_of};
 
 // Refusals.

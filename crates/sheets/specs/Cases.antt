@@ -109,11 +109,12 @@ played =
     ∷ []
 
 pub played_hold : Hold played
-unfolding play_of turns turn sheet_at rest_at events_at event_at frame_at switch_at words_at field_at value_at end_at ends_at refuse_if after call lacks ask_stops commit_stops
-    on_first frame_reply_by unless shown_by stops bad_side good_station fine_held same_held normal_chain normal_pass settled held_by holding depth reads_curve fold
-    chain_by turn_by over_by of_bits of_int add sub mul div neg lt clamp_of cut_of rewrite sum converted Text.Pixel.unpack Text.Pixel.pack Text.Pixel.pack_clamped
-    Text.Pixel.clip Text.Pixel.clips Text.Persistence.persistence Text.Persistence.decay Text.Persistence.total Text.Persistence.add Text.Persistence.mix
-    Text.Persistence.blend Persistence.copies Persistence.refilled Persistence.shifted presets
+unfolding play_of turns turn sheet_at rest_at events_at event_at frame_at switch_at words_at field_at value_at end_at ends_at refuse_if after call
+    lacks ask_stops commit_stops on_first frame_reply_by unless shown_by stops bad_side good_station fine_held same_held normal_chain normal_pass
+    settled held_by holding depth reads_curve fold chain_by turn_by over_by of_bits of_int add sub mul div neg lt clamp_of cut_of rewrite sum
+    converted Text.Pixel.unpack Text.Pixel.pack Text.Pixel.pack_clamped Text.Pixel.clip Text.Pixel.clips Text.Persistence.persistence
+    Text.Persistence.decay Text.Persistence.total Text.Persistence.add Text.Persistence.mix Text.Persistence.blend Persistence.copies
+    Persistence.refilled Persistence.shifted presets
 played_hold = refl
 
 -- A frame of 2047 by 1, whatever its words, is refused, and play goes on with the reset after it (proofs/Examples.antt).

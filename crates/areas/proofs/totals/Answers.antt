@@ -1,7 +1,6 @@
 -- `areas::totals` meets its contract: a refusal, or the walk. Assumes nothing.
 use mathlib.Core.Path.{sym, ap₂, ◌∙◌}
 use mathlib.Core.List.{List}
-use borrow.Author.Rules.{rules}
 use Prim.Native.Nat.{ℕ}
 use Rattle.num.specs.Laws.Refusals.{refuses, accepts}
 use Rattle.areas.specs.Areas.{judged}

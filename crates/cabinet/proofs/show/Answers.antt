@@ -1,5 +1,4 @@
 -- `cabinet::show` meets its contract: the source's refusal, the station's, or the enlarged frame under the chain. Assumes nothing.
-use borrow.Author.Rules.{rules}
 use Prim.Native.Nat.{ℕ, ◌*◌, ◌≤◌}
 use native.Mathlib.Nat.{mul-le-mul}
 use native.Mathlib.Omega.{arith}

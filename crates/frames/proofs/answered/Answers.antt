@@ -1,5 +1,4 @@
 -- `frames::answered` meets its contract: an outcome for each case of the answer. Assumes nothing.
-use borrow.Author.Rules.{rules}
 use mathlib.Core.Path.{◌≡◌, ap, sym}
 use Rattle.chain.specs.Answers.{reported_frame}
 use Rattle.chain.specs.declared.pipeline.FrameAnswer.{FrameAnswer}

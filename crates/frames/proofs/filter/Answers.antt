@@ -1,5 +1,4 @@
 -- `frames::filter` meets its contract: a frame that is taken lies whole in the file, and its words in the framebuffer. Assumes nothing.
-use borrow.Author.Rules.{rules}
 use Prim.Native.Nat.{ℕ}
 use mathlib.Core.Path.{sym, ◌∙◌}
 use native.Mathlib.Omega.{arith}

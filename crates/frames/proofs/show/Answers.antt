@@ -1,5 +1,4 @@
 -- `frames::show` meets its contract: the station's refusal, or the words of the pixels, the call, the pixels of the words. Assumes nothing.
-use borrow.Author.Rules.{rules}
 use Prim.Native.Nat.{◌*◌}
 use mathlib.Core.Path.{◌≡◌, ◌∙◌}
 use native.Mathlib.Omega.{arith}

@@ -1,7 +1,9 @@
 -- The number steps and bounds: cut, round, clamp and minimum stay `within` a bound, and what cut makes of a rounded value. Assumes nothing.
 use Rattle.std.specs.Prelude.{◌≡◌, ℕ, suc, ◌+◌, ◌*◌, ◌/◌, ◌≤◌, ◌<◌, Bool, not, ◌&&◌, ◌||◌, cond, ℤ, pos, leb, eqb, Float}
 use Rattle.std.proofs.Math.Path.{refl}
-use Rattle.std.proofs.Common.{sym, ap, ◌∙◌, subst, inl, inr, zero-le, mul-one, mul_comm, mul-pos, mul-le-mul_right, le_trans, le_of_eq, le_of_suc-le-suc, div-lt_iff_lt-mul, mul-div_cancel, suc-mul, mul_left_comm, arith, true≢false, ltb-false, le-leb, leb→le, le→leb, lit<, lit≤}
+use Rattle.std.proofs.Common.{sym, ap, ◌∙◌, subst, inl, inr, zero-le, mul-one, mul_comm, mul-pos, mul-le-mul_right, le_trans, le_of_eq}
+use Rattle.std.proofs.Common.{le_of_suc-le-suc, div-lt_iff_lt-mul, mul-div_cancel, suc-mul, mul_left_comm, arith, true≢false, ltb-false, le-leb}
+use Rattle.std.proofs.Common.{leb→le, le→leb, lit<, lit≤}
 use Rattle.std.proofs.Math.Nat.{div-le_of_le-mul, div-eq_of_lt}
 use Rattle.std.proofs.Math.Bool.{true, false}
 use Rattle.std.proofs.lemmas.Bool.{lt-leb}

@@ -1,7 +1,8 @@
 -- Curvature's index: a coordinate that is neither below -1 nor above 1, or is no number, gives a row or column that is there
 -- (`index_lt`). Assumes nothing.
 use Rattle.std.specs.Prelude.{◌≡◌, refl, ℕ, ◌-◌, ◌*◌, ◌≤◌, ◌<◌, Bool, true, false, not, cond, pos, T, ltb, Float}
-use Rattle.std.proofs.Common.{sym, ap, ◌∙◌, subst, inl, inr, zero-le, mul-one, one-mul, mul_comm, mul_assoc, mul-pos, le_trans, le_of_eq, arith, true≢false, ltb-false, lit<, lit≤}
+use Rattle.std.proofs.Common.{sym, ap, ◌∙◌, subst, inl, inr, zero-le, mul-one, one-mul, mul_comm, mul_assoc, mul-pos, le_trans, le_of_eq, arith}
+use Rattle.std.proofs.Common.{true≢false, ltb-false, lit<, lit≤}
 use Rattle.std.specs.Float.{nan, inf, fin, binary32}
 use Rattle.std.specs.Float.Ieee.{up, down, unlike, round, add, mul, neg, lt, is_nan, of_bits}
 use Rattle.std.specs.Float.Ieee.Fits.{down_pos}

@@ -1,7 +1,8 @@
 -- What may be divided by: `Least k x` says that x is at least 1 / k. No rounding passes 1 or 1 / 2 from above either,
 -- so what is at least 1 stays so when something is added that is not below 0. Assumes nothing.
 use Rattle.std.specs.Prelude.{◌≡◌, refl, ◌⊎◌, ℕ, ◌+◌, ◌-◌, ◌*◌, ◌≤◌, ◌<◌, Bool, true, false, not, ◌&&◌, cond, pos, T, ltb, Float}
-use Rattle.std.proofs.Common.{sym, ap, ◌∙◌, inl, inr, zero-mul, one-mul, mul_comm, mul-pos, mul-le-mul_right, le_trans, le_of_eq, le_of_lt, arith, true≢false, lt-ltb, le-ltb, ltb-true, ltb-false, lit<, lit≤}
+use Rattle.std.proofs.Common.{sym, ap, ◌∙◌, inl, inr, zero-mul, one-mul, mul_comm, mul-pos, mul-le-mul_right, le_trans, le_of_eq, le_of_lt, arith}
+use Rattle.std.proofs.Common.{true≢false, lt-ltb, le-ltb, ltb-true, ltb-false, lit<, lit≤}
 use Rattle.std.specs.Float.{nan, inf, fin, binary32}
 use Rattle.std.specs.Float.Ieee.{up, down, round, sum, add, sub, div, neg, lt, le, of_bits, of_int}
 use Rattle.std.specs.Float.Ieee.Fits.{down_pos}

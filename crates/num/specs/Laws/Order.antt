@@ -2,7 +2,8 @@
 -- it is when limited again. `clamp_between`, `round-step_mono` and `limit_again` are cited by no proof: they say of the steps what docs/GUARANTEES.md has
 -- in words. Assumes nothing.
 use Rattle.std.specs.Prelude.{◌≡◌, refl, ℕ, ◌+◌, ◌*◌, ◌/◌, ◌≤◌, ◌<◌, Bool, true, false, not, ◌&&◌, ◌||◌, cond, ℤ, pos, T, leb, ltb, eqb, Float}
-use Rattle.std.proofs.Common.{sym, ap, ◌∙◌, subst, zero-le, zero-mul, mul-one, mul_comm, mul-pos, mul_assoc, mul_left_comm, add-mul, le_trans, le_of_lt, le_of_eq, le_refl, arith, true≢false, ltb-true, ltb-false, eqb-true, le-leb, le-ltb, eqb→eq, lit<}
+use Rattle.std.proofs.Common.{sym, ap, ◌∙◌, subst, zero-le, zero-mul, mul-one, mul_comm, mul-pos, mul_assoc, mul_left_comm, add-mul, le_trans}
+use Rattle.std.proofs.Common.{le_of_lt, le_of_eq, le_refl, arith, true≢false, ltb-true, ltb-false, eqb-true, le-leb, le-ltb, eqb→eq, lit<}
 use Rattle.std.proofs.Math.Nat.{eq_of_mul-eq-mul_right, zero-div}
 use Rattle.std.proofs.lemmas.Bool.{eqb-false}
 use Rattle.std.specs.Float.{nan, inf, fin, binary32}

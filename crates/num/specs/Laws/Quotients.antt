@@ -1,7 +1,8 @@
 -- Quotients: what is at most n away from 0, divided by what is at least 1 / k, is at most n k away; k of m, where k is
 -- at most m, is from 0 to 1. Assumes nothing.
 use Rattle.std.specs.Prelude.{◌≡◌, refl, ℕ, zero, suc, ◌*◌, ◌≤◌, ◌<◌, Bool, true, false, ℤ, T, eqb, Float}
-use Rattle.std.proofs.Common.{sym, ap, ◌∙◌, inl, inr, zero-mul, mul-one, mul-pos, mul-le-mul, mul-le-mul_right, le_trans, le_of_eq, lt_irrefl, lt_of_lt_of_le, arith, true≢false, ne_eqb, lit≤}
+use Rattle.std.proofs.Common.{sym, ap, ◌∙◌, inl, inr, zero-mul, mul-one, mul-pos, mul-le-mul, mul-le-mul_right, le_trans, le_of_eq, lt_irrefl}
+use Rattle.std.proofs.Common.{lt_of_lt_of_le, arith, true≢false, ne_eqb, lit≤}
 use Rattle.std.specs.Float.{nan, inf, fin, binary32}
 use Rattle.std.specs.Float.Ieee.{up, down, unlike, round, div, of_int}
 use Rattle.std.specs.Float.Ieee.Fits.{down_pos}

@@ -1,7 +1,8 @@
 -- Bounds by whole numbers: `Sized n x` says that x is finite and at most n away from 0. No rounding passes a whole
 -- number that binary32 has (`Exact`, `round-sized`), so sums, differences and products keep the bounds of the exact
 -- results. Assumes nothing.
-use Rattle.std.proofs.Common.{sym, ap, ◌∙◌, subst, inl, inr, mul-one, mul_assoc, suc-mul, le_of_suc-le-suc, div-lt_iff_lt-mul, mul-pos, mul-le-mul, mul-le-mul_right, le_trans, le_of_eq, lt_of_lt_of_le, arith, true≢false, lit<, lit≤, pow_mono, pow-add, shl_lt}
+use Rattle.std.proofs.Common.{sym, ap, ◌∙◌, subst, inl, inr, mul-one, mul_assoc, suc-mul, le_of_suc-le-suc, div-lt_iff_lt-mul, mul-pos, mul-le-mul}
+use Rattle.std.proofs.Common.{mul-le-mul_right, le_trans, le_of_eq, lt_of_lt_of_le, arith, true≢false, lit<, lit≤, pow_mono, pow-add, shl_lt}
 use Rattle.std.specs.Prelude.{ℕ, suc, ◌+◌, ◌-◌, ◌*◌, ◌/◌, ◌^◌, ◌≤◌, ◌<◌, Bool, true, false, not, ◌&&◌, cond, T, ltb, Float}
 use Rattle.std.specs.Float.{nan, inf, fin, binary32}
 use Rattle.std.specs.Float.Ieee.{up, down, unlike, round, sum, add, sub, mul, neg, is_nan}

@@ -1,7 +1,9 @@
 -- Squares and roots: a square is not below 0 and not -0, nor is a sum of two; the root of what is from 0 to 2 ^ 24 is
 -- at most 2 ^ 13. Assumes nothing.
 use Rattle.std.specs.Prelude.{◌≡◌, refl, ℕ, zero, suc, ◌+◌, ◌-◌, ◌*◌, ◌/◌, ◌^◌, ◌≤◌, ◌<◌, Bool, true, false, cond, T, leb, ltb, Float}
-use Rattle.std.proofs.Common.{subst, zero-le, mul-pos, mul-le-mul, mul-le-mul_right, le_trans, le_of_eq, le_refl, lt_of_le_of_lt, le_of_lt, not-le_of_lt, div-add-mod', le_of_mul-le-mul_right, mul_right_comm, arith, true≢false, leb-true, leb-false, leb→le, lit<, pow_pos, pow_mono}
+use Rattle.std.proofs.Common.{subst, zero-le, mul-pos, mul-le-mul, mul-le-mul_right, le_trans, le_of_eq, le_refl, lt_of_le_of_lt, le_of_lt}
+use Rattle.std.proofs.Common.{not-le_of_lt, div-add-mod', le_of_mul-le-mul_right, mul_right_comm, arith, true≢false, leb-true, leb-false, leb→le}
+use Rattle.std.proofs.Common.{lit<, pow_pos, pow_mono}
 use Rattle.std.proofs.Math.Nat.{mul-lt-mul_of_pos_left, div-le_of_le-mul}
 use Rattle.std.specs.Float.{nan, inf, fin, binary32}
 use Rattle.std.specs.Float.Ieee.{up, down, unlike, size, units, round, sum, add, mul}

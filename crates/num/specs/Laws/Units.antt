@@ -3,7 +3,8 @@
 -- whole counts. Assumes nothing.
 use Rattle.std.specs.Prelude.{◌≡◌, Bool, cond, ◌⊎◌, ℤ, pos, Float}
 use Rattle.std.proofs.Math.Path.{refl, sym, ap, subst}
-use Rattle.std.proofs.Common.{◌∙◌, mul-one, mul_comm, mul-lt-mul_of_pos_right, le_of_mul-le-mul_right, lt_of_lt_of_le, le_trans, le_of_eq, mod-lt, eq-or-lt_of_le, div-add-mod', div-lt_iff_lt-mul, true≢false, inr, le-leb, lit<, lit≤, pow-add, pow_pos, pow_mono}
+use Rattle.std.proofs.Common.{◌∙◌, mul-one, mul_comm, mul-lt-mul_of_pos_right, le_of_mul-le-mul_right, lt_of_lt_of_le, le_trans, le_of_eq, mod-lt}
+use Rattle.std.proofs.Common.{eq-or-lt_of_le, div-add-mod', div-lt_iff_lt-mul, true≢false, inr, le-leb, lit<, lit≤, pow-add, pow_pos, pow_mono}
 use Prim.Native.Nat.{ℕ, ◌+◌, ◌-◌, ◌*◌, ◌/◌, ◌%◌, ◌^◌, ◌≤◌, ◌<◌, compare}
 use Rattle.std.proofs.Math.Nat.{mul_assoc, mul_right_comm, mul-pos, mul-le-mul_right, lt_of_mul-lt-mul_right, lt-div-mul-add, mul-div_cancel}
 use native.Mathlib.Omega.{arith}

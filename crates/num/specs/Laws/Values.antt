@@ -1,7 +1,8 @@
 -- Values that are known as a fraction, `HasValue x false a c`: their sum, a half and a half more of a whole number, which are exact, and how a
 -- value that is not negative compares with one. Assumes nothing.
 use Rattle.std.specs.Prelude.{◌≡◌, refl, ℕ, ◌+◌, ◌*◌, ◌^◌, ◌≤◌, ◌<◌, Bool, ℤ, Float}
-use Rattle.std.proofs.Common.{sym, ◌∙◌, subst, mul_assoc, mul_comm, mul_left_comm, mul-pos, add-mul, lt_of_lt_of_le, lt_of_not-le, not-le_of_lt, true≢false, lit<, lit≤, pow_mono, shl_lt}
+use Rattle.std.proofs.Common.{sym, ◌∙◌, subst, mul_assoc, mul_comm, mul_left_comm, mul-pos, add-mul, lt_of_lt_of_le, lt_of_not-le, not-le_of_lt}
+use Rattle.std.proofs.Common.{true≢false, lit<, lit≤, pow_mono, shl_lt}
 use Rattle.std.proofs.Math.Path.{ap, ap₂}
 use Rattle.std.proofs.Math.Nat.{zero-mul, lt_irrefl, mul-mul-mul_comm}
 use native.Mathlib.Omega.{arith}

@@ -1,7 +1,9 @@
 -- Bounds on binary32 values by whole numbers: no rounding passes a whole number up to 2 ^ 24 (`round-within`), so sums,
 -- differences and products stay `within` the bounds of the exact results. Assumes nothing.
 use Rattle.std.specs.Prelude.{◌≡◌, refl, ◌⊎◌, ℕ, zero, suc, ◌+◌, ◌-◌, ◌*◌, ◌^◌, ◌≤◌, ◌<◌, Bool, true, false, not, ◌||◌, cond, ℤ, T, leb, ltb, eqb, Float}
-use Rattle.std.proofs.Common.{sym, ap, ◌∙◌, subst, inl, inr, zero-le, zero-mul, mul-one, mul_comm, mul_assoc, mul_right_comm, mul-pos, mul-le-mul, mul-le-mul_right, le_of_mul-le-mul_right, le_trans, le_of_eq, add-mul, add-le-add, sub-le, arith, leb→le, le→leb, eqb→eq, lit<}
+use Rattle.std.proofs.Common.{sym, ap, ◌∙◌, subst, inl, inr, zero-le, zero-mul, mul-one, mul_comm, mul_assoc, mul_right_comm, mul-pos, mul-le-mul}
+use Rattle.std.proofs.Common.{mul-le-mul_right, le_of_mul-le-mul_right, le_trans, le_of_eq, add-mul, add-le-add, sub-le, arith, leb→le, le→leb}
+use Rattle.std.proofs.Common.{eqb→eq, lit<}
 use Rattle.std.proofs.Math.Nat.{mul-mul-mul_comm}
 use Rattle.std.specs.Float.{nan, inf, fin, Format, binary32}
 use Rattle.std.specs.Float.Ieee.{prec, emax, low, up, down, unlike, below, level, odd, units, round, sum, add, sub, mul, le}

@@ -1,5 +1,6 @@
 -- Laws of the curve: what one that can be read has, and that no more than its first 256 words matter. Assumes nothing.
-use Rattle.std.specs.Prelude.{◌≡◌, ℕ, zero, suc, ◌*◌, ◌/◌, ◌%◌, ◌<◌, ◌≤◌, Bool, true, false, ◌&&◌, T, List, [], ◌∷◌, length, get_or, take, nat_le, slice_index_or, Float}
+use Rattle.std.specs.Prelude.{◌≡◌, ℕ, zero, suc, ◌*◌, ◌/◌, ◌%◌, ◌<◌, ◌≤◌, Bool, true, false, ◌&&◌, T, List, [], ◌∷◌, length, get_or, take, nat_le}
+use Rattle.std.specs.Prelude.{slice_index_or, Float}
 use Rattle.std.proofs.Common.{le_of_suc-le-suc, not-suc-le-zero, arith, ap₂, sym, subst, ◌∙◌, leb-true, eqb-true, lit<, length-take-le}
 use Rattle.std.proofs.Math.Path.{refl, ap}
 use Rattle.std.specs.Float.Ieee.{nan, up, down, lt, eq, le, of_bits}

@@ -1,6 +1,7 @@
 -- What the layers above ask of persistence: lengths, the history after a shift, and which words of it are read and changed. Assumes nothing.
 use Rattle.std.specs.Prelude.{◌≡◌, ℕ, zero, suc, ◌+◌, ◌-◌, ◌*◌, ◌<◌, ◌≤◌, Bool, true, false, cond, List, ◌++◌, length, take, drop, nat_le, slice_index, Float}
-use Rattle.std.proofs.Common.{suc-mul, add-mul, zero-mul, le_refl, mul-le-mul_right, arith, sym, ap, ap₂, ◌∙◌, append_assoc, take-add, take_at, take-take, get_or-take, length-take-le}
+use Rattle.std.proofs.Common.{suc-mul, add-mul, zero-mul, le_refl, mul-le-mul_right, arith, sym, ap, ap₂, ◌∙◌, append_assoc, take-add, take_at}
+use Rattle.std.proofs.Common.{take-take, get_or-take, length-take-le}
 use Rattle.std.proofs.Math.Path.{refl}
 use borrow.Author.Tests.{leb-true, leb-false}
 use Rattle.std.proofs.Math.ListN.{length-append, length-drop}

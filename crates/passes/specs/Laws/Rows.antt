@@ -1,6 +1,7 @@
 -- Laws of a frame by rows: the column and the row of a word, and what stands there. Assumes nothing.
 use Rattle.std.specs.Prelude.{◌≡◌, ℕ, zero, suc, ◌+◌, ◌*◌, ◌/◌, ◌%◌, ◌<◌, ◌≤◌, List, length, slice_index_or}
-use Rattle.std.proofs.Common.{sym, ap, ◌∙◌, subst, zero-le, suc-le-suc, not-suc-le-zero, mul-zero, mod-lt, div-lt_iff_lt-mul, mod-eq_of_lt, add-zero, suc-mul, mul-le-mul_right, mul-le-mul, arith}
+use Rattle.std.proofs.Common.{sym, ap, ◌∙◌, subst, zero-le, suc-le-suc, not-suc-le-zero, mul-zero, mod-lt, div-lt_iff_lt-mul, mod-eq_of_lt, add-zero}
+use Rattle.std.proofs.Common.{suc-mul, mul-le-mul_right, mul-le-mul, arith}
 use Rattle.std.proofs.Math.Nat.{mul-add-div_right, mul-add-mod_self_right, div-eq_of_lt}
 use Rattle.num.specs.Rewrite.{every}
 use Rattle.num.specs.Laws.Rewrite.{rewrite_ext, get_d_fill}

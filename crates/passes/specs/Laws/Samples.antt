@@ -1,7 +1,8 @@
 -- Laws of samples: where an offset is inside, at how many places; S counts the pairs of a place and an offset that is inside, it grows with
 -- the radius, and how large it is. Assumes nothing.
 use Rattle.std.specs.Prelude.{◌≡◌, ℕ, zero, suc, ◌+◌, ◌-◌, ◌*◌, ◌<◌, ◌≤◌, Bool, true, false, cond, nat_lt, refl}
-use Rattle.std.proofs.Common.{sym, ap, ◌∙◌, subst, add-zero, add-suc, mul-zero, zero-mul, mul-one, mul-suc, suc-mul, mul-add, mul_left_comm, mul-le-mul, mul-le-mul_right, le_refl, arith, le-leb, lt-ltb, le-ltb}
+use Rattle.std.proofs.Common.{sym, ap, ◌∙◌, subst, add-zero, add-suc, mul-zero, zero-mul, mul-one, mul-suc, suc-mul, mul-add, mul_left_comm}
+use Rattle.std.proofs.Common.{mul-le-mul, mul-le-mul_right, le_refl, arith, le-leb, lt-ltb, le-ltb}
 use Rattle.std.proofs.Math.Bool.{and-false}
 use Rattle.std.proofs.Math.Decide.{dec_lt}
 use Rattle.std.proofs.Math.Nat.{mul-le-mul_left, add-le-add, le_trans}

@@ -1,9 +1,7 @@
 -- `player::fetch` is safe and ends: each turn reads at least one of at most 3,075 bytes. Assumes nothing.
-use Prim.Native.Nat.{◌+◌, ◌-◌, ◌≤◌}
-use mathlib.Core.Path.{◌≡◌, refl, sym, ◌∙◌}
-use native.Mathlib.Omega.{arith}
+use Prim.Native.Nat.{◌-◌, ◌≤◌}
+use mathlib.Core.Path.{◌≡◌}
 use lib.ListN.{length}
-use lib.Seq.{length-take-le}
 use Rattle.player.proofs.fetch.Given as goal
 
 abbrev pub invariant-loop-n : goal.invariant-loop-n

@@ -1,5 +1,4 @@
 -- `player::read` meets its contract: no more is read than is lent. Assumes nothing.
-use borrow.Author.Rules.{rules}
 use Prim.Native.Nat.{◌-◌}
 use mathlib.Core.Path.{◌≡◌}
 use native.Mathlib.Omega.{arith}

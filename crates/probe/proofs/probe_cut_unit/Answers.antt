@@ -1,12 +1,6 @@
 -- `probe::probe_cut_unit` meets its contract: word after word, up to the lesser length. Assumes nothing.
-use Prim.Native.Nat.{ℕ, ◌-◌, ◌≤◌}
 use native.Mathlib.Omega.{arith}
-use Rattle.num.specs.Laws.Rewrite.{Rewritten, none, more}
-use lib.Ieee.{Float}
-use Rattle.num.specs.Const.{c0_0, c1_0, c255_0}
-use Rattle.num.specs.F32.{◌⊗◌}
-use Rattle.num.specs.Steps.{clamp_of, cut_of}
-use Rattle.probe.specs.Over.{at}
+use Rattle.num.specs.Laws.Rewrite.{none, more}
 use Rattle.probe.proofs.Over.{over_all}
 use Rattle.probe.proofs.probe_cut_unit.Invariants.{step}
 use Rattle.probe.proofs.probe_cut_unit.Goals as goal

@@ -1,9 +1,7 @@
 -- `probe::probe_nearest` meets its contract: word after word, up to the lesser length. Assumes nothing.
-use Prim.Native.Nat.{◌-◌, ◌≤◌}
 use native.Mathlib.Omega.{arith}
-use Rattle.num.specs.Laws.Rewrite.{Rewritten, none, more}
+use Rattle.num.specs.Laws.Rewrite.{none, more}
 use Rattle.num.specs.Steps.{cut_of, round_of}
-use Rattle.probe.specs.Over.{at}
 use Rattle.probe.proofs.Over.{over_all}
 use Rattle.probe.proofs.probe_nearest.Goals as goal
 

@@ -1,11 +1,8 @@
 -- `probe::probe_round` meets its contract: word after word, up to the lesser length. Assumes nothing.
 use Prim.Native.Nat.{◌-◌, ◌≤◌}
-use native.Mathlib.Omega.{arith}
-use lib.Ieee.{nan}
-use Rattle.num.specs.Laws.Rewrite.{Rewritten, none, more}
+use Rattle.num.specs.Laws.Rewrite.{Rewritten}
 use Rattle.num.specs.Steps.{round_of}
 use Rattle.probe.specs.Over.{at}
-use Rattle.probe.proofs.Over.{over_all}
 use Rattle.probe.proofs.probe_round.Given as goal
 
 abbrev pub invariant-loop-i : goal.invariant-loop-i

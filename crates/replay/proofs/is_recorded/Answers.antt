@@ -1,5 +1,4 @@
 -- `replay::is_recorded` is safe: what is summed lies within the buffer. Assumes nothing.
-use borrow.Author.Rules.{rules}
 use mathlib.Core.Path.{sym}
 use lib.Seq.{length-take-le}
 use Rattle.replay.proofs.is_recorded.Goals as goal

@@ -1,5 +1,4 @@
 -- `areas::area::in_row` meets its contract. Assumes nothing.
-use native.Mathlib.Omega.{arith}
 use borrow.Author.Tests.{le-leb, lt-leb}
 use Rattle.areas.specs.Private.{in_row}
 use Rattle.areas.proofs.area.in_row.Goals as goal

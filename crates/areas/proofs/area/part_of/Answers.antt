@@ -1,6 +1,5 @@
 -- `areas::area::part_of` meets its contract. Assumes nothing.
 use mathlib.Core.Path.{sym, ◌∙◌}
-use native.Mathlib.Omega.{arith}
 use borrow.Author.Tests.{not-true, not-false}
 use Rattle.areas.proofs.Search.{part_in, part_out}
 use Rattle.areas.proofs.area.part_of.Goals as goal

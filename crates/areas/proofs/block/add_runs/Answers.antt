@@ -1,11 +1,10 @@
 -- `areas::block::add_runs` meets its contract: run after run. Assumes nothing.
-use Prim.Native.Nat.{ℕ, ◌+◌, ◌-◌, ◌<◌, ◌≤◌}
-use mathlib.Core.Bool.{true}
+use Prim.Native.Nat.{ℕ, ◌+◌, ◌<◌, ◌≤◌}
 use mathlib.Core.Path.{◌≡◌, subst}
 use native.Mathlib.Omega.{arith}
 use borrow.Author.Tests.{ltb-true}
 use lib.ListN.{get_or}
-use Rattle.areas.specs.Private.{marked, InPicture, SummedTo}
+use Rattle.areas.specs.Private.{InPicture, SummedTo}
 use Rattle.areas.proofs.Runs.{none_read, read-gap, read-run, words-few}
 use Rattle.areas.proofs.block.add_runs.Goals as goal
 use Rattle.areas.proofs.block.add_runs.Lts as lts

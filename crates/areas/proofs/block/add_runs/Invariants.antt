@@ -1,12 +1,8 @@
 -- `areas::block::add_runs` meets its contract: run after run. Assumes nothing.
-use Prim.Native.Nat.{ℕ, ◌+◌, ◌-◌, ◌<◌, ◌≤◌}
+use Prim.Native.Nat.{◌-◌, ◌<◌, ◌≤◌}
 use mathlib.Core.Bool.{true}
-use mathlib.Core.Path.{◌≡◌, subst}
-use native.Mathlib.Omega.{arith}
-use borrow.Author.Tests.{ltb-true}
-use lib.ListN.{get_or}
-use Rattle.areas.specs.Private.{marked, InPicture, SummedTo}
-use Rattle.areas.proofs.Runs.{none_read, read-gap, read-run, words-few}
+use mathlib.Core.Path.{◌≡◌}
+use Rattle.areas.specs.Private.{marked, SummedTo}
 use Rattle.areas.proofs.block.add_runs.Given as goal
 
 abbrev pub invariant-loop-x : goal.invariant-loop-x

@@ -1,10 +1,8 @@
 -- `areas::block::read` meets its contract: word after word. Assumes nothing.
-use Prim.Native.Nat.{ℕ, ◌+◌, ◌-◌, ◌≤◌}
-use mathlib.Core.Path.{◌≡◌, ap}
-use native.Mathlib.Omega.{arith}
+use Prim.Native.Nat.{◌+◌, ◌-◌, ◌≤◌}
+use mathlib.Core.Path.{◌≡◌}
 use lib.ListN.{get_or}
 use Rattle.areas.specs.Private.{Changed, spread_of}
-use Rattle.areas.proofs.Strips.{unchanged, change, change_done}
 use Rattle.areas.proofs.block.read.Given as goal
 
 abbrev pub invariant-loop-x : goal.invariant-loop-x

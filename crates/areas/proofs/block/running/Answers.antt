@@ -1,8 +1,8 @@
 -- `areas::block::running` meets its contract: column after column. Assumes nothing.
-use Prim.Native.Nat.{◌+◌, ◌-◌, ◌≤◌}
+use Prim.Native.Nat.{◌+◌, ◌≤◌}
 use native.Mathlib.Omega.{arith}
 use lib.ListN.{length, length-set}
-use Rattle.areas.proofs.Blocks.{Running, none_run, next_column, ran}
+use Rattle.areas.proofs.Blocks.{none_run, next_column, ran}
 use Rattle.areas.proofs.block.running.Goals as goal
 use Rattle.areas.proofs.block.running.Lts as lts
 use Rattle.areas.proofs.block.running.Reads as reads

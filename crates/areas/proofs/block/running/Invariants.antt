@@ -1,8 +1,6 @@
 -- `areas::block::running` meets its contract: column after column. Assumes nothing.
-use Prim.Native.Nat.{◌+◌, ◌-◌, ◌≤◌}
-use native.Mathlib.Omega.{arith}
-use lib.ListN.{length, length-set}
-use Rattle.areas.proofs.Blocks.{Running, none_run, next_column, ran}
+use Prim.Native.Nat.{◌-◌}
+use Rattle.areas.proofs.Blocks.{Running}
 use Rattle.areas.proofs.block.running.Given as goal
 
 abbrev pub invariant-loop-t : goal.invariant-loop-t

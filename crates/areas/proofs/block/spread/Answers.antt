@@ -1,6 +1,5 @@
 -- `areas::block::spread` meets its contract. Assumes nothing.
 use mathlib.Core.Path.{refl}
-use native.Mathlib.Omega.{arith}
 use Rattle.areas.specs.Private.{spread_of}
 use Rattle.areas.proofs.Spread.{spread_small}
 use Rattle.areas.proofs.block.spread.Goals as goal

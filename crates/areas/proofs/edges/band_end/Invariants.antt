@@ -1,10 +1,6 @@
 -- `areas::edges::band_end` meets its contract: one rectangle after the other. Assumes nothing.
-use Prim.Native.Nat.{ℕ, ◌-◌, ◌≤◌}
-use mathlib.Core.Path.{◌≡◌, subst}
-use native.Mathlib.Omega.{arith}
-use Rattle.areas.specs.Areas.{count}
+use Prim.Native.Nat.{◌-◌, ◌≤◌}
 use Rattle.areas.specs.Private.{Edges}
-use Rattle.areas.proofs.Search.{placed_at, no_edges, next_edge}
 use Rattle.areas.proofs.edges.band_end.Given as goal
 
 abbrev pub invariant-loop-k : goal.invariant-loop-k

@@ -1,7 +1,6 @@
 -- `areas::edges::span` meets its contract: one rectangle after the other. Assumes nothing.
 use Prim.Native.Nat.{◌-◌, ◌≤◌}
-use native.Mathlib.Omega.{arith}
-use Rattle.areas.proofs.Search.{Spanning, placed_at, placed_in, no_span, next_span, spanned}
+use Rattle.areas.proofs.Search.{Spanning}
 use Rattle.areas.proofs.edges.span.Given as goal
 
 abbrev pub invariant-loop-k : goal.invariant-loop-k

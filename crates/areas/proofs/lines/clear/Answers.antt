@@ -1,8 +1,6 @@
 -- `areas::lines::clear` meets its contract: word after word. Assumes nothing.
-use Prim.Native.Nat.{◌-◌, ◌≤◌}
 use mathlib.Core.Path.{refl}
 use native.Mathlib.Omega.{arith}
-use Rattle.areas.specs.Private.{Changed}
 use Rattle.areas.proofs.Strips.{unchanged, change, change_done}
 use Rattle.areas.proofs.lines.clear.Goals as goal
 

@@ -1,5 +1,5 @@
 -- `areas::marks::mark_each` meets its contract: one rectangle after the other. Assumes nothing.
-use Prim.Native.Nat.{ℕ, ◌-◌, ◌≤◌}
+use Prim.Native.Nat.{ℕ}
 use mathlib.Core.Path.{◌≡◌, ap, subst, ◌∙◌}
 use native.Mathlib.Omega.{arith}
 use Rattle.areas.specs.Areas.{count}

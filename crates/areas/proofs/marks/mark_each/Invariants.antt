@@ -1,13 +1,6 @@
 -- `areas::marks::mark_each` meets its contract: one rectangle after the other. Assumes nothing.
-use Prim.Native.Nat.{ℕ, ◌-◌, ◌≤◌}
-use mathlib.Core.Path.{◌≡◌, ap, subst, ◌∙◌}
-use native.Mathlib.Omega.{arith}
-use Rattle.areas.specs.Areas.{count}
-use Rattle.areas.specs.Private.{Marks, part_of}
-use Rattle.areas.specs.declared.area.Area.{Area}
-use Rattle.areas.specs.declared.area.Part.{Part}
-use Rattle.areas.proofs.Marking.{unmarked, next-mark}
-use Rattle.areas.proofs.Search.{placed_at, part_fits}
+use Prim.Native.Nat.{◌-◌, ◌≤◌}
+use Rattle.areas.specs.Private.{Marks}
 use Rattle.areas.proofs.marks.mark_each.Given as goal
 
 abbrev pub invariant-loop-k : goal.invariant-loop-k

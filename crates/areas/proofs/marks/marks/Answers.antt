@@ -1,5 +1,4 @@
 -- `areas::marks::marks` meets its contract: cleared, marked, and each mark carried on. Assumes nothing.
-use borrow.Author.Rules.{rules}
 use Rattle.areas.proofs.Marking.{reaches}
 use Rattle.areas.proofs.marks.marks.Goals as goal
 

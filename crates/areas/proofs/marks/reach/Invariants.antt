@@ -1,11 +1,8 @@
 -- `areas::marks::reach` meets its contract: place after place. Assumes nothing.
-use Prim.Native.Nat.{◌+◌, ◌-◌, ◌≤◌, max}
-use mathlib.Core.Path.{◌≡◌, sym, ap₂, ◌∙◌}
-use native.Mathlib.Omega.{arith}
+use Prim.Native.Nat.{◌+◌, ◌-◌, ◌≤◌}
+use mathlib.Core.Path.{◌≡◌}
 use lib.ListN.{get_or}
 use Rattle.areas.specs.Private.{Changed, most, most_from}
-use Rattle.areas.proofs.Marking.{most_none, most-next}
-use Rattle.areas.proofs.Strips.{unchanged, change, change_done}
 use Rattle.areas.proofs.marks.reach.Given as goal
 
 abbrev pub invariant-loop-x : goal.invariant-loop-x

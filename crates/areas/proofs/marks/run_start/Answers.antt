@@ -1,11 +1,8 @@
 -- `areas::marks::run_start` meets its contract: place after place. Assumes nothing.
-use Prim.Native.Nat.{ℕ, ◌-◌, ◌≤◌, ◌<◌}
-use mathlib.Core.Path.{◌≡◌}
-use mathlib.Core.Bool.{false}
+use Prim.Native.Nat.{◌<◌}
 use native.Mathlib.Omega.{arith}
 use borrow.Author.Tests.{lt-ltb}
 use lib.ListN.{get_or}
-use Rattle.areas.specs.Private.{marked}
 use Rattle.areas.proofs.Marking.{not_yet}
 use Rattle.areas.proofs.marks.run_start.Goals as goal
 

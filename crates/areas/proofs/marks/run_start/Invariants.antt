@@ -2,11 +2,7 @@
 use Prim.Native.Nat.{ℕ, ◌-◌, ◌≤◌, ◌<◌}
 use mathlib.Core.Path.{◌≡◌}
 use mathlib.Core.Bool.{false}
-use native.Mathlib.Omega.{arith}
-use borrow.Author.Tests.{lt-ltb}
-use lib.ListN.{get_or}
 use Rattle.areas.specs.Private.{marked}
-use Rattle.areas.proofs.Marking.{not_yet}
 use Rattle.areas.proofs.marks.run_start.Given as goal
 
 abbrev pub invariant-loop-s : goal.invariant-loop-s

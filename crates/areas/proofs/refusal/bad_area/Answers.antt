@@ -1,5 +1,4 @@
 -- `areas::refusal::bad_area` meets its contract. Assumes nothing.
-use native.Mathlib.Omega.{arith}
 use borrow.Author.Tests.{lt-ltb, le-ltb}
 use Rattle.areas.specs.Areas.{bad_area}
 use Rattle.areas.proofs.refusal.bad_area.Goals as goal

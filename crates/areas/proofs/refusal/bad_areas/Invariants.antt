@@ -1,13 +1,7 @@
 -- `areas::refusal::bad_areas` meets its contract: one rectangle after the other. Assumes nothing.
-use Prim.Native.Nat.{ℕ, ◌+◌, ◌-◌, ◌≤◌, ◌/◌}
-use mathlib.Core.List.{List}
-use Rattle.areas.specs.declared.area.Area.{Area}
-use mathlib.Core.Path.{◌≡◌, refl, sym, ap, ap₂, ◌∙◌}
-use mathlib.Core.Bool.{Bool, ◌||◌}
-use native.Mathlib.Omega.{arith}
-use lib.ListN.{length}
-use Rattle.areas.specs.Areas.{some, area_at, bad_area, bad_areas}
-use Rattle.areas.proofs.OneOf.{some_more}
+use Prim.Native.Nat.{◌-◌, ◌≤◌}
+use mathlib.Core.Path.{◌≡◌}
+use Rattle.areas.specs.Areas.{some, area_at, bad_area}
 use Rattle.areas.proofs.refusal.bad_areas.Given as goal
 
 abbrev pub invariant-loop-k : goal.invariant-loop-k

@@ -1,5 +1,4 @@
 -- `areas::refusal::bad_list` meets its contract: each test went as the definition's. Assumes nothing.
-use native.Mathlib.Omega.{arith}
 use borrow.Author.Tests.{lt-ltb, le-ltb, eq-eqb, ne_eqb}
 use Rattle.areas.specs.Areas.{bad_list}
 use Rattle.areas.proofs.refusal.bad_list.Goals as goal

@@ -1,5 +1,5 @@
 -- `areas::share::share` meets its contract: rectangle after rectangle. Assumes nothing.
-use Prim.Native.Nat.{ℕ, ◌+◌, ◌-◌, ◌*◌, ◌<◌, ◌≤◌}
+use Prim.Native.Nat.{ℕ, ◌+◌, ◌*◌, ◌<◌, ◌≤◌}
 use mathlib.Core.Path.{◌≡◌, ap, ◌∙◌}
 use native.Mathlib.Omega.{arith}
 use lib.ListN.{length, get_or, length-set}
@@ -7,7 +7,7 @@ use Rattle.areas.specs.Areas.{area_at}
 use Rattle.areas.specs.Private.{part_of, Growing}
 use Rattle.areas.specs.declared.area.Area.{Area}
 use Rattle.areas.proofs.Search.{placed_at}
-use Rattle.areas.proofs.Sharing.{Sharing, first, few-between, long, small, next, all}
+use Rattle.areas.proofs.Sharing.{first, few-between, long, small, next, all}
 use Rattle.areas.proofs.share.share.Goals as goal
 use Rattle.areas.proofs.share.share.Lts as lts
 use Rattle.areas.proofs.share.share.Reads as reads

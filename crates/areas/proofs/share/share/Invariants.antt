@@ -1,13 +1,6 @@
 -- `areas::share::share` meets its contract: rectangle after rectangle. Assumes nothing.
-use Prim.Native.Nat.{ℕ, ◌+◌, ◌-◌, ◌*◌, ◌<◌, ◌≤◌}
-use mathlib.Core.Path.{◌≡◌, ap, ◌∙◌}
-use native.Mathlib.Omega.{arith}
-use lib.ListN.{length, get_or, length-set}
-use Rattle.areas.specs.Areas.{area_at}
-use Rattle.areas.specs.Private.{part_of, Growing}
-use Rattle.areas.specs.declared.area.Area.{Area}
-use Rattle.areas.proofs.Search.{placed_at}
-use Rattle.areas.proofs.Sharing.{Sharing, first, few-between, long, small, next, all}
+use Prim.Native.Nat.{◌-◌}
+use Rattle.areas.proofs.Sharing.{Sharing}
 use Rattle.areas.proofs.share.share.Given as goal
 
 abbrev pub invariant-loop-k : goal.invariant-loop-k

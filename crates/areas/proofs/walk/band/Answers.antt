@@ -1,6 +1,5 @@
 -- `areas::walk::band` meets its contract: marked, read, summed and shared out. Assumes nothing.
 use native.Mathlib.Omega.{arith}
-use borrow.Author.Rules.{rules}
 use Rattle.areas.proofs.Parts.{shareable, banded}
 use Rattle.areas.proofs.Search.{placed_in, spans_in}
 use Rattle.areas.proofs.walk.band.Goals as goal

@@ -1,9 +1,8 @@
 -- `areas::walk::walk` meets its contract: band after band. Assumes nothing.
-use Prim.Native.Nat.{◌-◌}
 use mathlib.Core.Path.{◌∙◌}
 use native.Mathlib.Omega.{arith}
-use Rattle.areas.specs.Private.{Lent, Framed}
-use Rattle.areas.proofs.Bands.{Walking, begun, framed, totals_cleared, kept, words-few, ready, walked, over-now}
+use Rattle.areas.specs.Private.{Framed}
+use Rattle.areas.proofs.Bands.{begun, framed, totals_cleared, kept, words-few, ready, walked, over-now}
 use Rattle.areas.proofs.Search.{placed_in}
 use Rattle.areas.proofs.walk.walk.Goals as goal
 use Rattle.areas.proofs.walk.walk.Lts as lts

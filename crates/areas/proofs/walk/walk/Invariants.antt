@@ -1,10 +1,7 @@
 -- `areas::walk::walk` meets its contract: band after band. Assumes nothing.
 use Prim.Native.Nat.{◌-◌}
-use mathlib.Core.Path.{◌∙◌}
-use native.Mathlib.Omega.{arith}
-use Rattle.areas.specs.Private.{Lent, Framed}
-use Rattle.areas.proofs.Bands.{Walking, begun, framed, totals_cleared, kept, words-few, ready, walked, over-now}
-use Rattle.areas.proofs.Search.{placed_in}
+use Rattle.areas.specs.Private.{Lent}
+use Rattle.areas.proofs.Bands.{Walking}
 use Rattle.areas.proofs.walk.walk.Given as goal
 
 abbrev pub invariant-loop-y : goal.invariant-loop-y

@@ -1,5 +1,4 @@
 -- `bridge::calls::hedgemallow_apply` meets its contract: no state, or the chain's frame. Assumes nothing.
-use borrow.Author.Rules.{rules}
 use Rattle.bridge.proofs.Replies.{read, unread, kept-tells, frame_none, frame_some}
 use Rattle.bridge.proofs.calls.hedgemallow_apply.Goals as goal
 

@@ -1,5 +1,4 @@
 -- `bridge::calls::hedgemallow_cycle_lut` meets its contract: no state, a new preset, or a refusal. Assumes nothing.
-use borrow.Author.Rules.{rules}
 use Rattle.chain.specs.Answers.{cycled}
 use Rattle.bridge.proofs.Replies.{read, unread, steps, no_step, on_none, on-station}
 use Rattle.bridge.proofs.calls.hedgemallow_cycle_lut.Goals as goal

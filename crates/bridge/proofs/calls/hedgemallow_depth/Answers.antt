@@ -1,5 +1,4 @@
 -- `bridge::calls::hedgemallow_depth` meets its contract: no state, or its depth. Assumes nothing.
-use borrow.Author.Rules.{rules}
 use Rattle.bridge.proofs.Replies.{read, unread, question_none, question_some}
 use Rattle.bridge.proofs.calls.hedgemallow_depth.Goals as goal
 

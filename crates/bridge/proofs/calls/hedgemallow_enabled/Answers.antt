@@ -1,5 +1,4 @@
 -- `bridge::calls::hedgemallow_enabled` meets its contract: no state, or the call's answer. Assumes nothing.
-use borrow.Author.Rules.{rules}
 use mathlib.Core.Path.{ap, ◌∙◌}
 use Rattle.cards.specs.Answers.{told}
 use Rattle.bridge.proofs.Replies.{read, unread, question_none, question_some}

@@ -1,5 +1,4 @@
 -- `bridge::calls::hedgemallow_play` meets its contract: no state, or the sheet played on its station. Assumes nothing.
-use borrow.Author.Rules.{rules}
 use Rattle.bridge.proofs.Replies.{read, unread}
 use Rattle.bridge.proofs.Played.{plays, plays_none, sheet_none, sheet-some}
 use Rattle.bridge.proofs.calls.hedgemallow_play.Goals as goal

@@ -1,5 +1,4 @@
 -- `bridge::calls::hedgemallow_preset` meets its contract: no state, or the call's answer. Word for word as hedgemallow_enabled. Assumes nothing.
-use borrow.Author.Rules.{rules}
 use mathlib.Core.Path.{ap, ◌∙◌}
 use Rattle.cards.specs.Answers.{told}
 use Rattle.bridge.proofs.Replies.{read, unread, question_none, question_some}

@@ -1,5 +1,4 @@
 -- `bridge::calls::hedgemallow_set_depth` meets its contract: no state, or the call's reply. Assumes nothing.
-use borrow.Author.Rules.{rules}
 use Rattle.bridge.proofs.Replies.{read, unread, depth_none, depth-some}
 use Rattle.bridge.proofs.calls.hedgemallow_set_depth.Goals as goal
 

@@ -1,5 +1,4 @@
 -- `bridge::calls::hedgemallow_set_enabled` meets its contract: no state, or the call's reply. Word for word as hedgemallow_reset. Assumes nothing.
-use borrow.Author.Rules.{rules}
 use Rattle.chain.specs.Answers.{called}
 use Rattle.bridge.proofs.Replies.{read, unread, on_none, on-station}
 use Rattle.bridge.proofs.calls.hedgemallow_set_enabled.Goals as goal

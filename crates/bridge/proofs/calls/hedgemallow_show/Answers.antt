@@ -1,5 +1,4 @@
 -- `bridge::calls::hedgemallow_show` meets its contract: a bad source, no state, or the cabinet's frame. Assumes nothing.
-use borrow.Author.Rules.{rules}
 use Rattle.bridge.proofs.Replies.{read, unread, kept-tells, source_none, shown_none, shown-some}
 use Rattle.bridge.proofs.calls.hedgemallow_show.Goals as goal
 

@@ -1,5 +1,4 @@
 -- `bridge::calls::hedgemallow_write` meets its contract: no state, or what the writing answers. Assumes nothing.
-use borrow.Author.Rules.{rules}
 use native.Mathlib.Omega.{arith}
 use mathlib.Core.Path.{ap, sym, ◌∙◌}
 use Rattle.cards.specs.Answers.{reported_writing, told}

@@ -1,5 +1,4 @@
 -- `bridge::calls::keep` meets its contract: refused, or kept. Assumes nothing.
-use borrow.Author.Rules.{rules}
 use Rattle.bridge.proofs.Replies.{keeps, refuses}
 use Rattle.bridge.proofs.calls.keep.Goals as goal
 

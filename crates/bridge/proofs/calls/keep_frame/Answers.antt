@@ -1,5 +1,4 @@
 -- `bridge::calls::keep_frame` meets its contract: shown, or refused. Assumes nothing.
-use borrow.Author.Rules.{rules}
 use Rattle.bridge.proofs.Replies.{keeps_shown, keeps_refused}
 use Rattle.bridge.proofs.calls.keep_frame.Goals as goal
 

@@ -1,5 +1,4 @@
 -- `bridge::calls::tell` meets its contract: the number, or 256 and the refusal's. Assumes nothing.
-use borrow.Author.Rules.{rules}
 use mathlib.Core.Path.{ap, sym, ◌∙◌}
 use Rattle.cards.specs.Answers.{told}
 use Rattle.chain.specs.Answers.{reported_question}

@@ -1,6 +1,4 @@
 -- `bridge::state::held_in` meets its contract: both sides. Assumes nothing.
-use borrow.Author.Rules.{rules}
-use native.Mathlib.Omega.{arith}
 use mathlib.Core.Path.{ap₂}
 use Rattle.num.specs.Held.{sized}
 use Rattle.bridge.proofs.state.held_in.Goals as goal

@@ -1,5 +1,4 @@
 -- `bridge::state::put_size` meets its contract: four bytes are all of the part. Assumes nothing.
-use borrow.Author.Rules.{rules}
 use Rattle.bridge.proofs.Sizes.{four_put}
 use Rattle.bridge.proofs.state.put_size.Goals as goal
 

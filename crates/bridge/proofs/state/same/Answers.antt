@@ -1,10 +1,9 @@
 -- `bridge::state::same` meets its contract: byte after byte. Assumes nothing.
 use borrow.Author.Rules.{rules}
-use Prim.Native.Nat.{◌-◌, ◌≤◌}
 use native.Mathlib.Omega.{arith}
 use mathlib.Core.Path.{◌≡◌}
 use lib.ListN.{length}
-use Rattle.bridge.proofs.Bytes.{SameTo, same_none, same_more, same_not, same_all}
+use Rattle.bridge.proofs.Bytes.{same_none, same_more, same_not, same_all}
 use Rattle.bridge.proofs.state.same.Goals as goal
 use Rattle.bridge.proofs.state.same.Lts as lts
 use Rattle.bridge.proofs.state.same.Reads as reads

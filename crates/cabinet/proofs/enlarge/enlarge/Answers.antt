@@ -8,7 +8,7 @@ use lib.ListN.{length, get_or, take, drop}
 use Rattle.num.specs.Laws.Rewrite.{rewrite_ext}
 use Rattle.passes.specs.Rows.{placed}
 use Rattle.passes.specs.Laws.Rows.{row_ends}
-use Rattle.passes.proofs.RowLoops.{Rowed, no_rows, row_in, row_length, row_by, rows_all, lent_length, lent-word}
+use Rattle.passes.proofs.RowLoops.{no_rows, row_in, row_length, row_by, rows_all, lent_length, lent-word}
 use Rattle.cabinet.specs.Source.{shown_by, enlarged_at}
 use Rattle.cabinet.proofs.Sources.{blocks, column_in, line_in}
 use Rattle.cabinet.proofs.enlarge.enlarge.Invariants.{block_at}

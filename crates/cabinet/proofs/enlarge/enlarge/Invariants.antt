@@ -1,16 +1,9 @@
 -- `cabinet::enlarge::enlarge` meets its contract: block by block, each from its row of the picture. Assumes nothing.
-use Prim.Native.Nat.{ℕ, ◌+◌, ◌-◌, ◌*◌, ◌/◌, ◌%◌, ◌<◌, ◌≤◌}
-use native.Mathlib.Nat.{mul-le-mul, mod-lt}
+use Prim.Native.Nat.{ℕ, ◌+◌, ◌-◌, ◌*◌, ◌/◌, ◌%◌}
 use mathlib.Core.List.{List}
-use mathlib.Core.Path.{◌≡◌, ap, ap₂, ◌∙◌}
-use native.Mathlib.Omega.{arith}
-use lib.ListN.{length, get_or, take, drop}
-use Rattle.num.specs.Laws.Rewrite.{rewrite_ext}
-use Rattle.passes.specs.Rows.{placed}
-use Rattle.passes.specs.Laws.Rows.{row_ends}
-use Rattle.passes.proofs.RowLoops.{Rowed, no_rows, row_in, row_length, row_by, rows_all, lent_length, lent-word}
-use Rattle.cabinet.specs.Source.{shown_by, enlarged_at}
-use Rattle.cabinet.proofs.Sources.{blocks, column_in, line_in}
+use lib.ListN.{get_or}
+use Rattle.passes.proofs.RowLoops.{Rowed}
+use Rattle.cabinet.specs.Source.{shown_by}
 use Rattle.cabinet.proofs.enlarge.enlarge.Given as goal
 
 -- the word at place x of block r

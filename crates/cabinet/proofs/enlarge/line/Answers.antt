@@ -1,9 +1,9 @@
 -- `cabinet::enlarge::line` meets its contract: three words for each number. Assumes nothing.
-use Prim.Native.Nat.{ℕ, ◌+◌, ◌-◌, ◌*◌, ◌/◌, ◌<◌}
+use Prim.Native.Nat.{ℕ, ◌+◌, ◌*◌, ◌<◌}
 use mathlib.Core.Path.{ap, ◌∙◌}
 use native.Mathlib.Omega.{arith}
 use lib.ListN.{length, get_or, set, length-set}
-use Rattle.num.specs.Laws.Rewrite.{Rewritten, none, all}
+use Rattle.num.specs.Laws.Rewrite.{none, all}
 use Rattle.cabinet.specs.Source.{shown_by}
 use Rattle.cabinet.proofs.Sources.{tripled}
 use Rattle.cabinet.proofs.enlarge.line.Goals as goal

@@ -1,11 +1,8 @@
 -- `cabinet::enlarge::line` meets its contract: three words for each number. Assumes nothing.
-use Prim.Native.Nat.{ℕ, ◌+◌, ◌-◌, ◌*◌, ◌/◌, ◌<◌}
-use mathlib.Core.Path.{ap, ◌∙◌}
-use native.Mathlib.Omega.{arith}
-use lib.ListN.{length, get_or, set, length-set}
-use Rattle.num.specs.Laws.Rewrite.{Rewritten, none, all}
+use Prim.Native.Nat.{◌-◌, ◌*◌, ◌/◌}
+use lib.ListN.{length, get_or}
+use Rattle.num.specs.Laws.Rewrite.{Rewritten}
 use Rattle.cabinet.specs.Source.{shown_by}
-use Rattle.cabinet.proofs.Sources.{tripled}
 use Rattle.cabinet.proofs.enlarge.line.Given as goal
 
 abbrev pub invariant-loop-x : goal.invariant-loop-x

@@ -1,9 +1,7 @@
 -- `cabinet::enlarge::repeat` meets its contract: word after word, each as the one above it. Assumes nothing.
-use Prim.Native.Nat.{◌-◌, ◌≤◌}
 use native.Mathlib.Omega.{arith}
-use lib.ListN.{length}
-use Rattle.num.specs.Laws.Rewrite.{Rewritten, more, all}
-use Rattle.cabinet.proofs.Sources.{repeated, first-line, above}
+use Rattle.num.specs.Laws.Rewrite.{more, all}
+use Rattle.cabinet.proofs.Sources.{first-line, above}
 use Rattle.cabinet.proofs.enlarge.repeat.Goals as goal
 
 pub loop-i-init : goal.loop-i-init

@@ -1,9 +1,8 @@
 -- `cabinet::enlarge::repeat` meets its contract: word after word, each as the one above it. Assumes nothing.
 use Prim.Native.Nat.{◌-◌, ◌≤◌}
-use native.Mathlib.Omega.{arith}
 use lib.ListN.{length}
-use Rattle.num.specs.Laws.Rewrite.{Rewritten, more, all}
-use Rattle.cabinet.proofs.Sources.{repeated, first-line, above}
+use Rattle.num.specs.Laws.Rewrite.{Rewritten}
+use Rattle.cabinet.proofs.Sources.{repeated}
 use Rattle.cabinet.proofs.enlarge.repeat.Given as goal
 
 abbrev pub invariant-loop-i : goal.invariant-loop-i

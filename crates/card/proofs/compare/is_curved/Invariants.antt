@@ -1,7 +1,5 @@
 -- `card::compare::is_curved` is safe and ends: twelve places at most. Assumes nothing.
-use borrow.Author.Rules.{rules}
 use Prim.Native.Nat.{◌-◌, ◌≤◌}
-use native.Mathlib.Omega.{arith}
 use Rattle.card.proofs.compare.is_curved.Given as goal
 
 abbrev pub invariant-loop-i : goal.invariant-loop-i

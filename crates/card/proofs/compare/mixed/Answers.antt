@@ -1,5 +1,4 @@
 -- `card::compare::mixed` is safe and ends: twelve places at most, each of at most 255. Assumes nothing.
-use Prim.Native.Nat.{◌*◌, ◌-◌, ◌≤◌}
 use native.Mathlib.Omega.{arith}
 use Rattle.card.proofs.compare.mixed.Goals as goal
 

@@ -1,6 +1,5 @@
 -- `card::compare::mixed` is safe and ends: twelve places at most, each of at most 255. Assumes nothing.
 use Prim.Native.Nat.{◌*◌, ◌-◌, ◌≤◌}
-use native.Mathlib.Omega.{arith}
 use Rattle.card.proofs.compare.mixed.Given as goal
 
 abbrev pub invariant-loop-i : goal.invariant-loop-i

@@ -1,7 +1,5 @@
 -- `card::numbers::digits_down` is safe and ends: the place falls, and stays within the digits. Assumes nothing.
-use Prim.Native.Nat.{◌≤◌}
 use native.Mathlib.Omega.{arith}
-use lib.ListN.{length}
 use Rattle.card.proofs.numbers.digits_down.Goals as goal
 
 pub loop-at-init : goal.loop-at-init

@@ -1,6 +1,5 @@
 -- `card::numbers::highest` is safe and ends within the digits: the place falls, and stays below 150. Assumes nothing.
 use Prim.Native.Nat.{◌≤◌}
-use native.Mathlib.Omega.{arith}
 use Rattle.card.proofs.numbers.highest.Given as goal
 
 abbrev pub invariant-loop-i : goal.invariant-loop-i

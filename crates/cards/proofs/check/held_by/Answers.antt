@@ -1,10 +1,9 @@
 -- `cards::check::held_by_lem` meets its contract: a record that holds frames decides, any other leaves it to those after it. Assumes nothing.
-use Prim.Native.Nat.{◌-◌}
 use mathlib.Core.Path.{sym, ◌∙◌}
 use native.Mathlib.Omega.{arith}
 use borrow.Author.Tests.{not-true, not-false}
 use Rattle.cards.specs.Normal.{held_by}
-use Rattle.cards.specs.Laws.Scans.{Scanned, scanned_none, scanned_next, scanned_more, scanned_all}
+use Rattle.cards.specs.Laws.Scans.{scanned_none, scanned_next, scanned_more, scanned_all}
 use Rattle.cards.proofs.check.held_by.Goals as goal
 
 pub loop-i-init : goal.loop-i-init

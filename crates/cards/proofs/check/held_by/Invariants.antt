@@ -1,10 +1,7 @@
 -- `cards::check::held_by_lem` meets its contract: a record that holds frames decides, any other leaves it to those after it. Assumes nothing.
 use Prim.Native.Nat.{◌-◌}
-use mathlib.Core.Path.{sym, ◌∙◌}
-use native.Mathlib.Omega.{arith}
-use borrow.Author.Tests.{not-true, not-false}
 use Rattle.cards.specs.Normal.{held_by}
-use Rattle.cards.specs.Laws.Scans.{Scanned, scanned_none, scanned_next, scanned_more, scanned_all}
+use Rattle.cards.specs.Laws.Scans.{Scanned}
 use Rattle.cards.proofs.check.held_by.Given as goal
 
 abbrev pub invariant-loop-i : goal.invariant-loop-i

@@ -1,9 +1,8 @@
 -- `cards::check::is_chain` meets its contract: a record that is not normalised, or of a kind that may not come once more or below the last, decides;
 -- any other leaves it to those after it. Assumes nothing.
-use borrow.Author.Rules.{rules}
-use Prim.Native.Nat.{ℕ, suc, ◌-◌, ◌<◌}
+use Prim.Native.Nat.{ℕ, suc, ◌<◌}
 use mathlib.Core.Path.{◌≡◌, ap, ap₂, sym, ◌∙◌}
-use mathlib.Core.Bool.{Bool, true, not, ◌&&◌}
+use mathlib.Core.Bool.{true, not, ◌&&◌}
 use mathlib.Core.List.{List, [], ◌∷◌, map-append}
 use native.Mathlib.Omega.{arith}
 use borrow.Author.Tests.{not-true, not-false, lt-ltb, le-ltb}
@@ -14,7 +13,7 @@ use Rattle.cards.specs.Passes.{kind_of}
 use Rattle.cards.specs.Records.{kinds, last_of, full}
 use Rattle.cards.specs.Normal.{normal_pass, normal_chain}
 use Rattle.cards.specs.declared.station.Record.{Record}
-use Rattle.cards.specs.Laws.Scans.{past, Scanned, scanned_none, scanned_next, scanned_more, scanned_all}
+use Rattle.cards.specs.Laws.Scans.{past, scanned_none, scanned_next, scanned_more, scanned_all}
 use Rattle.cards.proofs.check.is_chain.Invariants.{rule}
 use Rattle.cards.proofs.check.is_chain.Goals as goal
 use Rattle.cards.proofs.check.is_chain.Lts as lts

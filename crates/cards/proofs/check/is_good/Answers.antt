@@ -1,5 +1,4 @@
 -- `cards::check::is_good` meets its contract: each test went as the definition's. Assumes nothing.
-use native.Mathlib.Omega.{arith}
 use mathlib.Core.Path.{◌≡◌, sym, ap, ◌∙◌}
 use mathlib.Core.Bool.{true}
 use mathlib.Core.List.{[]}

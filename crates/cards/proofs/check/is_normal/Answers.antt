@@ -1,5 +1,4 @@
 -- `cards::check::is_normal` meets its contract: each test went as the definition's. Assumes nothing.
-use borrow.Author.Rules.{rules}
 use mathlib.Core.Path.{ap, sym, ◌∙◌}
 use lib.Ieee.{of_bits, neg, round}
 use Rattle.cards.specs.Normal.{normal_pass}

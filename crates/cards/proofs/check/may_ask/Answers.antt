@@ -1,5 +1,4 @@
 -- `cards::check::may_ask` meets its contract: the kind of a pending switch is looked for. Assumes nothing.
-use borrow.Author.Rules.{rules}
 use mathlib.Core.Path.{ap, sym, ◌∙◌}
 use lib.ListN.{take}
 use Rattle.cards.specs.Normal.{askable}

@@ -1,5 +1,4 @@
 -- `cards::fields::byte_refusal` meets its contract. Assumes nothing.
-use borrow.Author.Rules.{rules}
 use Rattle.cards.proofs.fields.byte_refusal.Goals as goal
 
 pub returns-in-Value : goal.returns-in-Value

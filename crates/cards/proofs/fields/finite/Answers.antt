@@ -1,5 +1,4 @@
 -- `cards::fields::finite` meets its contract: the field was taken or torn, and its exponent tells whether it is finite. Assumes nothing.
-use borrow.Author.Rules.{rules}
 use mathlib.Core.Path.{◌≡◌, refl, ap, sym, ◌∙◌}
 use borrow.Author.Tests.{eq-eqb, ne_eqb}
 use Rattle.cards.specs.Step.{took, refused, field_step, refuse_if}

@@ -1,5 +1,4 @@
 -- `cards::fields::limited` meets its contract: each test went as the definition's. Assumes nothing.
-use borrow.Author.Rules.{rules}
 use Rattle.cards.specs.Settings.{limited_at}
 use Rattle.cards.proofs.Steps.{steps}
 use Rattle.cards.proofs.fields.limited.Goals as goal

@@ -1,5 +1,4 @@
 -- `cards::fields::within` meets its contract: each test went as the definition's. Assumes nothing.
-use borrow.Author.Rules.{rules}
 use Rattle.cards.specs.Settings.{within_at}
 use Rattle.cards.proofs.Steps.{steps}
 use Rattle.cards.proofs.fields.within.Goals as goal

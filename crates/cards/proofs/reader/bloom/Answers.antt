@@ -1,5 +1,4 @@
 -- `cards::reader::bloom` meets its contract: each field was taken or refused, and the definition goes the same way. Assumes nothing.
-use borrow.Author.Rules.{rules}
 use lib.Ieee.{of_bits}
 use Rattle.cards.specs.Passes.{bloom_at}
 use Rattle.cards.proofs.Steps.{steps}

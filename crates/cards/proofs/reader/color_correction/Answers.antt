@@ -1,5 +1,4 @@
 -- `cards::reader::color_correction` meets its contract: each field was taken or refused, and the definition goes the same way. Assumes nothing.
-use borrow.Author.Rules.{rules}
 use lib.Ieee.{of_bits, neg}
 use Rattle.cards.specs.Passes.{color_correction_at}
 use Rattle.cards.proofs.Steps.{steps}

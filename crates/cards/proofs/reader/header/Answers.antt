@@ -1,5 +1,4 @@
 -- `cards::reader::header` meets its contract: each field was taken or refused, and the definition goes the same way. Assumes nothing.
-use borrow.Author.Rules.{rules}
 use Rattle.cards.specs.Card.{header_at}
 use Rattle.cards.proofs.Steps.{steps}
 use Rattle.cards.proofs.reader.header.Goals as goal

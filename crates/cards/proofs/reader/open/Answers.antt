@@ -1,5 +1,4 @@
 -- `cards::reader::open` meets its contract: the reading without its place. Assumes nothing.
-use borrow.Author.Rules.{rules}
 use Prim.Native.Nat.{ℕ}
 use mathlib.Core.Path.{ap}
 use Rattle.cards.specs.Answers.{Reply}

@@ -1,5 +1,4 @@
 -- `cards::reader::read_record` meets its contract: each field was taken or refused, and the definition goes the same way. Assumes nothing.
-use borrow.Author.Rules.{rules}
 use Rattle.cards.specs.Records.{record_at}
 use Rattle.cards.proofs.Steps.{steps}
 use Rattle.cards.proofs.reader.read_record.Goals as goal

@@ -1,5 +1,4 @@
 -- `cards::reader::refused` meets its contract. Assumes nothing.
-use borrow.Author.Rules.{rules}
 use Rattle.cards.proofs.reader.refused.Goals as goal
 
 pub returns : goal.returns

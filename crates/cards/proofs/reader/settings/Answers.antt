@@ -1,5 +1,4 @@
 -- `cards::reader::settings` meets its contract: each arm reads what the definition has at that kind. Assumes nothing.
-use borrow.Author.Rules.{rules}
 use mathlib.Core.Path.{ap, sym}
 use Rattle.cards.specs.Step.{Reader}
 use Rattle.cards.specs.Passes.{pass_at}

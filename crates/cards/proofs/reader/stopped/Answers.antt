@@ -1,5 +1,4 @@
 -- `cards::reader::stopped` meets its contract: the place of the reading. Assumes nothing.
-use borrow.Author.Rules.{rules}
 use Prim.Native.Nat.{ℕ}
 use mathlib.Core.Path.{ap}
 use Rattle.cards.specs.Answers.{Reply}

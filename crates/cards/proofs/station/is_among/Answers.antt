@@ -1,11 +1,8 @@
 -- `cards::station::is_among` meets its contract: a record of the kind decides, any other leaves it to those after it. Assumes nothing.
-use borrow.Author.Rules.{rules}
-use Prim.Native.Nat.{◌-◌}
 use mathlib.Core.Path.{sym, ◌∙◌}
 use native.Mathlib.Omega.{arith}
 use borrow.Author.Tests.{eq-eqb, ne_eqb}
-use Rattle.cards.specs.Records.{among, kinds}
-use Rattle.cards.specs.Laws.Scans.{Scanned, scanned_none, scanned_next, scanned_more, scanned_all}
+use Rattle.cards.specs.Laws.Scans.{scanned_none, scanned_next, scanned_more, scanned_all}
 use Rattle.cards.proofs.station.is_among.Goals as goal
 
 pub loop-i-init : goal.loop-i-init

@@ -1,5 +1,4 @@
 -- `cards::station::is_full` meets its contract. Assumes nothing.
-use borrow.Author.Rules.{rules}
 use mathlib.Core.Path.{ap₂}
 use lib.Dec.{leb}
 use Rattle.cards.proofs.station.is_full.Goals as goal

@@ -1,17 +1,10 @@
 -- `cards::station::times` meets its contract: what is counted and what is left to count are all. Assumes nothing.
-use Prim.Native.Nat.{ℕ, suc, ◌+◌, ◌-◌, ◌≤◌, ◌<◌}
-use native.Mathlib.Numerals.{add-one}
-use native.Mathlib.Omega.{arith}
-use mathlib.Core.Path.{◌≡◌, ap, ◌∙◌}
-use mathlib.Core.Bool.{cond}
+use Prim.Native.Nat.{ℕ, ◌+◌, ◌-◌, ◌≤◌}
+use mathlib.Core.Path.{◌≡◌}
 use mathlib.Core.List.{List}
-use lib.Dec.{eqb}
-use lib.ListN.{length, take, drop, get_or, drop_of_length-le}
-use lib.Seq.{slice-cons, length-take-le}
-use Rattle.cards.specs.Passes.{kind_of}
+use lib.ListN.{take, drop}
 use Rattle.cards.specs.Records.{kinds, times}
 use Rattle.cards.specs.declared.station.Record.{Record}
-use Rattle.cards.specs.Laws.Scans.{past}
 use Rattle.cards.proofs.station.times.Given as goal
 
 -- of the first n records the first i are counted

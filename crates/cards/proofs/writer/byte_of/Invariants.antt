@@ -1,13 +1,8 @@
 -- `cards::writer::byte_of` meets its contract: the value is what the first i bits of the byte write. Assumes nothing.
-use Prim.Native.Nat.{suc, ◌+◌, ◌*◌, ◌-◌, ◌^◌, ◌≤◌}
-use native.Mathlib.Omega.{arith}
-use native.Mathlib.Numerals.{add-one}
-use mathlib.Core.Path.{◌≡◌, refl, ap, ◌∙◌}
+use Prim.Native.Nat.{◌*◌, ◌-◌, ◌≤◌}
+use mathlib.Core.Path.{◌≡◌}
 use lib.ListN.{drop}
-use lib.Seq.{get_or-drop}
-use lib.Pow.{pow_mono}
 use Rattle.cards.specs.Written.{value_of}
-use Rattle.cards.proofs.Packed.{value_of_lt, dropped_bits}
 use Rattle.cards.proofs.writer.byte_of.Given as goal
 
 abbrev pub invariant-loop-i : goal.invariant-loop-i

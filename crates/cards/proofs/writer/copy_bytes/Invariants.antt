@@ -1,13 +1,9 @@
 -- `cards::writer::copy_bytes` meets its contract: byte after byte. Assumes nothing.
 use Prim.Native.Nat.{ℕ, ◌-◌, ◌*◌, ◌≤◌}
 use mathlib.Core.List.{List}
-use mathlib.Core.Path.{◌≡◌, ◌∙◌, ap}
-use native.Mathlib.Omega.{arith}
 use lib.ListN.{drop}
-use Rattle.num.specs.Rewrite.{rewrite}
-use Rattle.num.specs.Laws.Rewrite.{Rewritten, none, more}
+use Rattle.num.specs.Laws.Rewrite.{Rewritten}
 use Rattle.cards.specs.Written.{value_of}
-use Rattle.cards.proofs.Packed.{pack-rewrite}
 use Rattle.cards.proofs.writer.copy_bytes.Given as goal
 
 -- byte k of the bits

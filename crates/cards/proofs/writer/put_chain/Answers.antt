@@ -1,13 +1,11 @@
 -- `cards::writer::put_chain` meets its contract: the loop's invariant is `Laying`. Assumes nothing.
-use Prim.Native.Nat.{◌-◌}
 use native.Mathlib.Omega.{arith}
 use mathlib.Core.Path.{◌≡◌, refl}
-use lib.ListN.{length, take}
-use Rattle.cards.specs.Written.{chain_bits}
-use Rattle.cards.specs.Sheet.{lay, blank}
+use lib.ListN.{length}
+use Rattle.cards.specs.Sheet.{blank}
 use Rattle.cards.specs.Laws.Scans.{past}
 use Rattle.cards.proofs.Sheets.{lays}
-use Rattle.cards.proofs.Laying.{Laying, laid_none, laid_one, laid_all}
+use Rattle.cards.proofs.Laying.{laid_none, laid_one, laid_all}
 use Rattle.cards.proofs.writer.put_chain.Goals as goal
 
 pub put_byte-s-requires : goal.put_byte-s-requires

@@ -1,13 +1,9 @@
 -- `cards::writer::put_chain` meets its contract: the loop's invariant is `Laying`. Assumes nothing.
 use Prim.Native.Nat.{◌-◌}
-use native.Mathlib.Omega.{arith}
-use mathlib.Core.Path.{◌≡◌, refl}
-use lib.ListN.{length, take}
+use lib.ListN.{take}
 use Rattle.cards.specs.Written.{chain_bits}
 use Rattle.cards.specs.Sheet.{lay, blank}
-use Rattle.cards.specs.Laws.Scans.{past}
-use Rattle.cards.proofs.Sheets.{lays}
-use Rattle.cards.proofs.Laying.{Laying, laid_none, laid_one, laid_all}
+use Rattle.cards.proofs.Laying.{Laying}
 use Rattle.cards.proofs.writer.put_chain.Given as goal
 
 abbrev pub invariant-loop-i : goal.invariant-loop-i

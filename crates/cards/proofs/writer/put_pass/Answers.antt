@@ -1,5 +1,4 @@
 -- `cards::writer::put_pass` meets its contract: the settings are laid one after another. Assumes nothing.
-use borrow.Author.Rules.{rules}
 use Rattle.cards.specs.Written.{pass_bits}
 use Rattle.cards.proofs.Sheets.{lays}
 use Rattle.cards.proofs.writer.put_pass.Goals as goal

@@ -1,5 +1,4 @@
 -- `cards::writer::put_real` meets its contract: the bits are laid. Assumes nothing.
-use borrow.Author.Rules.{rules}
 use mathlib.Core.Path.{ap, ◌∙◌}
 use Prim.Native.Nat.{ℕ}
 use Rattle.cards.specs.Written.{bits}

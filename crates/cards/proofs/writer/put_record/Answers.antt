@@ -1,5 +1,4 @@
 -- `cards::writer::put_record` meets its contract: kind, switch and settings are laid one after another. Assumes nothing.
-use borrow.Author.Rules.{rules}
 use Prim.Native.Nat.{ℕ}
 use mathlib.Core.Path.{ap, ◌∙◌}
 use Rattle.cards.specs.Written.{bits, record_bits}

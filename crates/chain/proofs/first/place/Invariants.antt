@@ -1,8 +1,6 @@
 -- `chain::first::place` meets its contract: none before i, and one from i on. Assumes nothing.
 use Prim.Native.Nat.{◌-◌}
-use mathlib.Core.Path.{sym, ◌∙◌}
-use native.Mathlib.Omega.{arith}
-use Rattle.chain.proofs.FirstOf.{Sought, sought_all, sought_found, sought_more, sought_last}
+use Rattle.chain.proofs.FirstOf.{Sought}
 use Rattle.chain.proofs.first.place.Given as goal
 
 abbrev pub invariant-loop-i : goal.invariant-loop-i

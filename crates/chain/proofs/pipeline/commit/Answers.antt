@@ -1,5 +1,4 @@
 -- `chain::pipeline::commit` meets its contract: the switch that is asked for is there, and `set_enabled` makes it. Assumes nothing.
-use borrow.Author.Rules.{rules}
 use borrow.Author.Tests.{not-true, not-false}
 use mathlib.Core.Path.{◌≡◌, ap, sym, ◌∙◌}
 use mathlib.Core.Bool.{true}

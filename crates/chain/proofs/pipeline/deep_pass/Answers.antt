@@ -1,5 +1,4 @@
 -- `chain::pipeline::deep_pass` meets its contract. Assumes nothing.
-use borrow.Author.Rules.{rules}
 use mathlib.Core.Path.{sym}
 use Rattle.chain.proofs.PassCases.{not-persistence, no_persistence, deep}
 use Rattle.chain.proofs.pipeline.deep_pass.Goals as goal

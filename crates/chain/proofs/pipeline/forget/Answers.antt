@@ -1,5 +1,4 @@
 -- `chain::pipeline::forget` meets its contract: the loop's invariant is `Forgetting`. Assumes nothing.
-use Prim.Native.Nat.{◌-◌}
 use native.Mathlib.Omega.{arith}
 use mathlib.Core.List.{List}
 use mathlib.Core.Path.{◌≡◌, ap}
@@ -8,7 +7,7 @@ use lib.ListN.{length}
 use Rattle.cards.specs.Laws.Scans.{past}
 use Rattle.cards.specs.Laws.Twelve.{unmapped}
 use Rattle.cards.specs.declared.station.Record.{Record}
-use Rattle.chain.proofs.Forgets.{Forgetting, forgetting_none, forgetting_more, forgetting_all}
+use Rattle.chain.proofs.Forgets.{forgetting_none, forgetting_more, forgetting_all}
 use Rattle.chain.proofs.pipeline.forget.Goals as goal
 use Rattle.chain.proofs.pipeline.forget.Lts as lts
 use Rattle.chain.proofs.pipeline.forget.Reads as reads

@@ -1,5 +1,4 @@
 -- `chain::pipeline::preset_of` meets its contract: no other pass has the LUT's kind. Assumes nothing.
-use borrow.Author.Rules.{rules}
 use Rattle.chain.proofs.PassCases.{not-lut}
 use Rattle.chain.proofs.pipeline.preset_of.Goals as goal
 

@@ -1,5 +1,4 @@
 -- `chain::pipeline::step_pass` meets its contract. Assumes nothing.
-use borrow.Author.Rules.{rules}
 use mathlib.Core.Path.{sym}
 use Rattle.chain.proofs.PassCases.{not-lut, no_lut, steps}
 use Rattle.chain.proofs.pipeline.step_pass.Goals as goal

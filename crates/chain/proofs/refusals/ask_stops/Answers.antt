@@ -1,5 +1,4 @@
 -- `chain::refusals::ask_stops` meets its contract: what the kind refuses, then a switch that is asked for already. Assumes nothing.
-use borrow.Author.Rules.{rules}
 use mathlib.Core.Path.{◌≡◌, sym, ◌∙◌}
 use Rattle.num.specs.Laws.Refusals.{refuses}
 use Rattle.chain.specs.Calls.{lacks, ask_stops}

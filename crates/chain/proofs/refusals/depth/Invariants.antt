@@ -1,12 +1,8 @@
 -- `chain::refusals::depth` meets its contract: the sum of the first i depths. Assumes nothing.
-use Prim.Native.Nat.{ℕ, ◌+◌, ◌*◌, ◌-◌, ◌≤◌}
-use mathlib.Core.Path.{◌≡◌, refl, sym, ap, ◌∙◌}
-use native.Mathlib.Numerals.{add-one}
-use native.Mathlib.Omega.{arith}
-use lib.ListN.{length, take}
+use Prim.Native.Nat.{◌*◌, ◌-◌, ◌≤◌}
+use mathlib.Core.Path.{◌≡◌}
+use lib.ListN.{take}
 use Rattle.chain.specs.Chain.{depth}
-use Rattle.chain.proofs.Depths.{depth_more}
-use Rattle.cards.specs.Laws.Scans.{past}
 use Rattle.chain.proofs.refusals.depth.Given as goal
 
 abbrev pub invariant-loop-i : goal.invariant-loop-i

@@ -1,5 +1,4 @@
 -- `chain::refusals::depth_of` meets its contract: any pass but persistence keeps none. Assumes nothing.
-use borrow.Author.Rules.{rules}
 use mathlib.Core.Path.{sym}
 use native.Mathlib.Omega.{arith}
 use Rattle.chain.proofs.PassCases.{not-persistence, no_depth}

@@ -1,5 +1,4 @@
 -- `chain::refusals::lacks_curve` meets its contract. Assumes nothing.
-use borrow.Author.Rules.{rules}
 use mathlib.Core.Path.{sym, ◌∙◌}
 use Rattle.chain.proofs.refusals.lacks_curve.Goals as goal
 

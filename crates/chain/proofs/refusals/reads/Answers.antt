@@ -1,5 +1,4 @@
 -- `chain::refusals::reads` meets its contract: any pass but colour reads none. Assumes nothing.
-use borrow.Author.Rules.{rules}
 use mathlib.Core.Path.{sym, ap, ◌∙◌}
 use Rattle.chain.specs.Chain.{reads}
 use Rattle.chain.proofs.PassCases.{not-colour, no_curve}

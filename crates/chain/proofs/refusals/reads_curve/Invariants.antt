@@ -1,9 +1,6 @@
 -- `chain::refusals::reads_curve` meets its contract: a pass that reads the curve decides, any other leaves it to those after it. Assumes nothing.
-use borrow.Author.Rules.{rules}
 use Prim.Native.Nat.{◌-◌}
-use mathlib.Core.Path.{sym, ◌∙◌}
-use native.Mathlib.Omega.{arith}
-use Rattle.cards.specs.Laws.Scans.{Scanned, scanned_none, scanned_next, scanned_more, scanned_all}
+use Rattle.cards.specs.Laws.Scans.{Scanned}
 use Rattle.chain.specs.Chain.{reads_curve}
 use Rattle.chain.proofs.refusals.reads_curve.Given as goal
 

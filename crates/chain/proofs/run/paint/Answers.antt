@@ -2,7 +2,6 @@
 -- promises; what that function asks of its settings, a ready pass gives. Assumes nothing.
 use native.Mathlib.Omega.{arith}
 use mathlib.Core.Path.{refl}
-use borrow.Author.Rules.{rules}
 use Rattle.passes.specs.Laws.Rows.{frame_small}
 use Rattle.chain.specs.Chain.{paint}
 use Rattle.chain.proofs.Lending.{bleed_fine, radius_fine, curve_fine, painted-by, none_clipped, samples-by}

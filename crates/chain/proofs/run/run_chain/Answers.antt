@@ -1,6 +1,6 @@
 -- `chain::run::run_chain` meets its contract. The invariant, Lending's `Running`, says that the first i records have had their turns: none at first, one
 -- more by `run_record`'s promise on its own part of the history, and all n in the end. Assumes nothing.
-use Prim.Native.Nat.{◌+◌, ◌-◌, ◌*◌, ◌≤◌}
+use Prim.Native.Nat.{◌+◌, ◌*◌, ◌≤◌}
 use native.Mathlib.Nat.{mul-le-mul}
 use native.Mathlib.Omega.{arith}
 use mathlib.Core.Path.{◌≡◌, ap₂, ◌∙◌}
@@ -8,7 +8,7 @@ use borrow.Author.Rules.{rules}
 use lib.ListN.{length, get_or}
 use Rattle.cards.specs.Laws.Scans.{past}
 use Rattle.cards.specs.Laws.Twelve.{unmapped}
-use Rattle.chain.proofs.Lending.{Running, Next, running_none, running_ready, next-is, part_in, part_long, running_few, running_taken, running_more}
+use Rattle.chain.proofs.Lending.{Next, running_none, running_ready, next-is, part_in, part_long, running_few, running_taken, running_more}
 use Rattle.chain.proofs.Lending.{running_all}
 use Rattle.chain.proofs.run.run_chain.Goals as goal
 use Rattle.chain.proofs.run.run_chain.Lts as lts

@@ -1,15 +1,8 @@
 -- `chain::run::run_chain` meets its contract. The invariant, Lending's `Running`, says that the first i records have had their turns: none at first, one
 -- more by `run_record`'s promise on its own part of the history, and all n in the end. Assumes nothing.
-use Prim.Native.Nat.{◌+◌, ◌-◌, ◌*◌, ◌≤◌}
-use native.Mathlib.Nat.{mul-le-mul}
-use native.Mathlib.Omega.{arith}
-use mathlib.Core.Path.{◌≡◌, ap₂, ◌∙◌}
-use borrow.Author.Rules.{rules}
-use lib.ListN.{length, get_or}
-use Rattle.cards.specs.Laws.Scans.{past}
-use Rattle.cards.specs.Laws.Twelve.{unmapped}
-use Rattle.chain.proofs.Lending.{Running, Next, running_none, running_ready, next-is, part_in, part_long, running_few, running_taken, running_more}
-use Rattle.chain.proofs.Lending.{running_all}
+use Prim.Native.Nat.{◌-◌}
+use lib.ListN.{length}
+use Rattle.chain.proofs.Lending.{Running}
 use Rattle.chain.proofs.run.run_chain.Given as goal
 
 abbrev pub invariant-loop-i : goal.invariant-loop-i

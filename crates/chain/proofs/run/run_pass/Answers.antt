@@ -1,7 +1,6 @@
 -- `chain::run::run_pass` meets its contract: persistence by its own promise, any other pass by `paint`'s, since it asks for no history and leaves what
 -- is held. Assumes nothing.
 use native.Mathlib.Omega.{arith}
-use borrow.Author.Rules.{rules}
 use Rattle.passes.specs.Laws.Rows.{frame_small}
 use Rattle.chain.proofs.Lending.{depth-fine, depth_room, ready_without, persisted, washed, samples-by}
 use Rattle.chain.proofs.run.run_pass.Goals as goal

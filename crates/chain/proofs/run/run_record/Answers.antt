@@ -1,5 +1,4 @@
 -- `chain::run::run_record` meets its contract: the pass's promise where it is on, else nothing is done. Assumes nothing.
-use borrow.Author.Rules.{rules}
 use Rattle.chain.proofs.Lending.{turn_on, turn_off, samples-on, samples_off}
 use Rattle.chain.proofs.run.run_record.Goals as goal
 

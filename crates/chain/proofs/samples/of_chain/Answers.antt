@@ -1,5 +1,5 @@
 -- `chain::samples::of_chain` meets its contract: none at first, one record's more with each turn, and all n in the end. Assumes nothing.
-use Prim.Native.Nat.{◌+◌, ◌-◌, ◌≤◌}
+use Prim.Native.Nat.{◌+◌, ◌≤◌}
 use native.Mathlib.Omega.{arith}
 use mathlib.Core.Path.{◌≡◌}
 use borrow.Author.Rules.{rules}
@@ -8,7 +8,7 @@ use Rattle.cards.specs.Laws.Good.{good}
 use Rattle.cards.specs.Laws.Scans.{past}
 use Rattle.cards.specs.Laws.Twelve.{unmapped}
 use Rattle.chain.proofs.Depths.{normal_of}
-use Rattle.chain.proofs.Taken.{Summed, summed_none, summed_fits, summed_more, summed_all}
+use Rattle.chain.proofs.Taken.{summed_none, summed_fits, summed_more, summed_all}
 use Rattle.chain.proofs.samples.of_chain.Goals as goal
 use Rattle.chain.proofs.samples.of_chain.Lts as lts
 use Rattle.chain.proofs.samples.of_chain.Reads as reads

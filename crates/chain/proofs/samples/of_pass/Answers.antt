@@ -2,7 +2,6 @@
 use Prim.Native.Nat.{ℕ, ◌*◌, ◌≤◌}
 use native.Mathlib.Omega.{arith}
 use mathlib.Core.Path.{sym, ap}
-use borrow.Author.Rules.{rules}
 use Rattle.passes.specs.Samples.{ntsc_samples, bloom_samples}
 use Rattle.chain.proofs.Lending.{samples-by}
 use Rattle.chain.proofs.PassCases.{no_samples, not-ntsc, not-bloom}

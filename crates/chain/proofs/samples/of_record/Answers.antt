@@ -1,5 +1,4 @@
 -- `chain::samples::of_record` meets its contract: the pass's where it is on, else none. Assumes nothing.
-use borrow.Author.Rules.{rules}
 use Rattle.chain.proofs.Lending.{samples-on, samples_off}
 use Rattle.chain.proofs.samples.of_record.Goals as goal
 

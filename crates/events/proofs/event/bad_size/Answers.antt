@@ -1,5 +1,4 @@
 -- `events::event::bad_size` meets its contract. Assumes nothing.
-use borrow.Author.Rules.{rules}
 use mathlib.Core.Path.{sym, ◌∙◌}
 use Rattle.events.proofs.event.bad_size.Goals as goal
 

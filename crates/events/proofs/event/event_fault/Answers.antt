@@ -1,5 +1,4 @@
 -- `events::event::event_fault` meets its contract, letter by letter. Assumes nothing.
-use borrow.Author.Rules.{rules}
 use borrow.Author.Tests.{ne_eqb}
 use Prim.Native.Nat.{ℕ}
 use mathlib.Core.List.{List}

@@ -1,5 +1,4 @@
 -- `events::event::event_wanted` meets its contract, letter by letter. Assumes nothing.
-use borrow.Author.Rules.{rules}
 use borrow.Author.Tests.{eq-eqb, ne_eqb}
 use native.Mathlib.Omega.{arith}
 use Rattle.events.specs.Events.{event_wanted}

@@ -1,7 +1,6 @@
 -- `events::event::switch_fault` meets its contract. Assumes nothing.
 use borrow.Author.Tests.{lt-ltb, le-ltb}
 use mathlib.Core.Path.{sym}
-use native.Mathlib.Omega.{arith}
 use Rattle.events.specs.Events.{switch_fault}
 use Rattle.events.proofs.event.switch_fault.Goals as goal
 

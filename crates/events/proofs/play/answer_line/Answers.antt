@@ -1,6 +1,4 @@
 -- `events::play::answer_line` meets its contract: a line for each case of the answer. Assumes nothing.
-use borrow.Author.Rules.{rules}
-use native.Mathlib.Omega.{arith}
 use Rattle.events.proofs.Spoken.{printed_as, letter_alone, refused}
 use Rattle.events.proofs.play.answer_line.Goals as goal
 

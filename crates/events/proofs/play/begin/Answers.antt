@@ -1,5 +1,4 @@
 -- `events::play::begin` meets its contract: a line for a refused card. Assumes nothing.
-use borrow.Author.Rules.{rules}
 use Rattle.events.proofs.Spoken.{opened_well, opened_ill}
 use Rattle.events.proofs.play.begin.Goals as goal
 

@@ -1,6 +1,4 @@
 -- `events::play::picture_line` meets its contract: a line for each case of the answer. Assumes nothing.
-use borrow.Author.Rules.{rules}
-use native.Mathlib.Omega.{arith}
 use Rattle.events.proofs.Spoken.{printed_as, picture, no_picture}
 use Rattle.events.proofs.play.picture_line.Goals as goal
 

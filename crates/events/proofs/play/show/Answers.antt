@@ -1,5 +1,4 @@
 -- `events::play::show` meets its contract: the station's refusal, or the pixels, the call, the line. From `words-kept` on as frames' `show`. Assumes nothing.
-use borrow.Author.Rules.{rules}
 use Prim.Native.Nat.{◌*◌}
 use mathlib.Core.Path.{◌≡◌, ◌∙◌}
 use native.Mathlib.Omega.{arith}

@@ -1,6 +1,4 @@
 -- `events::play::step` meets its contract: the call's answer, and its line. Assumes nothing.
-use borrow.Author.Rules.{rules}
-use native.Mathlib.Omega.{arith}
 use Rattle.chain.specs.Answers.{cycled}
 use Rattle.events.specs.Text.{L}
 use Rattle.events.proofs.Spoken.{said}

@@ -1,6 +1,4 @@
 -- `events::play::step_line` meets its contract: a line for each case of the answer. Assumes nothing.
-use borrow.Author.Rules.{rules}
-use native.Mathlib.Omega.{arith}
 use Rattle.events.proofs.Spoken.{printed_as, new-preset, no_preset}
 use Rattle.events.proofs.play.step_line.Goals as goal
 

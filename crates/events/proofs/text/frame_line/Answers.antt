@@ -1,9 +1,9 @@
 -- `events::text::frame_line` meets its contract: pixel after pixel, each in seven bytes that are lent. Assumes nothing.
-use Prim.Native.Nat.{◌+◌, ◌-◌, ◌≤◌, ◌<◌}
+use Prim.Native.Nat.{◌+◌, ◌≤◌, ◌<◌}
 use mathlib.Core.Path.{◌≡◌}
 use native.Mathlib.Omega.{arith}
 use lib.ListN.{length, set, length-set}
-use Rattle.events.proofs.Lines.{lent_length, Shown, no_pixel, next-pixel, line-ends}
+use Rattle.events.proofs.Lines.{lent_length, no_pixel, next-pixel, line-ends}
 use Rattle.events.proofs.text.frame_line.Goals as goal
 use Rattle.events.proofs.text.frame_line.Lts as lts
 use Rattle.events.proofs.text.frame_line.Reads as reads

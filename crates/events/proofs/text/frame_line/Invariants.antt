@@ -1,9 +1,7 @@
 -- `events::text::frame_line` meets its contract: pixel after pixel, each in seven bytes that are lent. Assumes nothing.
-use Prim.Native.Nat.{◌+◌, ◌-◌, ◌≤◌, ◌<◌}
-use mathlib.Core.Path.{◌≡◌}
-use native.Mathlib.Omega.{arith}
-use lib.ListN.{length, set, length-set}
-use Rattle.events.proofs.Lines.{lent_length, Shown, no_pixel, next-pixel, line-ends}
+use Prim.Native.Nat.{◌-◌}
+use lib.ListN.{length}
+use Rattle.events.proofs.Lines.{Shown}
 use Rattle.events.proofs.text.frame_line.Given as goal
 
 abbrev pub invariant-loop-i : goal.invariant-loop-i

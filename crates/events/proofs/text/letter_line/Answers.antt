@@ -1,5 +1,4 @@
 -- `events::text::letter_line` meets its contract. Assumes nothing.
-use borrow.Author.Rules.{rules}
 use mathlib.Core.List.{[], ◌∷◌}
 use mathlib.Core.Path.{refl}
 use Rattle.events.specs.Text.{newline}

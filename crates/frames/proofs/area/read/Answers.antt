@@ -1,9 +1,9 @@
 -- `frames::area::read` meets its contract: byte after byte. Assumes nothing.
-use Prim.Native.Nat.{◌+◌, ◌-◌, ◌≤◌}
-use mathlib.Core.Path.{◌≡◌, refl, sym, ap, ◌∙◌}
+use Prim.Native.Nat.{◌+◌}
+use mathlib.Core.Path.{refl, sym, ap, ◌∙◌}
 use native.Mathlib.Omega.{arith}
-use lib.ListN.{length, drop}
-use Rattle.frames.specs.Area.{unread, read_of}
+use lib.ListN.{drop}
+use Rattle.frames.specs.Area.{read_of}
 use Rattle.frames.specs.declared.area.Reading.{Reading}
 use Rattle.frames.proofs.Words.{read_next, read_all}
 use Rattle.frames.proofs.area.read.Goals as goal

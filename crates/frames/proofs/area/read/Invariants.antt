@@ -1,11 +1,8 @@
 -- `frames::area::read` meets its contract: byte after byte. Assumes nothing.
-use Prim.Native.Nat.{◌+◌, ◌-◌, ◌≤◌}
-use mathlib.Core.Path.{◌≡◌, refl, sym, ap, ◌∙◌}
-use native.Mathlib.Omega.{arith}
+use Prim.Native.Nat.{◌-◌, ◌≤◌}
+use mathlib.Core.Path.{◌≡◌}
 use lib.ListN.{length, drop}
 use Rattle.frames.specs.Area.{unread, read_of}
-use Rattle.frames.specs.declared.area.Reading.{Reading}
-use Rattle.frames.proofs.Words.{read_next, read_all}
 use Rattle.frames.proofs.area.read.Given as goal
 
 abbrev pub invariant-loop-i : goal.invariant-loop-i

@@ -1,5 +1,4 @@
 -- `frames::area::with_digit` meets its contract. Assumes nothing.
-use borrow.Author.Rules.{rules}
 use Rattle.frames.proofs.area.with_digit.Goals as goal
 
 pub returns : goal.returns

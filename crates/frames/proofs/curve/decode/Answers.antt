@@ -1,11 +1,8 @@
 -- `frames::curve::decode` meets its contract. Assumes nothing.
-use Prim.Native.Nat.{◌-◌}
 use mathlib.Core.Path.{ap, ◌∙◌}
-use native.Mathlib.Omega.{arith}
 use lib.Ieee.{nan}
-use lib.ListN.{length}
-use Rattle.num.specs.Laws.Rewrite.{Rewritten, none, more, all}
-use Rattle.frames.specs.Curve.{real_of, word_at}
+use Rattle.num.specs.Laws.Rewrite.{none, more, all}
+use Rattle.frames.specs.Curve.{real_of}
 use Rattle.frames.proofs.curve.decode.Goals as goal
 
 pub loop-k-init : goal.loop-k-init

@@ -1,11 +1,8 @@
 -- `frames::curve::decode` meets its contract. Assumes nothing.
 use Prim.Native.Nat.{◌-◌}
-use mathlib.Core.Path.{ap, ◌∙◌}
-use native.Mathlib.Omega.{arith}
-use lib.Ieee.{nan}
 use lib.ListN.{length}
-use Rattle.num.specs.Laws.Rewrite.{Rewritten, none, more, all}
-use Rattle.frames.specs.Curve.{real_of, word_at}
+use Rattle.num.specs.Laws.Rewrite.{Rewritten}
+use Rattle.frames.specs.Curve.{word_at}
 use Rattle.frames.proofs.curve.decode.Given as goal
 
 abbrev pub invariant-loop-k : goal.invariant-loop-k

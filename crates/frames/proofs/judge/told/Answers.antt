@@ -1,6 +1,5 @@
 -- `frames::judge::told` meets its contract. Assumes nothing.
 use mathlib.Core.Path.{ap, sym}
-use borrow.Author.Rules.{rules}
 use Rattle.frames.specs.Judge.{judged_of}
 use Rattle.frames.proofs.judge.told.Goals as goal
 

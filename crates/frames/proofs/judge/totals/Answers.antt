@@ -1,6 +1,5 @@
 -- `frames::judge::totals` meets its contract: a frame that is taken lies whole in the file, and its words in the scratch. The frame in the file as in `filter`.
 -- Assumes nothing.
-use borrow.Author.Rules.{rules}
 use Prim.Native.Nat.{ℕ, ◌*◌}
 use mathlib.Core.List.{List, ◌++◌}
 use mathlib.Core.Path.{◌≡◌, sym, ap, ◌∙◌}
@@ -9,7 +8,6 @@ use lib.ListN.{length, drop}
 use Rattle.raster.specs.Claims.{Whole}
 use Rattle.raster.specs.Ppm.{parse_of}
 use Rattle.raster.specs.declared.ppm.Parsed.{Parsed}
-use Rattle.raster.specs.declared.ppm.Parsed.TheVariants as Parsed
 use Rattle.raster.proofs.Taken.{taken-whole}
 use Rattle.frames.specs.Frames.{number_of}
 use Rattle.frames.specs.Judge.{measured_of, among, by_frame, in_file}

@@ -1,12 +1,6 @@
 -- `num::root::begin` meets its contract: each turn has one value more. Assumes nothing.
-use Prim.Native.Nat.{ℕ, ◌-◌}
 use native.Mathlib.Omega.{arith}
-use mathlib.Core.List.{List}
-use lib.ListN.{length, get_or}
-use lib.Ieee.{Float, nan}
-use Rattle.num.specs.Private.{Readied}
-use Rattle.num.proofs.PairedLines.{Paired, next}
-use Rattle.num.proofs.root.begin.Invariants.{Ready}
+use Rattle.num.proofs.PairedLines.{next}
 use Rattle.num.proofs.root.begin.Goals as goal
 
 pub loop-i-init : goal.loop-i-init

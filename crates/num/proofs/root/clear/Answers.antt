@@ -1,9 +1,7 @@
 -- `num::root::clear` meets its contract. Assumes nothing.
-use Prim.Native.Nat.{◌-◌}
 use mathlib.Core.Path.{refl}
 use native.Mathlib.Omega.{arith}
-use lib.ListN.{length}
-use Rattle.num.specs.Laws.Rewrite.{Rewritten, none, more, all}
+use Rattle.num.specs.Laws.Rewrite.{none, more, all}
 use Rattle.num.proofs.root.clear.Goals as goal
 
 pub loop-i-init : goal.loop-i-init

@@ -1,9 +1,7 @@
 -- `num::root::clear` meets its contract. Assumes nothing.
 use Prim.Native.Nat.{◌-◌}
-use mathlib.Core.Path.{refl}
-use native.Mathlib.Omega.{arith}
 use lib.ListN.{length}
-use Rattle.num.specs.Laws.Rewrite.{Rewritten, none, more, all}
+use Rattle.num.specs.Laws.Rewrite.{Rewritten}
 use Rattle.num.proofs.root.clear.Given as goal
 
 abbrev pub invariant-loop-i : goal.invariant-loop-i

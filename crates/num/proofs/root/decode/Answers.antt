@@ -1,6 +1,5 @@
 -- `num::root::decode` meets its contract: the numbers of the patterns are in `Patterns.antt`. Assumes nothing.
 use native.Mathlib.Omega.{arith}
-use borrow.Author.Rules.{rules}
 use Rattle.num.proofs.Patterns.{subnormal, normal}
 use Rattle.num.proofs.root.decode.Goals as goal
 

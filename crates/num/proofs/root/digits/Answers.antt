@@ -1,12 +1,11 @@
 -- `num::root::digits` meets its contract: each turn has two digits of one root more. Assumes nothing.
 use mathlib.Core.Path.{◌≡◌, refl, sym, ◌∙◌, subst, subst₂}
-use Prim.Native.Nat.{ℕ, ◌+◌, ◌-◌, ◌*◌, ◌<◌}
+use Prim.Native.Nat.{ℕ, ◌+◌, ◌*◌, ◌<◌}
 use native.Mathlib.Nat.{le_refl}
 use native.Mathlib.Omega.{arith}
-use mathlib.Core.List.{List}
 use lib.ListN.{length, get_or}
 use Rattle.num.specs.Private.{Digits, HasDigits, Further}
-use Rattle.num.proofs.PairedLines.{Paired, next}
+use Rattle.num.proofs.PairedLines.{next}
 use Rattle.num.proofs.root.digits.Invariants.{Done, Still}
 use Rattle.num.proofs.root.digits.Goals as goal
 use Rattle.num.proofs.root.digits.Lts as lts

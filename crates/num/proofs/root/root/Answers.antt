@@ -1,7 +1,6 @@
 -- `num::root::root` meets its contract: the root of a line of one value. Assumes nothing.
 use mathlib.Core.Path.{ap}
 use mathlib.Core.List.{List}
-use borrow.Author.Rules.{rules}
 use lib.ListN.{get_or}
 use lib.Ieee.{Float, nan}
 use Rattle.num.specs.Rewrite.{rewrite}

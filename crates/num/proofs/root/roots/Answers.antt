@@ -1,9 +1,6 @@
 -- `num::root::roots` meets its contract: part by part. Assumes nothing.
-use Prim.Native.Nat.{◌-◌}
 use native.Mathlib.Omega.{arith}
-use lib.ListN.{length}
-use Rattle.num.specs.Laws.Rewrite.{Rewritten, none, further_long, further, all}
-use Rattle.num.specs.Root.{root_of}
+use Rattle.num.specs.Laws.Rewrite.{none, further_long, further, all}
 use Rattle.num.proofs.root.roots.Goals as goal
 
 pub loop-at-init : goal.loop-at-init

@@ -1,8 +1,7 @@
 -- `num::root::roots` meets its contract: part by part. Assumes nothing.
 use Prim.Native.Nat.{◌-◌}
-use native.Mathlib.Omega.{arith}
 use lib.ListN.{length}
-use Rattle.num.specs.Laws.Rewrite.{Rewritten, none, further_long, further, all}
+use Rattle.num.specs.Laws.Rewrite.{Rewritten}
 use Rattle.num.specs.Root.{root_of}
 use Rattle.num.proofs.root.roots.Given as goal
 

@@ -1,16 +1,9 @@
 -- `num::root::whole_roots` meets its contract: each turn has two digits of every root more, and after the last the place is 1. Assumes nothing.
-use mathlib.Core.Path.{◌≡◌, refl, sym, ap, ◌∙◌, subst}
-use Prim.Native.Nat.{ℕ, zero, suc, ◌-◌, ◌*◌, ◌/◌, ◌^◌, ◌≤◌, ◌<◌}
-use native.Mathlib.Numerals.{sub-one}
-use native.Mathlib.Nat.{pow-succ'}
-use native.Mathlib.Omega.{arith}
+use mathlib.Core.Path.{◌≡◌}
+use Prim.Native.Nat.{ℕ, ◌*◌, ◌^◌, ◌<◌}
 use mathlib.Core.List.{List}
-use lib.Arith.{le-zero}
 use lib.ListN.{length, get_or}
-use Rattle.num.specs.Rewrite.{fill}
-use Rattle.num.specs.Laws.Rewrite.{get_d_fill, length-rewrite}
-use Rattle.num.specs.Private.{Digits, AllDigits, MoreDigits, Wholes, WholeRoots}
-use Rattle.num.proofs.FoundDigits.{last}
+use Rattle.num.specs.Private.{Digits}
 use Rattle.num.proofs.root.whole_roots.Given as goal
 
 -- the digits of each root down to the place

@@ -8,7 +8,6 @@ use lib.Ieee.{binary32, of_int, in_float}
 use mir.Syntax.{w32}
 use mir.Val.{to_z}
 use mir.Facts.{to_z_pos}
-use borrow.Author.Rules.{rules}
 use Rattle.num.specs.Laws.Bounds.{in_float_lem}
 use Rattle.num.proofs.whole.float.Goals as goal
 

@@ -6,7 +6,6 @@ use Prim.Native.Nat.{ℕ, ◌+◌, ◌*◌, ◌≤◌, ◌<◌}
 use native.Mathlib.Nat.{eq-or-lt_of_le}
 use native.Mathlib.Omega.{arith}
 use mathlib.Core.Bool.{true, false}
-use borrow.Author.Rules.{rules}
 use lib.Dec.{T, ltb→lt, lit<}
 use lib.Ieee.{Float, fin, up, down, add, of_int, le, of_bits, nan, inf}
 use lib.Ieee.Fits.{down_pos}

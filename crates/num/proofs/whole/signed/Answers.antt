@@ -3,7 +3,6 @@ use mathlib.Core.Path.{◌≡◌, refl, sym, ap, ◌∙◌, subst}
 use Prim.Native.Nat.{ℕ, zero, suc, ◌+◌, ◌/◌, ◌%◌}
 use mathlib.Core.Bool.{Bool, true, false, not, cond}
 use borrow.Author.Tests.{le-leb, lt-leb}
-use borrow.Author.Rules.{rules}
 use lib.Dec.{T, leb, eqb}
 use lib.Ieee.{Float, nan, inf, binary32, odd, fits, is_nan, of_fields, of_bits, to_bits}
 use lib.Ieee.Bits.{of_bits-to_bits}

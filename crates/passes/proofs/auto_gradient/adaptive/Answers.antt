@@ -1,5 +1,5 @@
 -- `passes::auto_gradient::adaptive` meets its contract. Assumes nothing.
-use Rattle.std.proofs.Common.{arith, rules}
+use Rattle.std.proofs.Common.{arith}
 use Rattle.num.specs.Laws.Bounds.{in_float_lem}
 use Rattle.passes.specs as Text
 use Rattle.passes.proofs.auto_gradient.adaptive.Goals as goal

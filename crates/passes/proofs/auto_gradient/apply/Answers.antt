@@ -1,5 +1,5 @@
 -- `passes::auto_gradient::apply` meets its contract: what the columns keep stands at the front of a local line. Assumes nothing.
-use Rattle.std.proofs.Common.{◌≡◌, ℕ, ◌<◌, List, ◌++◌, length, take, drop, sym, ap, ◌∙◌, arith, length-append, take_at, rules}
+use Rattle.std.proofs.Common.{◌≡◌, ℕ, ◌<◌, List, ◌++◌, length, take, drop, sym, ap, ◌∙◌, arith, length-append, take_at}
 use lib.Ieee.{Float, nan}
 use Rattle.num.specs.Const.{c0_0}
 use Rattle.num.specs.Laws.Rewrite.{get_d_fill}

@@ -1,5 +1,4 @@
 -- `passes::auto_gradient::fall` meets its contract. Assumes nothing.
-use Rattle.std.proofs.Common.{rules}
 use Rattle.passes.specs as Text
 use Rattle.passes.proofs.auto_gradient.fall.Goals as goal
 

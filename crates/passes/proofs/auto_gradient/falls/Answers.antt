@@ -1,8 +1,7 @@
 -- `passes::auto_gradient::falls` meets its contract. Assumes nothing.
-use Rattle.std.proofs.Common.{◌-◌, length, arith}
+use Rattle.std.proofs.Common.{arith}
 use lib.Ieee.{nan}
-use Rattle.num.specs.Laws.Rewrite.{Rewritten, none, more, all}
-use Rattle.passes.specs.Plain.AutoGradient.{fall}
+use Rattle.num.specs.Laws.Rewrite.{none, more, all}
 use Rattle.passes.proofs.auto_gradient.falls.Goals as goal
 
 pub loop-x-init : goal.loop-x-init

@@ -1,8 +1,6 @@
 -- `passes::auto_gradient::row` meets its contract. Assumes nothing.
-use Rattle.std.proofs.Common.{◌-◌, length, arith}
-use Rattle.num.specs.Laws.Rewrite.{Rewritten, none, more, all}
-use Rattle.passes.specs.Plain.AutoGradient.{brightness, shade}
-use Rattle.passes.specs.Private.{at, mark_clamped}
+use Rattle.std.proofs.Common.{arith}
+use Rattle.num.specs.Laws.Rewrite.{none, more, all}
 use Rattle.passes.proofs.auto_gradient.row.Goals as goal
 
 pub loop-x-init : goal.loop-x-init

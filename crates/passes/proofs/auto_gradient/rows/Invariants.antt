@@ -1,8 +1,6 @@
 -- `passes::auto_gradient::rows` meets its contract: row by row. Assumes nothing.
-use Rattle.std.proofs.Common.{◌+◌, ◌-◌, ◌≤◌, length, sym, ap, ◌∙◌, arith}
-use lib.Ieee.{Float}
-use Rattle.passes.proofs.RowLoops.{Rowed, no_rows, row_in, row_length, row_by, rows_all}
-use Rattle.passes.specs.Plain.AutoGradient.{brightness, shade}
+use Rattle.std.proofs.Common.{◌-◌}
+use Rattle.passes.proofs.RowLoops.{Rowed}
 use Rattle.passes.specs.Private.{at, mark_clamped, gradient_by}
 use Rattle.passes.proofs.auto_gradient.rows.Given as goal
 

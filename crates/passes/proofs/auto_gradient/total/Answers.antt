@@ -1,8 +1,5 @@
 -- `passes::auto_gradient::total` meets its contract. Assumes nothing.
-use Rattle.std.proofs.Common.{◌-◌, length, arith}
-use Rattle.num.specs.Const.{c0_0}
-use Rattle.passes.specs.Laws.Fold.{Folded, none, more, all}
-use Rattle.passes.specs.Plain.AutoGradient.{add_luma}
+use Rattle.passes.specs.Laws.Fold.{none, more, all}
 use Rattle.passes.proofs.auto_gradient.total.Goals as goal
 
 pub loop-i-init : goal.loop-i-init

@@ -1,7 +1,7 @@
 -- `passes::auto_gradient::total` meets its contract. Assumes nothing.
-use Rattle.std.proofs.Common.{◌-◌, length, arith}
+use Rattle.std.proofs.Common.{◌-◌, length}
 use Rattle.num.specs.Const.{c0_0}
-use Rattle.passes.specs.Laws.Fold.{Folded, none, more, all}
+use Rattle.passes.specs.Laws.Fold.{Folded}
 use Rattle.passes.specs.Plain.AutoGradient.{add_luma}
 use Rattle.passes.proofs.auto_gradient.total.Given as goal
 

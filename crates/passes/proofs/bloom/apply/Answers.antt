@@ -1,5 +1,5 @@
 -- `passes::bloom::apply` meets its contract: the planes at the start of the scratch, then the frame. Assumes nothing.
-use Rattle.std.proofs.Common.{◌≡◌, ℕ, ◌+◌, ◌*◌, ◌<◌, ◌≤◌, List, ◌++◌, length, take, drop, sym, ap, ◌∙◌, ap₂, mul_assoc, mul_comm, arith, length-take-le, take_at, drop_at, rules}
+use Rattle.std.proofs.Common.{◌≡◌, ℕ, ◌+◌, ◌*◌, ◌<◌, ◌≤◌, List, ◌++◌, length, take, drop, sym, ap, ◌∙◌, ap₂, mul_assoc, mul_comm, arith, length-take-le, take_at, drop_at}
 use lib.Ieee.{Float}
 use Rattle.num.specs.F32.{whole}
 use Rattle.passes.specs as Text

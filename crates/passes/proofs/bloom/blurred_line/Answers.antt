@@ -1,5 +1,5 @@
 -- `passes::bloom::blurred_line` meets its contract. Assumes nothing.
-use Rattle.std.proofs.Common.{ℕ, length, get_or, ap, ◌∙◌, rules}
+use Rattle.std.proofs.Common.{ℕ, length, get_or, ap, ◌∙◌}
 use Rattle.passes.specs.Plain.Bloom.{bright_of}
 use Rattle.passes.specs.Samples.{samples}
 use Rattle.passes.specs.Private.{at}

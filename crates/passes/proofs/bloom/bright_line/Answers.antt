@@ -1,9 +1,9 @@
 -- `passes::bloom::bright_line` meets its contract. Assumes nothing.
-use Rattle.std.proofs.Common.{◌-◌, length, get_or, ap, ◌∙◌, arith}
+use Rattle.std.proofs.Common.{ap, ◌∙◌, arith}
 use lib.Ieee.{nan}
-use Rattle.num.specs.Laws.Rewrite.{Rewritten, none, more, all}
+use Rattle.num.specs.Laws.Rewrite.{none, more, all}
 use Rattle.passes.specs.Plain.Pixel.{channel}
-use Rattle.passes.specs.Plain.Bloom.{bright, bright_of}
+use Rattle.passes.specs.Plain.Bloom.{bright}
 use Rattle.passes.proofs.bloom.bright_line.Goals as goal
 
 pub loop-i-init : goal.loop-i-init

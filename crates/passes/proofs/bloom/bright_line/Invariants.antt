@@ -1,9 +1,7 @@
 -- `passes::bloom::bright_line` meets its contract. Assumes nothing.
-use Rattle.std.proofs.Common.{◌-◌, length, get_or, ap, ◌∙◌, arith}
-use lib.Ieee.{nan}
-use Rattle.num.specs.Laws.Rewrite.{Rewritten, none, more, all}
-use Rattle.passes.specs.Plain.Pixel.{channel}
-use Rattle.passes.specs.Plain.Bloom.{bright, bright_of}
+use Rattle.std.proofs.Common.{◌-◌, length, get_or}
+use Rattle.num.specs.Laws.Rewrite.{Rewritten}
+use Rattle.passes.specs.Plain.Bloom.{bright_of}
 use Rattle.passes.proofs.bloom.bright_line.Given as goal
 
 abbrev pub invariant-loop-i : goal.invariant-loop-i

@@ -1,11 +1,10 @@
 -- `passes::bloom::composite_row` meets its contract. Assumes nothing.
-use Rattle.std.proofs.Common.{◌+◌, ◌-◌, ◌*◌, length, ap, ◌∙◌, arith}
+use Rattle.std.proofs.Common.{◌+◌, ◌-◌, ◌*◌, length}
 use Rattle.passes.specs.Plain.Pixel.{rgb}
-use Rattle.num.specs.Laws.Rewrite.{Rewritten, none, more, all}
+use Rattle.num.specs.Laws.Rewrite.{Rewritten}
 use Rattle.passes.specs.Plain.Blur.{quotient}
 use Rattle.passes.specs.Plain.Bloom.{composite}
 use Rattle.passes.specs.Private.{at, mark_clamped}
-use Rattle.passes.proofs.Planes.{same_composite}
 use Rattle.passes.proofs.bloom.composite_row.Given as goal
 
 abbrev pub invariant-loop-x : goal.invariant-loop-x

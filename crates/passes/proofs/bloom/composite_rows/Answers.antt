@@ -5,12 +5,12 @@ use Rattle.passes.specs.Plain.Pixel.{rgb}
 use Rattle.num.specs.Rewrite.{fill}
 use Rattle.num.specs.Laws.Rewrite.{get_d_fill}
 use Rattle.passes.specs.Plain.Blur.{weighted, weight_sum, quotient, down}
-use Rattle.passes.specs.Plain.Bloom.{composite, vertical}
+use Rattle.passes.specs.Plain.Bloom.{composite}
 use Rattle.num.specs.Laws.Sums.{sum-zero}
 use Rattle.passes.specs.Samples.{samples as samples_of}
-use Rattle.passes.specs.Private.{at, cell, stored, mark_clamped}
-use Rattle.passes.proofs.Counted.{above, above_on, above-few, above_all, rows_few}
-use Rattle.passes.proofs.RowLoops.{Rowed, no_rows, row_in, row_length, row_by, rows_all}
+use Rattle.passes.specs.Private.{at, cell, mark_clamped}
+use Rattle.passes.proofs.Counted.{above_on, above-few, above_all, rows_few}
+use Rattle.passes.proofs.RowLoops.{no_rows, row_in, row_length, row_by, rows_all}
 use Rattle.passes.proofs.Planes.{same_composite}
 use Rattle.passes.proofs.bloom.composite_rows.Goals as goal
 use Rattle.passes.proofs.bloom.composite_rows.Lts as lts

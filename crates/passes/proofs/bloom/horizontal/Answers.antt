@@ -2,9 +2,9 @@
 use Rattle.std.proofs.Common.{◌≡◌, ℕ, ◌+◌, ◌-◌, ◌*◌, ◌/◌, ◌%◌, ◌≤◌, length, get_or, take, drop, sym, ap, ◌∙◌, suc-mul, zero-mul, add-one, arith}
 use Rattle.passes.specs.Plain.Bloom.{bright_of}
 use Rattle.passes.specs.Samples.{samples as samples_of}
-use Rattle.passes.specs.Private.{at, blur_by, horizontal_by}
+use Rattle.passes.specs.Private.{at, blur_by}
 use Rattle.passes.proofs.Counted.{rows_on, rows_few}
-use Rattle.passes.proofs.RowLoops.{Rowed, no_rows, row_in, row_length, row_by, rows_all}
+use Rattle.passes.proofs.RowLoops.{no_rows, row_in, row_length, row_by, rows_all}
 use Rattle.passes.proofs.Planes.{beside, beside_in, row_across}
 use Rattle.passes.proofs.bloom.horizontal.Goals as goal
 use Rattle.passes.proofs.bloom.horizontal.Lts as lts

@@ -1,11 +1,8 @@
 -- `passes::bloom::horizontal` meets its contract: row by row, three channels to a row of the planes. Assumes nothing.
-use Rattle.std.proofs.Common.{◌≡◌, ℕ, ◌+◌, ◌-◌, ◌*◌, ◌/◌, ◌%◌, ◌≤◌, length, get_or, take, drop, sym, ap, ◌∙◌, suc-mul, zero-mul, add-one, arith}
-use Rattle.passes.specs.Plain.Bloom.{bright_of}
+use Rattle.std.proofs.Common.{◌≡◌, ◌-◌, ◌*◌, ◌/◌, ◌%◌, length}
 use Rattle.passes.specs.Samples.{samples as samples_of}
-use Rattle.passes.specs.Private.{at, blur_by, horizontal_by}
-use Rattle.passes.proofs.Counted.{rows_on, rows_few}
-use Rattle.passes.proofs.RowLoops.{Rowed, no_rows, row_in, row_length, row_by, rows_all}
-use Rattle.passes.proofs.Planes.{beside, beside_in, row_across}
+use Rattle.passes.specs.Private.{at, horizontal_by}
+use Rattle.passes.proofs.RowLoops.{Rowed}
 use Rattle.passes.proofs.bloom.horizontal.Given as goal
 
 abbrev pub invariant-loop-y : goal.invariant-loop-y

@@ -1,9 +1,9 @@
 -- `passes::bloom::horizontal_row` meets its contract: channel by channel, as rows of a frame three high. Assumes nothing.
-use Rattle.std.proofs.Common.{◌≡◌, ◌-◌, ◌<◌, length, get_or, ◌∙◌, arith}
+use Rattle.std.proofs.Common.{◌≡◌, ◌-◌, ◌<◌, length, get_or}
 use Rattle.passes.specs.Plain.Bloom.{bright_of}
 use Rattle.passes.specs.Samples.{samples as samples_of}
 use Rattle.passes.specs.Private.{at, blur_by}
-use Rattle.passes.proofs.RowLoops.{Rowed, no_rows, row_in, row_length, row_done, rows_all}
+use Rattle.passes.proofs.RowLoops.{Rowed}
 use Rattle.passes.proofs.bloom.horizontal_row.Given as goal
 
 abbrev pub invariant-loop-which : goal.invariant-loop-which

@@ -1,12 +1,11 @@
 -- `passes::blur::accumulate` meets its contract: after k offsets each place has the definition's sum over the first k. Assumes nothing.
-use Rattle.std.proofs.Common.{◌≡◌, ℕ, ◌+◌, ◌-◌, ◌*◌, ◌≤◌, length, sym, ◌∙◌, subst, ap₂, arith, rules}
+use Rattle.std.proofs.Common.{◌≡◌, ℕ, ◌+◌, ◌≤◌, length, sym, ◌∙◌, subst, ap₂, arith}
 use Rattle.num.specs.F32.{◌⊗◌}
 use Rattle.passes.specs as Text
-use Rattle.passes.specs.Plain.Blur.{total}
 use Rattle.passes.specs.Private.{at}
 use Rattle.passes.proofs.Counted.{upto, upto_none, upto-on, upto_all, upto-small}
 use Rattle.passes.proofs.Offsets.{total-onward}
-use Rattle.passes.proofs.Sums.{Summed, summed_none, summed_on, summed_all}
+use Rattle.passes.proofs.Sums.{summed_none, summed_on, summed_all}
 use Rattle.passes.proofs.blur.accumulate.Goals as goal
 use Rattle.passes.proofs.blur.accumulate.Lts as lts
 use Rattle.passes.proofs.blur.accumulate.Reads as reads

@@ -1,16 +1,11 @@
 -- `passes::blur::accumulate_rows` meets its contract: after k offsets each column has the definition's sum over the first k. Assumes nothing.
-use Rattle.std.proofs.Common.{◌≡◌, ℕ, ◌+◌, ◌-◌, ◌*◌, ◌≤◌, length, sym, ap, ◌∙◌, arith, rules}
+use Rattle.std.proofs.Common.{◌≡◌, ◌+◌, ◌-◌, ◌*◌, length}
 use Rattle.num.specs.F32.{◌⊗◌}
-use Rattle.num.specs.Rewrite.{every, fill}
-use Rattle.passes.specs as Text
-use Rattle.passes.specs.Plain.Blur.{total, weighted}
-use Rattle.passes.specs.Private.{cell, onward}
+use Rattle.passes.specs.Plain.Blur.{total}
+use Rattle.passes.specs.Private.{cell}
 use Rattle.num.specs.Sums.{sum}
-use Rattle.num.specs.Laws.Sums.{sum-zero}
 use Rattle.passes.specs.Samples.{once}
-use Rattle.passes.proofs.Counted.{place-on, place-few}
-use Rattle.passes.proofs.Offsets.{total-onward}
-use Rattle.passes.proofs.Sums.{Summed, summed_none, summed_on, summed_all}
+use Rattle.passes.proofs.Sums.{Summed}
 use Rattle.passes.proofs.blur.accumulate_rows.Given as goal
 
 abbrev pub invariant-loop-k : goal.invariant-loop-k

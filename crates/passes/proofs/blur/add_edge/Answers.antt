@@ -1,11 +1,10 @@
 -- `passes::blur::add_edge` meets its contract. Assumes nothing.
-use Rattle.std.proofs.Common.{◌≡◌, ℕ, ◌+◌, ◌-◌, ◌*◌, ◌≤◌, length, sym, ap, ◌∙◌, arith}
+use Rattle.std.proofs.Common.{ℕ, ◌+◌, ◌*◌, ◌≤◌, length, sym, ap, ◌∙◌, arith}
 use lib.Ieee.{nan}
-use Rattle.num.specs.F32.{◌⊗◌}
-use Rattle.num.specs.Laws.Rewrite.{Rewritten, none, more, all}
+use Rattle.num.specs.Laws.Rewrite.{none, more, all}
 use Rattle.num.specs.Sums.{sum}
 use Rattle.num.specs.Laws.Sums.{sum-zero, sum_more, sum_bound}
-use Rattle.passes.specs.Private.{at, onward, insides}
+use Rattle.passes.specs.Private.{insides}
 use Rattle.passes.proofs.Counted.{insides-few}
 use Rattle.passes.proofs.blur.add_edge.Goals as goal
 

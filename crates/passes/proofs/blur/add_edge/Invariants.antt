@@ -1,12 +1,9 @@
 -- `passes::blur::add_edge` meets its contract. Assumes nothing.
-use Rattle.std.proofs.Common.{◌≡◌, ℕ, ◌+◌, ◌-◌, ◌*◌, ◌≤◌, length, sym, ap, ◌∙◌, arith}
-use lib.Ieee.{nan}
+use Rattle.std.proofs.Common.{◌≡◌, ◌+◌, ◌-◌, length}
 use Rattle.num.specs.F32.{◌⊗◌}
-use Rattle.num.specs.Laws.Rewrite.{Rewritten, none, more, all}
+use Rattle.num.specs.Laws.Rewrite.{Rewritten}
 use Rattle.num.specs.Sums.{sum}
-use Rattle.num.specs.Laws.Sums.{sum-zero, sum_more, sum_bound}
 use Rattle.passes.specs.Private.{at, onward, insides}
-use Rattle.passes.proofs.Counted.{insides-few}
 use Rattle.passes.proofs.blur.add_edge.Given as goal
 
 abbrev pub invariant-loop-i : goal.invariant-loop-i

@@ -1,5 +1,5 @@
 -- `passes::blur::add_four_offsets` meets its contract: the right edge, and nothing is inside after it. Assumes nothing.
-use Rattle.std.proofs.Common.{◌≡◌, ℕ, ◌+◌, ◌-◌, ◌<◌, ◌≤◌, List, ◌++◌, length, take, drop, sym, ap, ◌∙◌, arith, rules}
+use Rattle.std.proofs.Common.{◌≡◌, ℕ, ◌+◌, ◌-◌, ◌<◌, ◌≤◌, List, ◌++◌, length, take, drop, sym, ap, ◌∙◌, arith}
 use lib.Ieee.{Float}
 use Rattle.num.specs.F32.{◌⊗◌}
 use Rattle.num.specs.Rewrite.{rewrite, every}

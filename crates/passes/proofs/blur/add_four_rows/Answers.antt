@@ -1,5 +1,5 @@
 -- `passes::blur::add_four_rows` meets its contract: the four rows lie within the plane. Assumes nothing.
-use Rattle.std.proofs.Common.{◌≡◌, ℕ, ◌+◌, ◌-◌, ◌*◌, ◌<◌, List, length, take, drop, sym, refl, ap, ◌∙◌, arith, length-drop, length-take-le, rules}
+use Rattle.std.proofs.Common.{◌≡◌, ℕ, ◌+◌, ◌-◌, ◌*◌, ◌<◌, List, length, take, drop, sym, refl, ap, ◌∙◌, arith, length-drop, length-take-le}
 use lib.Ieee.{Float}
 use Rattle.passes.proofs.Offsets.{four_added_lem}
 use Rattle.passes.specs.Laws.Rows.{row_ends}

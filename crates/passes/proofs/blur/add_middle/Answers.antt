@@ -1,5 +1,5 @@
 -- `passes::blur::add_middle` meets its contract: each place's four samples are inside. Assumes nothing.
-use Rattle.std.proofs.Common.{◌≡◌, ℕ, ◌+◌, ◌-◌, length, take, drop, refl, ap, ◌∙◌, arith, rules}
+use Rattle.std.proofs.Common.{◌≡◌, ℕ, ◌+◌, ◌-◌, length, take, drop, refl, ap, ◌∙◌, arith}
 use Rattle.num.specs.Laws.Sums.{sum_const}
 use Rattle.passes.proofs.Counted.{all_inside}
 use Rattle.passes.proofs.Offsets.{line-four}

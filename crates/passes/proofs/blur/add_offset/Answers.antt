@@ -1,5 +1,5 @@
 -- `passes::blur::add_offset` meets its contract: the places that take a sample are one part of `acc`, and their samples one part of `src`. Assumes nothing.
-use Rattle.std.proofs.Common.{◌+◌, ◌-◌, length, ap, ◌∙◌, arith, rules}
+use Rattle.std.proofs.Common.{◌+◌, ◌-◌, length, ap, ◌∙◌, arith}
 use Rattle.passes.specs.Plain.Blur.{weight}
 use Rattle.passes.proofs.Offsets.{offset-some, offset_none}
 use Rattle.passes.proofs.blur.add_offset.Goals as goal

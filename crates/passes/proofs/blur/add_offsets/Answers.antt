@@ -1,5 +1,5 @@
 -- `passes::blur::add_offsets` meets its contract: four offsets, or one. Assumes nothing.
-use Rattle.std.proofs.Common.{length, ◌∙◌, arith, rules}
+use Rattle.std.proofs.Common.{length, ◌∙◌, arith}
 use Rattle.passes.proofs.Counted.{line-one}
 use Rattle.passes.proofs.Offsets.{offset-onward}
 use Rattle.passes.proofs.blur.add_offsets.Goals as goal

@@ -1,5 +1,5 @@
 -- `passes::blur::add_row` meets its contract: a row inside is added, one outside is skipped. Assumes nothing.
-use Rattle.std.proofs.Common.{length, sym, ap, ◌∙◌, arith, length-drop, length-take-le, rules}
+use Rattle.std.proofs.Common.{length, sym, ap, ◌∙◌, arith, length-drop, length-take-le}
 use Rattle.passes.specs.Laws.Samples.{inside-left, inside_right, once_yes, once-left, once_right}
 use Rattle.passes.proofs.Offsets.{row_added, row_skipped}
 use Rattle.passes.specs.Laws.Rows.{row_ends}

@@ -1,5 +1,5 @@
 -- `passes::blur::add_rows` meets its contract: four offsets, or one. Assumes nothing.
-use Rattle.std.proofs.Common.{◌+◌, sym, ◌∙◌, arith, rules, ltb-true, leb-true}
+use Rattle.std.proofs.Common.{◌+◌, sym, ◌∙◌, arith, ltb-true, leb-true}
 use Rattle.passes.proofs.Counted.{all_inside, insides-one}
 use Rattle.passes.proofs.Offsets.{row_onward}
 use Rattle.passes.proofs.blur.add_rows.Goals as goal

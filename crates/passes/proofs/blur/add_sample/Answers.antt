@@ -1,5 +1,5 @@
 -- `passes::blur::add_sample` meets its contract: the sample of an offset that is inside is added and counted. Assumes nothing.
-use Rattle.std.proofs.Common.{◌≡◌, ℕ, ◌+◌, ◌-◌, ◌<◌, ◌≤◌, true, false, length, sym, refl, ap, ◌∙◌, add-zero, arith, rules}
+use Rattle.std.proofs.Common.{◌≡◌, ℕ, ◌+◌, ◌-◌, ◌<◌, ◌≤◌, true, false, length, sym, refl, ap, ◌∙◌, add-zero, arith}
 use native.Mathlib.Decide.{dec_lt}
 use lib.Ieee.{Float}
 use Rattle.num.specs.F32.{◌⊕◌, ◌⊗◌}

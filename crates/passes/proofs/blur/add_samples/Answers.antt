@@ -1,5 +1,5 @@
 -- `passes::blur::add_samples` meets its contract: one offset after another. Assumes nothing.
-use Rattle.std.proofs.Common.{◌≡◌, ℕ, ◌+◌, ◌≤◌, length, ap, arith, rules}
+use Rattle.std.proofs.Common.{◌≡◌, ℕ, ◌+◌, ◌≤◌, length, ap, arith}
 use Rattle.num.specs.F32.{◌⊗◌}
 use Rattle.passes.specs.declared.blur.Four.{Four}
 use Rattle.passes.specs.Samples.{once}

@@ -1,9 +1,7 @@
 -- `passes::blur::add_scaled` meets its contract: scaled samples are added from the front. Assumes nothing.
-use Rattle.std.proofs.Common.{◌-◌, length, refl, arith}
+use Rattle.std.proofs.Common.{refl, arith}
 use lib.Ieee.{nan}
-use Rattle.num.specs.Laws.Rewrite.{Rewritten, none, more, all}
-use Rattle.num.specs.F32.{◌⊕◌, ◌⊗◌}
-use Rattle.passes.specs.Private.{at}
+use Rattle.num.specs.Laws.Rewrite.{none, more, all}
 use Rattle.passes.proofs.blur.add_scaled.Goals as goal
 
 pub loop-i-init : goal.loop-i-init

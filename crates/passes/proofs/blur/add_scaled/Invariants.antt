@@ -1,7 +1,6 @@
 -- `passes::blur::add_scaled` meets its contract: scaled samples are added from the front. Assumes nothing.
-use Rattle.std.proofs.Common.{◌-◌, length, refl, arith}
-use lib.Ieee.{nan}
-use Rattle.num.specs.Laws.Rewrite.{Rewritten, none, more, all}
+use Rattle.std.proofs.Common.{◌-◌, length}
+use Rattle.num.specs.Laws.Rewrite.{Rewritten}
 use Rattle.num.specs.F32.{◌⊕◌, ◌⊗◌}
 use Rattle.passes.specs.Private.{at}
 use Rattle.passes.proofs.blur.add_scaled.Given as goal

@@ -1,5 +1,5 @@
 -- `passes::blur::add_to_edge` meets its contract: nothing is inside before the left edge; then the edge and the middle. Assumes nothing.
-use Rattle.std.proofs.Common.{◌≡◌, ℕ, ◌+◌, ◌-◌, ◌<◌, ◌≤◌, List, ◌++◌, length, take, drop, sym, ap, ◌∙◌, zero-add, arith, rules}
+use Rattle.std.proofs.Common.{◌≡◌, ℕ, ◌+◌, ◌-◌, ◌<◌, ◌≤◌, List, ◌++◌, length, take, drop, sym, ap, ◌∙◌, zero-add, arith}
 use lib.Ieee.{Float}
 use Rattle.num.specs.F32.{◌⊗◌}
 use Rattle.num.specs.Rewrite.{rewrite, every}

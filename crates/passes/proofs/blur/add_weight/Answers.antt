@@ -1,5 +1,5 @@
 -- `passes::blur::add_weight` meets its contract: the weight of an offset that is inside is added. Assumes nothing.
-use Rattle.std.proofs.Common.{ap, arith, rules}
+use Rattle.std.proofs.Common.{ap, arith}
 use lib.Ieee.{binary32, add}
 use Rattle.passes.specs.Laws.Samples.{inside_yes, inside-left, inside_right}
 use Rattle.passes.proofs.blur.add_weight.Goals as goal

@@ -1,5 +1,5 @@
 -- `passes::blur::blur_line` meets its contract: the sums, then their quotients. Assumes nothing.
-use Rattle.std.proofs.Common.{length, ◌∙◌, rules}
+use Rattle.std.proofs.Common.{length, ◌∙◌}
 use Rattle.num.specs.Laws.Rewrite.{every_twice}
 use Rattle.passes.specs.Plain.Blur.{weighted, quotient}
 use Rattle.passes.specs.Private.{at}

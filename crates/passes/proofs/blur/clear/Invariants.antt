@@ -1,6 +1,6 @@
 -- `passes::blur::clear` meets its contract: 0.0 from the front. Assumes nothing.
-use Rattle.std.proofs.Common.{◌-◌, length, refl, arith}
-use Rattle.num.specs.Laws.Rewrite.{Rewritten, none, more, all}
+use Rattle.std.proofs.Common.{◌-◌, length}
+use Rattle.num.specs.Laws.Rewrite.{Rewritten}
 use Rattle.num.specs.Const.{c0_0}
 use Rattle.passes.proofs.blur.clear.Given as goal
 

@@ -1,9 +1,7 @@
 -- `passes::blur::divide` meets its contract. Assumes nothing.
-use Rattle.std.proofs.Common.{◌-◌, length, arith}
+use Rattle.std.proofs.Common.{arith}
 use lib.Ieee.{nan}
-use Rattle.num.specs.Laws.Rewrite.{Rewritten, none, more, all}
-use Rattle.passes.specs.Plain.Blur.{quotient}
-use Rattle.passes.specs.Private.{at}
+use Rattle.num.specs.Laws.Rewrite.{none, more, all}
 use Rattle.passes.proofs.blur.divide.Goals as goal
 
 pub loop-i-init : goal.loop-i-init

@@ -1,7 +1,6 @@
 -- `passes::blur::divide` meets its contract. Assumes nothing.
-use Rattle.std.proofs.Common.{◌-◌, length, arith}
-use lib.Ieee.{nan}
-use Rattle.num.specs.Laws.Rewrite.{Rewritten, none, more, all}
+use Rattle.std.proofs.Common.{◌-◌, length}
+use Rattle.num.specs.Laws.Rewrite.{Rewritten}
 use Rattle.passes.specs.Plain.Blur.{quotient}
 use Rattle.passes.specs.Private.{at}
 use Rattle.passes.proofs.blur.divide.Given as goal

@@ -1,5 +1,5 @@
 -- `passes::blur::four_weights` meets its contract. Assumes nothing.
-use Rattle.std.proofs.Common.{refl, rules}
+use Rattle.std.proofs.Common.{refl}
 use Rattle.passes.proofs.blur.four_weights.Goals as goal
 
 pub returns : goal.returns

@@ -1,5 +1,5 @@
 -- `passes::blur::row_of` meets its contract: the row lies within the plane. Assumes nothing.
-use Rattle.std.proofs.Common.{◌+◌, ◌*◌, ◌≤◌, arith, rules}
+use Rattle.std.proofs.Common.{◌+◌, ◌*◌, ◌≤◌, arith}
 use native.Mathlib.Nat.{add-sub_cancel_left}
 use Rattle.passes.specs.Laws.Rows.{row_ends}
 use Rattle.passes.proofs.blur.row_of.Goals as goal

@@ -1,8 +1,7 @@
 -- `passes::blur::weight_line` meets its contract. Assumes nothing.
-use Rattle.std.proofs.Common.{◌-◌, ◌≤◌, arith}
+use Rattle.std.proofs.Common.{arith}
 use lib.Ieee.{nan}
-use Rattle.num.specs.Laws.Rewrite.{Rewritten, none, more}
-use Rattle.passes.specs.Plain.Blur.{weight_sum}
+use Rattle.num.specs.Laws.Rewrite.{none, more}
 use Rattle.passes.proofs.Offsets.{begun}
 use Rattle.passes.proofs.blur.weight_line.Goals as goal
 

@@ -1,9 +1,7 @@
 -- `passes::blur::weight_line` meets its contract. Assumes nothing.
-use Rattle.std.proofs.Common.{◌-◌, ◌≤◌, arith}
-use lib.Ieee.{nan}
-use Rattle.num.specs.Laws.Rewrite.{Rewritten, none, more}
+use Rattle.std.proofs.Common.{◌-◌, ◌≤◌}
+use Rattle.num.specs.Laws.Rewrite.{Rewritten}
 use Rattle.passes.specs.Plain.Blur.{weight_sum}
-use Rattle.passes.proofs.Offsets.{begun}
 use Rattle.passes.proofs.blur.weight_line.Given as goal
 
 abbrev pub invariant-loop-x : goal.invariant-loop-x

@@ -1,8 +1,6 @@
 -- `passes::blur::weight_sum` meets its contract: after k offsets the sum is the definition's over the first k. Assumes nothing.
-use Rattle.std.proofs.Common.{◌≡◌, ℕ, ◌+◌, ◌-◌, ◌*◌, ◌≤◌, sym, refl, ap, ◌∙◌, arith}
-use lib.Ieee.{Float}
+use Rattle.std.proofs.Common.{sym, refl, ap, ◌∙◌, arith}
 use Rattle.passes.specs as Text
-use Rattle.passes.specs.Plain.Blur.{total}
 use Rattle.passes.proofs.Offsets.{total_more}
 use Rattle.passes.proofs.blur.weight_sum.Invariants.{weights_to}
 use Rattle.passes.proofs.blur.weight_sum.Goals as goal

@@ -1,9 +1,7 @@
 -- `passes::blur::weight_sum` meets its contract: after k offsets the sum is the definition's over the first k. Assumes nothing.
-use Rattle.std.proofs.Common.{◌≡◌, ℕ, ◌+◌, ◌-◌, ◌*◌, ◌≤◌, sym, refl, ap, ◌∙◌, arith}
+use Rattle.std.proofs.Common.{◌≡◌, ℕ, ◌+◌, ◌-◌, ◌*◌, ◌≤◌}
 use lib.Ieee.{Float}
-use Rattle.passes.specs as Text
 use Rattle.passes.specs.Plain.Blur.{total}
-use Rattle.passes.proofs.Offsets.{total_more}
 use Rattle.passes.proofs.blur.weight_sum.Given as goal
 
 abbrev pub weights_to : ℕ → ℕ → ℕ → ℕ → Float

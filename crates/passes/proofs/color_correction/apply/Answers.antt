@@ -1,5 +1,4 @@
 -- `passes::color_correction::apply` meets its contract. Assumes nothing.
-use Rattle.std.proofs.Common.{rules}
 use Rattle.passes.specs as Text
 use Rattle.passes.specs.Plain.ColorCorrection.{colour, start}
 use Rattle.passes.proofs.Collected.{collected_unit}

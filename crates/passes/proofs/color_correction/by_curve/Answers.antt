@@ -1,9 +1,8 @@
 -- `passes::color_correction::by_curve` meets its contract. Assumes nothing.
-use Rattle.std.proofs.Common.{◌-◌, length, ap, ◌∙◌, arith}
-use Rattle.num.specs.Laws.Rewrite.{Rewritten, none, more, all}
+use Rattle.std.proofs.Common.{ap, ◌∙◌}
+use Rattle.num.specs.Laws.Rewrite.{none, more, all}
 use Rattle.passes.specs as Text
 use Rattle.passes.specs.Private.{mark_unit, toned}
-use Rattle.passes.specs.Plain.ColorCorrection.{colour, power}
 use Rattle.passes.proofs.color_correction.by_curve.Goals as goal
 
 pub loop-i-init : goal.loop-i-init

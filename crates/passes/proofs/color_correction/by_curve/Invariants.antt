@@ -1,8 +1,7 @@
 -- `passes::color_correction::by_curve` meets its contract. Assumes nothing.
-use Rattle.std.proofs.Common.{◌-◌, length, ap, ◌∙◌, arith}
-use Rattle.num.specs.Laws.Rewrite.{Rewritten, none, more, all}
-use Rattle.passes.specs as Text
-use Rattle.passes.specs.Private.{mark_unit, toned}
+use Rattle.std.proofs.Common.{◌-◌, length}
+use Rattle.num.specs.Laws.Rewrite.{Rewritten}
+use Rattle.passes.specs.Private.{mark_unit}
 use Rattle.passes.specs.Plain.ColorCorrection.{colour, power}
 use Rattle.passes.proofs.color_correction.by_curve.Given as goal
 

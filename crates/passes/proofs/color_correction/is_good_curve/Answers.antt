@@ -1,6 +1,6 @@
 -- `passes::color_correction::is_good_curve` meets its contract: a word outside 0..1 decides, any other leaves it to those after it. Assumes
 -- nothing.
-use Rattle.std.proofs.Common.{◌≡◌, ℕ, suc, ◌-◌, ◌<◌, ◌≤◌, ◌&&◌, List, length, get_or, take, drop, sym, ap, ◌∙◌, add-one, arith, drop_of_length-le, length-take-le, le-leb}
+use Rattle.std.proofs.Common.{◌≡◌, ℕ, suc, ◌<◌, ◌≤◌, ◌&&◌, List, length, get_or, take, drop, sym, ap, ◌∙◌, add-one, arith, drop_of_length-le, length-take-le, le-leb}
 use borrow.Author.Tests.{lt-leb, not-true, not-false}
 use lib.Ieee.{Float, nan}
 use lib.Seq.{slice-cons}

@@ -1,10 +1,8 @@
 -- `passes::color_correction::is_good_curve` meets its contract: a word outside 0..1 decides, any other leaves it to those after it. Assumes
 -- nothing.
-use Rattle.std.proofs.Common.{◌≡◌, ℕ, suc, ◌-◌, ◌<◌, ◌≤◌, ◌&&◌, List, length, get_or, take, drop, sym, ap, ◌∙◌, add-one, arith, drop_of_length-le, length-take-le, le-leb}
-use borrow.Author.Tests.{lt-leb, not-true, not-false}
-use lib.Ieee.{Float, nan}
-use lib.Seq.{slice-cons}
-use Rattle.passes.specs.ColorCorrection.{in_unit, all_in_unit, good_curve}
+use Rattle.std.proofs.Common.{◌≡◌, ℕ, ◌-◌, ◌≤◌, List, length, take, drop}
+use lib.Ieee.{Float}
+use Rattle.passes.specs.ColorCorrection.{all_in_unit, good_curve}
 use Rattle.passes.proofs.color_correction.is_good_curve.Given as goal
 
 -- k words are in 0..1

@@ -1,5 +1,5 @@
 -- `passes::color_correction::paint` meets its contract. Assumes nothing.
-use Rattle.std.proofs.Common.{sym, ◌∙◌, rules}
+use Rattle.std.proofs.Common.{sym, ◌∙◌}
 use Rattle.passes.specs as Text
 use Rattle.passes.proofs.color_correction.paint.Goals as goal
 

@@ -1,8 +1,7 @@
 -- `passes::crt::apply` meets its contract: row by row. Assumes nothing.
-use Rattle.std.proofs.Common.{◌+◌, ◌-◌, ◌≤◌, length, arith}
-use Rattle.passes.specs as Text
+use Rattle.std.proofs.Common.{◌-◌}
 use Rattle.passes.specs.Plain.Crt.{word_at}
-use Rattle.passes.proofs.RowLoops.{Rowed, no_rows, row_in, row_length, rows_all, row-loop}
+use Rattle.passes.proofs.RowLoops.{Rowed}
 use Rattle.passes.proofs.crt.apply.Given as goal
 
 abbrev pub invariant-loop-y : goal.invariant-loop-y

@@ -1,5 +1,4 @@
 -- `passes::crt::offset` meets its contract. Assumes nothing.
-use Rattle.std.proofs.Common.{rules}
 use Rattle.passes.specs as Text
 use Rattle.passes.proofs.crt.offset.Goals as goal
 

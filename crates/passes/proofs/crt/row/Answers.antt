@@ -1,7 +1,6 @@
 -- `passes::crt::row` meets its contract. Assumes nothing.
-use Rattle.std.proofs.Common.{◌-◌, length, arith}
-use Rattle.num.specs.Laws.Rewrite.{Rewritten, none, more, all}
-use Rattle.passes.specs.Plain.Crt.{word_at}
+use Rattle.std.proofs.Common.{arith}
+use Rattle.num.specs.Laws.Rewrite.{none, more, all}
 use Rattle.passes.proofs.crt.row.Goals as goal
 
 pub offset-ny-requires : goal.offset-ny-requires

@@ -1,6 +1,6 @@
 -- `passes::crt::row` meets its contract. Assumes nothing.
-use Rattle.std.proofs.Common.{◌-◌, length, arith}
-use Rattle.num.specs.Laws.Rewrite.{Rewritten, none, more, all}
+use Rattle.std.proofs.Common.{◌-◌, length}
+use Rattle.num.specs.Laws.Rewrite.{Rewritten}
 use Rattle.passes.specs.Plain.Crt.{word_at}
 use Rattle.passes.proofs.crt.row.Given as goal
 

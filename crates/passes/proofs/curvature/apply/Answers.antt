@@ -1,5 +1,5 @@
 -- `passes::curvature::apply` meets its contract. Assumes nothing.
-use Rattle.std.proofs.Common.{◌≡◌, ℕ, List, ◌++◌, length, take, drop, sym, ap, ◌∙◌, subst, arith, length-take-le, take_at, drop_at, rules}
+use Rattle.std.proofs.Common.{◌≡◌, ℕ, List, ◌++◌, length, take, drop, sym, ap, ◌∙◌, subst, arith, length-take-le, take_at, drop_at}
 use Rattle.passes.specs as Text
 use Rattle.passes.specs.Rows.{Frame}
 use Rattle.passes.specs.Plain.Curvature.{bent}

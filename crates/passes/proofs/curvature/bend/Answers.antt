@@ -1,5 +1,4 @@
 -- `passes::curvature::bend` meets its contract. Assumes nothing.
-use Rattle.std.proofs.Common.{rules}
 use Rattle.passes.specs as Text
 use Rattle.passes.proofs.curvature.bend.Goals as goal
 

@@ -1,5 +1,5 @@
 -- `passes::curvature::place` meets its contract: past the copy stands no word, and 0 is read. Assumes nothing.
-use Rattle.std.proofs.Common.{◌≡◌, ℕ, ◌+◌, ◌*◌, ◌≤◌, true, false, List, length, get_or, sym, ◌∙◌, le_refl, mul-le-mul, arith, rules}
+use Rattle.std.proofs.Common.{◌≡◌, ℕ, ◌+◌, ◌*◌, ◌≤◌, true, false, List, length, get_or, sym, ◌∙◌, le_refl, mul-le-mul, arith}
 use lib.ListN.{get_or-eq_default}
 use lib.Ieee.{Float}
 use Rattle.num.specs.Index.{index_of}

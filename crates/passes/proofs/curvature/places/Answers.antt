@@ -1,8 +1,7 @@
 -- `passes::curvature::places` meets its contract: what the copy has at the places so far is the bent row. Assumes nothing.
-use Rattle.std.proofs.Common.{◌≡◌, ℕ, zero, suc, ◌+◌, ◌-◌, ◌<◌, List, [], ◌∷◌, length, get_or, set, sym, refl, ap, ◌∙◌, subst, add-one, arith, length-set, rules}
+use Rattle.std.proofs.Common.{◌≡◌, ℕ, zero, suc, ◌+◌, ◌<◌, List, [], ◌∷◌, length, get_or, set, sym, refl, ap, ◌∙◌, subst, add-one, length-set}
 use Rattle.num.specs.Rewrite.{rewrite}
 use Rattle.num.specs.Laws.Rewrite.{Rewritten, none, more, all, length-rewrite, rewrite-past}
-use Rattle.passes.specs.Plain.Curvature.{word_at}
 use Rattle.passes.proofs.curvature.places.Invariants.{Placed}
 use Rattle.passes.proofs.curvature.places.Goals as goal
 

@@ -1,5 +1,5 @@
 -- `passes::curvature::row` meets its contract: the words at the places. Assumes nothing.
-use Rattle.std.proofs.Common.{◌∙◌, rules}
+use Rattle.std.proofs.Common.{◌∙◌}
 use Rattle.passes.proofs.curvature.row.Goals as goal
 
 pub returns : goal.returns

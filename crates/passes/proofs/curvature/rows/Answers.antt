@@ -1,7 +1,6 @@
 -- `passes::curvature::rows` meets its contract: row by row. Assumes nothing.
-use Rattle.std.proofs.Common.{◌+◌, ◌-◌, ◌≤◌, length, arith}
-use Rattle.passes.specs.Plain.Curvature.{word_at}
-use Rattle.passes.proofs.RowLoops.{Rowed, no_rows, row_in, row_length, rows_all, row-loop}
+use Rattle.std.proofs.Common.{◌+◌, ◌≤◌, length, arith}
+use Rattle.passes.proofs.RowLoops.{no_rows, row_in, row_length, rows_all, row-loop}
 use Rattle.passes.proofs.curvature.rows.Goals as goal
 use Rattle.passes.proofs.curvature.rows.Lts as lts
 use Rattle.passes.proofs.curvature.rows.Reads as reads

@@ -1,5 +1,5 @@
 -- `passes::curvature::word` meets its contract. Assumes nothing.
-use Rattle.std.proofs.Common.{sym, rules}
+use Rattle.std.proofs.Common.{sym}
 use lib.ListN.{get_or-eq_default}
 use Rattle.passes.proofs.curvature.word.Goals as goal
 

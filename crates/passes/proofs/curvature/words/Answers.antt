@@ -1,6 +1,6 @@
 -- `passes::curvature::words` meets its contract. Assumes nothing.
-use Rattle.std.proofs.Common.{◌-◌, length, get_or, arith}
-use Rattle.num.specs.Laws.Rewrite.{Rewritten, none, more, all}
+use Rattle.std.proofs.Common.{arith}
+use Rattle.num.specs.Laws.Rewrite.{none, more, all}
 use Rattle.passes.proofs.curvature.words.Goals as goal
 
 pub loop-x-init : goal.loop-x-init

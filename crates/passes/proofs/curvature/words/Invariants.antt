@@ -1,6 +1,6 @@
 -- `passes::curvature::words` meets its contract. Assumes nothing.
-use Rattle.std.proofs.Common.{◌-◌, length, get_or, arith}
-use Rattle.num.specs.Laws.Rewrite.{Rewritten, none, more, all}
+use Rattle.std.proofs.Common.{◌-◌, length, get_or}
+use Rattle.num.specs.Laws.Rewrite.{Rewritten}
 use Rattle.passes.proofs.curvature.words.Given as goal
 
 abbrev pub invariant-loop-x : goal.invariant-loop-x

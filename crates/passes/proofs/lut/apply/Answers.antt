@@ -1,5 +1,4 @@
 -- `passes::lut::apply` meets its contract. Assumes nothing.
-use Rattle.std.proofs.Common.{rules}
 use Rattle.passes.specs as Text
 use Rattle.passes.specs.Plain.Lut.{colour}
 use Rattle.passes.proofs.Collected.{collected_unit}

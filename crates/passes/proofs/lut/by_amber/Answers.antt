@@ -1,7 +1,6 @@
 -- `passes::lut::by_amber` meets its contract. Assumes nothing.
-use Rattle.std.proofs.Common.{◌-◌, length, ap, ◌∙◌, arith}
-use Rattle.num.specs.Laws.Rewrite.{Rewritten, none, more, all}
-use Rattle.passes.specs.Plain.Lut.{colour}
+use Rattle.std.proofs.Common.{ap, ◌∙◌}
+use Rattle.num.specs.Laws.Rewrite.{none, more, all}
 use Rattle.passes.specs.Private.{mark_unit}
 use Rattle.passes.proofs.lut.by_amber.Goals as goal
 

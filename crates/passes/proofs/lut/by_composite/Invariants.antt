@@ -1,6 +1,6 @@
 -- `passes::lut::by_composite` meets its contract. Assumes nothing.
-use Rattle.std.proofs.Common.{◌-◌, length, ap, ◌∙◌, arith}
-use Rattle.num.specs.Laws.Rewrite.{Rewritten, none, more, all}
+use Rattle.std.proofs.Common.{◌-◌, length}
+use Rattle.num.specs.Laws.Rewrite.{Rewritten}
 use Rattle.passes.specs.Plain.Lut.{colour}
 use Rattle.passes.specs.Private.{mark_unit}
 use Rattle.passes.proofs.lut.by_composite.Given as goal

@@ -1,7 +1,5 @@
 -- `passes::lut::by_greys` meets its contract. Assumes nothing.
-use Rattle.std.proofs.Common.{◌-◌, length, get_or, arith}
-use Rattle.num.specs.Laws.Rewrite.{Rewritten, none, more, all}
-use Rattle.passes.specs.Private.{picked}
+use Rattle.num.specs.Laws.Rewrite.{none, more, all}
 use Rattle.passes.proofs.lut.by_greys.Goals as goal
 
 pub loop-i-init : goal.loop-i-init

@@ -1,6 +1,6 @@
 -- `passes::lut::by_greys` meets its contract. Assumes nothing.
-use Rattle.std.proofs.Common.{◌-◌, length, get_or, arith}
-use Rattle.num.specs.Laws.Rewrite.{Rewritten, none, more, all}
+use Rattle.std.proofs.Common.{◌-◌, length, get_or}
+use Rattle.num.specs.Laws.Rewrite.{Rewritten}
 use Rattle.passes.specs.Private.{picked}
 use Rattle.passes.proofs.lut.by_greys.Given as goal
 

@@ -1,7 +1,6 @@
 -- `passes::lut::colour` meets its contract. Assumes nothing.
 use Rattle.std.proofs.Common.{sym, subst}
 use Rattle.passes.specs as Text
-use Rattle.passes.specs.Plain.Lut.{colour}
 use Rattle.passes.specs.Private.{OfWord}
 use Rattle.passes.proofs.Thirds.{of_word}
 use Rattle.passes.proofs.lut.colour.Goals as goal

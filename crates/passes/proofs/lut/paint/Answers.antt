@@ -1,5 +1,5 @@
 -- `passes::lut::paint` meets its contract: three presets by their numbers, the others by the greys. Assumes nothing.
-use Rattle.std.proofs.Common.{◌≡◌, ℕ, List, length, get_or, ◌∙◌, arith, rules}
+use Rattle.std.proofs.Common.{◌≡◌, ℕ, List, length, get_or, ◌∙◌, arith}
 use lib.Ieee.{Float}
 use Rattle.num.specs.Rewrite.{every}
 use Rattle.num.specs.Laws.Rewrite.{rewrite_ext}

@@ -1,5 +1,4 @@
 -- `passes::lut::picked` meets its contract. Assumes nothing.
-use Rattle.std.proofs.Common.{rules}
 use Rattle.passes.specs.Private.{picked}
 use Rattle.passes.proofs.lut.picked.Goals as goal
 

@@ -1,5 +1,5 @@
 -- `passes::lut::table` meets its contract. Assumes nothing.
-use Rattle.std.proofs.Common.{◌≡◌, ℕ, ◌*◌, ◌<◌, List, length, get_or, sym, ap, ◌∙◌, subst, arith, rules}
+use Rattle.std.proofs.Common.{◌≡◌, ℕ, ◌*◌, ◌<◌, List, length, get_or, sym, ap, ◌∙◌, subst}
 use lib.Ieee.{Float}
 use Rattle.num.specs.Rewrite.{fill}
 use Rattle.num.specs.Laws.Rewrite.{get_d_fill, length-rewrite}

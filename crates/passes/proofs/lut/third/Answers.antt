@@ -1,5 +1,5 @@
 -- `passes::lut::third` meets its contract: three times a word's luma is from +0 to 9. Assumes nothing.
-use Rattle.std.proofs.Common.{ap, ◌∙◌, rules}
+use Rattle.std.proofs.Common.{ap, ◌∙◌}
 use lib.Ieee.{Float}
 use Rattle.num.specs.Const.{c3_0}
 use Rattle.num.specs.F32.{◌⊗◌}

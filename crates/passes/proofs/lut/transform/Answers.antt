@@ -1,5 +1,5 @@
 -- `passes::lut::transform` meets its contract: an arm for each preset. Assumes nothing.
-use Rattle.std.proofs.Common.{◌≡◌, ℕ, suc, ◌-◌, ◌≤◌, arith, rules}
+use Rattle.std.proofs.Common.{◌≡◌, ℕ, suc, ◌-◌, ◌≤◌, arith}
 use Rattle.passes.specs as Text
 use Rattle.passes.proofs.lut.transform.Goals as goal
 

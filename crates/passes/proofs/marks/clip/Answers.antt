@@ -1,7 +1,6 @@
 -- `passes::marks::clip` meets its contract. Assumes nothing.
 use Rattle.std.proofs.Common.{arith}
 use Rattle.passes.specs as Text
-use Rattle.passes.specs.Plain.Pixel.{clip}
 use Rattle.passes.proofs.marks.clip.Goals as goal
 
 pub returns-then-x : goal.returns-then-x

@@ -1,6 +1,6 @@
 -- `passes::marks::collect` meets its contract: a mark is at most 255, so the sum fits. Assumes nothing.
-use Rattle.std.proofs.Common.{◌≡◌, ℕ, ◌+◌, ◌-◌, ◌*◌, ◌/◌, ◌%◌, ◌<◌, ◌≤◌, List, length, get_or, set, sym, refl, ap, ◌∙◌, ap₂, le_refl, arith}
-use Rattle.num.specs.Laws.Rewrite.{Rewritten, none, more, all, get_d_rewrite-rest}
+use Rattle.std.proofs.Common.{◌≡◌, ℕ, ◌+◌, ◌/◌, ◌%◌, ◌<◌, ◌≤◌, List, length, get_or, set, sym, refl, ap, ◌∙◌, ap₂, le_refl, arith}
+use Rattle.num.specs.Laws.Rewrite.{none, more, all, get_d_rewrite-rest}
 use Rattle.num.specs.Sums.{sum}
 use Rattle.num.specs.Laws.Sums.{sum-zero, sum_more}
 use Rattle.passes.specs.Private.{unmarked}

@@ -1,10 +1,7 @@
 -- `passes::marks::collect` meets its contract: a mark is at most 255, so the sum fits. Assumes nothing.
-use Rattle.std.proofs.Common.{◌≡◌, ℕ, ◌+◌, ◌-◌, ◌*◌, ◌/◌, ◌%◌, ◌<◌, ◌≤◌, List, length, get_or, set, sym, refl, ap, ◌∙◌, ap₂, le_refl, arith}
-use Rattle.num.specs.Laws.Rewrite.{Rewritten, none, more, all, get_d_rewrite-rest}
+use Rattle.std.proofs.Common.{◌≡◌, ℕ, ◌-◌, ◌*◌, ◌/◌, ◌%◌, ◌≤◌, List, length, get_or}
+use Rattle.num.specs.Laws.Rewrite.{Rewritten}
 use Rattle.num.specs.Sums.{sum}
-use Rattle.num.specs.Laws.Sums.{sum-zero, sum_more}
-use Rattle.passes.specs.Private.{unmarked}
-use Rattle.passes.specs.Painted.{painted}
 use Rattle.passes.proofs.marks.collect.Given as goal
 
 -- the first i words are cleared, and the sum of their marks is n

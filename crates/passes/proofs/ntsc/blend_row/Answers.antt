@@ -1,8 +1,6 @@
 -- `passes::ntsc::blend_row` meets its contract. Assumes nothing.
-use Rattle.std.proofs.Common.{◌-◌, length, arith}
-use Rattle.num.specs.Laws.Rewrite.{Rewritten, none, more, all}
-use Rattle.passes.specs.Plain.Ntsc.{pixel}
-use Rattle.passes.specs.Private.{at, mark_clamped}
+use Rattle.std.proofs.Common.{arith}
+use Rattle.num.specs.Laws.Rewrite.{none, more, all}
 use Rattle.passes.proofs.ntsc.blend_row.Goals as goal
 
 pub loop-x-init : goal.loop-x-init

@@ -1,6 +1,6 @@
 -- `passes::ntsc::blend_row` meets its contract. Assumes nothing.
-use Rattle.std.proofs.Common.{◌-◌, length, arith}
-use Rattle.num.specs.Laws.Rewrite.{Rewritten, none, more, all}
+use Rattle.std.proofs.Common.{◌-◌, length}
+use Rattle.num.specs.Laws.Rewrite.{Rewritten}
 use Rattle.passes.specs.Plain.Ntsc.{pixel}
 use Rattle.passes.specs.Private.{at, mark_clamped}
 use Rattle.passes.proofs.ntsc.blend_row.Given as goal

@@ -1,8 +1,7 @@
 -- `passes::ntsc::chroma_line` meets its contract. Assumes nothing.
-use Rattle.std.proofs.Common.{◌-◌, length, get_or, ap, ◌∙◌, arith}
+use Rattle.std.proofs.Common.{ap, ◌∙◌, arith}
 use lib.Ieee.{nan}
-use Rattle.passes.specs.Plain.Pixel.{unpack}
-use Rattle.num.specs.Laws.Rewrite.{Rewritten, none, more, all}
+use Rattle.num.specs.Laws.Rewrite.{none, more, all}
 use Rattle.passes.specs.Plain.Ntsc.{chroma}
 use Rattle.passes.proofs.ntsc.chroma_line.Goals as goal
 

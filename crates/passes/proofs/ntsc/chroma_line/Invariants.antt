@@ -1,8 +1,7 @@
 -- `passes::ntsc::chroma_line` meets its contract. Assumes nothing.
-use Rattle.std.proofs.Common.{◌-◌, length, get_or, ap, ◌∙◌, arith}
-use lib.Ieee.{nan}
+use Rattle.std.proofs.Common.{◌-◌, length, get_or}
 use Rattle.passes.specs.Plain.Pixel.{unpack}
-use Rattle.num.specs.Laws.Rewrite.{Rewritten, none, more, all}
+use Rattle.num.specs.Laws.Rewrite.{Rewritten}
 use Rattle.passes.specs.Plain.Ntsc.{chroma}
 use Rattle.passes.proofs.ntsc.chroma_line.Given as goal
 

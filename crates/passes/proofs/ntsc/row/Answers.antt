@@ -1,5 +1,5 @@
 -- `passes::ntsc::row` meets its contract: each component in turn, then the words. Assumes nothing.
-use Rattle.std.proofs.Common.{ℕ, length, get_or, ap, ◌∙◌, rules}
+use Rattle.std.proofs.Common.{ℕ, length, get_or, ap, ◌∙◌}
 use lib.Ieee.{Float}
 use Rattle.passes.specs.Plain.Pixel.{unpack}
 use Rattle.num.specs.Laws.Rewrite.{rewrite_ext}

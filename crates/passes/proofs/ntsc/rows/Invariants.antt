@@ -1,11 +1,8 @@
 -- `passes::ntsc::rows` meets its contract: row by row. Assumes nothing.
-use Rattle.std.proofs.Common.{◌≡◌, ℕ, ◌+◌, ◌-◌, ◌*◌, ◌≤◌, length, take, drop, sym, ap, ◌∙◌, zero-mul, arith}
-use Rattle.passes.specs.Plain.Ntsc.{pixel}
+use Rattle.std.proofs.Common.{◌≡◌, ◌-◌, ◌*◌, length}
 use Rattle.passes.specs.Samples.{samples as samples_of}
-use Rattle.passes.specs.Private.{at, chroma_by, ntsc_by, mark_clamped}
-use Rattle.passes.proofs.Counted.{rows_on, rows_few}
-use Rattle.passes.proofs.RowLoops.{Rowed, no_rows, row_in, row_length, row_by, rows_all}
-use Rattle.passes.proofs.Chroma.{chroma_across, same_pixel}
+use Rattle.passes.specs.Private.{at, ntsc_by, mark_clamped}
+use Rattle.passes.proofs.RowLoops.{Rowed}
 use Rattle.passes.proofs.ntsc.rows.Given as goal
 
 abbrev pub invariant-loop-y : goal.invariant-loop-y

@@ -1,8 +1,7 @@
 -- `passes::persistence::add_line` meets its contract. Assumes nothing.
-use Rattle.std.proofs.Common.{◌-◌, length, get_or, arith}
-use lib.Ieee.{nan}
+use Rattle.std.proofs.Common.{◌-◌, length, get_or}
 use Rattle.num.specs.F32.{◌⊕◌, ◌⊗◌}
-use Rattle.num.specs.Laws.Rewrite.{Rewritten, none, more, all}
+use Rattle.num.specs.Laws.Rewrite.{Rewritten}
 use Rattle.passes.specs.Plain.Pixel.{channel, unpack}
 use Rattle.passes.proofs.persistence.add_line.Given as goal
 

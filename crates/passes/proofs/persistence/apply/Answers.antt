@@ -1,5 +1,5 @@
 -- `passes::persistence::apply` meets its contract: the two ways of persistence. Assumes nothing.
-use Rattle.std.proofs.Common.{◌≡◌, ℕ, Bool, true, false, List, length, take, drop, sym, refl, ap, ◌∙◌, zero-add, arith, length-take-le, drop_at, rules}
+use Rattle.std.proofs.Common.{◌≡◌, ℕ, Bool, true, false, List, length, take, drop, sym, refl, ap, ◌∙◌, zero-add, arith, length-take-le, drop_at}
 use lib.Ieee.{Float}
 use Rattle.num.specs.Held.{Held, same_held}
 use Rattle.passes.specs as Text

@@ -1,9 +1,7 @@
 -- `passes::persistence::begin_line` meets its contract. Assumes nothing.
-use Rattle.std.proofs.Common.{◌-◌, length, get_or, arith}
+use Rattle.std.proofs.Common.{arith}
 use lib.Ieee.{nan}
-use Rattle.num.specs.F32.{◌⊗◌}
-use Rattle.num.specs.Laws.Rewrite.{Rewritten, none, more, all}
-use Rattle.passes.specs.Plain.Pixel.{channel, unpack}
+use Rattle.num.specs.Laws.Rewrite.{none, more, all}
 use Rattle.passes.proofs.persistence.begin_line.Goals as goal
 
 pub loop-i-init : goal.loop-i-init

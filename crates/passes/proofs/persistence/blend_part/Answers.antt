@@ -1,5 +1,5 @@
 -- `passes::persistence::blend_part` meets its contract: three channels of the mix at each place are the mix. Assumes nothing.
-use Rattle.std.proofs.Common.{◌≡◌, ℕ, ◌≤◌, List, ◌++◌, length, take, drop, sym, ap, ◌∙◌, zero-add, arith, rules}
+use Rattle.std.proofs.Common.{◌≡◌, ℕ, ◌≤◌, List, ◌++◌, length, take, drop, sym, ap, ◌∙◌, zero-add, arith}
 use lib.Ieee.{Float}
 use Rattle.num.specs.Rewrite.{fill}
 use Rattle.num.specs.Laws.Rewrite.{none, part, rewrite-at}

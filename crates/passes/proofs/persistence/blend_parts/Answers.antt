@@ -1,8 +1,6 @@
 -- `passes::persistence::blend_parts` meets its contract: part by part. Assumes nothing.
-use Rattle.std.proofs.Common.{◌-◌, length, get_or, arith}
-use lib.Ieee.{nan}
-use Rattle.num.specs.Laws.Rewrite.{Rewritten, none, all}
-use Rattle.passes.specs.Private.{blended_word}
+use Rattle.std.proofs.Common.{arith}
+use Rattle.num.specs.Laws.Rewrite.{none, all}
 use Rattle.num.specs.Laws.Rewrite.{further, further_long}
 use Rattle.passes.proofs.persistence.blend_parts.Goals as goal
 

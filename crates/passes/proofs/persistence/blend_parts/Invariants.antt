@@ -1,9 +1,8 @@
 -- `passes::persistence::blend_parts` meets its contract: part by part. Assumes nothing.
-use Rattle.std.proofs.Common.{◌-◌, length, get_or, arith}
+use Rattle.std.proofs.Common.{◌-◌, length, get_or}
 use lib.Ieee.{nan}
-use Rattle.num.specs.Laws.Rewrite.{Rewritten, none, all}
+use Rattle.num.specs.Laws.Rewrite.{Rewritten}
 use Rattle.passes.specs.Private.{blended_word}
-use Rattle.num.specs.Laws.Rewrite.{further, further_long}
 use Rattle.passes.proofs.persistence.blend_parts.Given as goal
 
 abbrev pub invariant-loop-at : goal.invariant-loop-at

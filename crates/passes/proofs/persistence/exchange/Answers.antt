@@ -1,5 +1,5 @@
 -- `passes::persistence::exchange` meets its contract: each turn has rewritten one word more of both. Assumes nothing.
-use Rattle.std.proofs.Common.{◌≡◌, ℕ, ◌-◌, List, length, get_or, sym, ap, ◌∙◌, le_refl, arith}
+use Rattle.std.proofs.Common.{◌≡◌, ℕ, List, get_or, sym, ap, ◌∙◌, le_refl, arith}
 use Rattle.num.specs.Laws.Rewrite.{Rewritten, none, more, all, rewrite_copy, get_d_rewrite-rest}
 use Rattle.passes.proofs.persistence.exchange.Goals as goal
 

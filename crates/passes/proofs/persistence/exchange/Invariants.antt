@@ -1,6 +1,6 @@
 -- `passes::persistence::exchange` meets its contract: each turn has rewritten one word more of both. Assumes nothing.
-use Rattle.std.proofs.Common.{◌≡◌, ℕ, ◌-◌, List, length, get_or, sym, ap, ◌∙◌, le_refl, arith}
-use Rattle.num.specs.Laws.Rewrite.{Rewritten, none, more, all, rewrite_copy, get_d_rewrite-rest}
+use Rattle.std.proofs.Common.{◌-◌, length, get_or}
+use Rattle.num.specs.Laws.Rewrite.{Rewritten}
 use Rattle.passes.proofs.persistence.exchange.Given as goal
 
 abbrev pub invariant-loop-i : goal.invariant-loop-i

@@ -1,8 +1,6 @@
 -- `passes::persistence::finish_part` meets its contract. Assumes nothing.
-use Rattle.std.proofs.Common.{◌-◌, length, arith}
-use Rattle.num.specs.Laws.Rewrite.{Rewritten, none, more, all}
-use Rattle.passes.specs.Plain.Pixel.{rgb}
-use Rattle.passes.specs.Private.{at, mark_clamped}
+use Rattle.std.proofs.Common.{arith}
+use Rattle.num.specs.Laws.Rewrite.{none, more, all}
 use Rattle.passes.proofs.persistence.finish_part.Goals as goal
 
 pub loop-i-init : goal.loop-i-init

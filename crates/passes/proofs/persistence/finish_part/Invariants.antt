@@ -1,6 +1,6 @@
 -- `passes::persistence::finish_part` meets its contract. Assumes nothing.
-use Rattle.std.proofs.Common.{◌-◌, length, arith}
-use Rattle.num.specs.Laws.Rewrite.{Rewritten, none, more, all}
+use Rattle.std.proofs.Common.{◌-◌, length}
+use Rattle.num.specs.Laws.Rewrite.{Rewritten}
 use Rattle.passes.specs.Plain.Pixel.{rgb}
 use Rattle.passes.specs.Private.{at, mark_clamped}
 use Rattle.passes.proofs.persistence.finish_part.Given as goal

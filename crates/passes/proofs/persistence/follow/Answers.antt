@@ -1,5 +1,5 @@
 -- `passes::persistence::follow` meets its contract: the weights stand at the front of a local line. Assumes nothing.
-use Rattle.std.proofs.Common.{◌≡◌, ℕ, ◌*◌, ◌<◌, ◌≤◌, List, ◌++◌, length, get_or, take, drop, sym, refl, ap, ◌∙◌, subst, arith, length-append, length-take-le, take_at, rules}
+use Rattle.std.proofs.Common.{◌≡◌, ℕ, ◌*◌, ◌<◌, ◌≤◌, List, ◌++◌, length, get_or, take, drop, sym, refl, ap, ◌∙◌, subst, arith, length-append, length-take-le, take_at}
 use lib.Ieee.{Float, nan}
 use Rattle.num.specs.Const.{c1_0, c255_0}
 use Rattle.num.specs.F32.{◌⊘◌}

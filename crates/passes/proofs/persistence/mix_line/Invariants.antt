@@ -1,10 +1,8 @@
 -- `passes::persistence::mix_line` meets its contract: at turn j each place has its channel of the mix with the j newest older frames. Assumes nothing.
-use Rattle.std.proofs.Common.{◌≡◌, ◌+◌, ◌-◌, ◌*◌, ◌≤◌, length, get_or, take, drop, sym, ◌∙◌, suc-mul, zero-mul, add-one, arith, rules}
+use Rattle.std.proofs.Common.{◌≡◌, ◌+◌, ◌-◌, ◌*◌, length, get_or}
 use lib.Ieee.{nan}
-use Rattle.passes.specs.Laws.Rows.{row_ends}
-use Rattle.passes.proofs.RowLoops.{lent_length}
-use Rattle.passes.proofs.Mixes.{mixed, first, next}
-use Rattle.passes.proofs.Sums.{Summed, summed_none, summed_more, summed_all}
+use Rattle.passes.proofs.Mixes.{mixed}
+use Rattle.passes.proofs.Sums.{Summed}
 use Rattle.passes.proofs.persistence.mix_line.Given as goal
 
 abbrev pub invariant-loop-j : goal.invariant-loop-j

@@ -1,8 +1,7 @@
 -- `passes::persistence::refill` meets its contract: place by place. Assumes nothing.
-use Rattle.std.proofs.Common.{◌-◌, ◌*◌, ◌++◌, length, drop, sym, ap, ◌∙◌, arith, take_all}
-use Rattle.passes.specs.Plain.Persistence.{copies, refilled}
-use Rattle.passes.specs.Laws.Persistence.{length-copies}
-use Rattle.passes.proofs.Places.{Written, none, place_in, place-length, more, all, copies-place}
+use Rattle.std.proofs.Common.{◌-◌, length}
+use Rattle.passes.specs.Plain.Persistence.{copies}
+use Rattle.passes.proofs.Places.{Written}
 use Rattle.passes.proofs.persistence.refill.Given as goal
 
 abbrev pub invariant-loop-j : goal.invariant-loop-j

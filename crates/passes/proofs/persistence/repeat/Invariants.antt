@@ -1,7 +1,6 @@
 -- `passes::persistence::repeat` meets its contract: the words before are read where they still stand. Assumes nothing.
-use Rattle.std.proofs.Common.{◌≡◌, ℕ, ◌+◌, ◌-◌, ◌<◌, ◌≤◌, List, ◌++◌, length, get_or, take, drop, set, sym, refl, ap, ◌∙◌, zero-le, add-one, arith, length-drop, length-set, length-take-le, get_or-drop, get_or-take}
-use lib.ListN.{get_or-append}
-use lib.Seq.{length_paste_head, paste, paste-zero, paste-suc}
+use Rattle.std.proofs.Common.{◌≡◌, ℕ, ◌+◌, ◌-◌, ◌≤◌, List, length, drop}
+use lib.Seq.{paste}
 use Rattle.passes.proofs.persistence.repeat.Given as goal
 
 -- of the n words from `at` on the first i are written

@@ -1,8 +1,8 @@
 -- `passes::persistence::resize` meets its contract: place by place. Assumes nothing.
-use Rattle.std.proofs.Common.{◌-◌, ◌*◌, ◌≤◌, mul-le-mul_right, arith, le-leb}
+use Rattle.std.proofs.Common.{◌*◌, ◌≤◌, mul-le-mul_right, arith, le-leb}
 use borrow.Author.Tests.{lt-leb}
 use Rattle.passes.specs.Plain.Persistence.{resized}
-use Rattle.passes.proofs.Places.{Growing, place_in, growing, before_in, growing_more, grown_all}
+use Rattle.passes.proofs.Places.{place_in, growing, before_in, growing_more, grown_all}
 use Rattle.passes.proofs.persistence.resize.Goals as goal
 
 pub returns-then-to-from : goal.returns-then-to-from

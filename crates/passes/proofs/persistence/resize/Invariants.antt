@@ -1,8 +1,6 @@
 -- `passes::persistence::resize` meets its contract: place by place. Assumes nothing.
-use Rattle.std.proofs.Common.{◌-◌, ◌*◌, ◌≤◌, mul-le-mul_right, arith, le-leb}
-use borrow.Author.Tests.{lt-leb}
-use Rattle.passes.specs.Plain.Persistence.{resized}
-use Rattle.passes.proofs.Places.{Growing, place_in, growing, before_in, growing_more, grown_all}
+use Rattle.std.proofs.Common.{◌-◌}
+use Rattle.passes.proofs.Places.{Growing}
 use Rattle.passes.proofs.persistence.resize.Given as goal
 
 abbrev pub invariant-loop-j : goal.invariant-loop-j

@@ -1,7 +1,7 @@
 -- `passes::persistence::shift` meets its contract: place by place. Assumes nothing.
-use Rattle.std.proofs.Common.{◌-◌, sym, ◌∙◌, arith}
+use Rattle.std.proofs.Common.{sym, ◌∙◌, arith}
 use Rattle.passes.specs.Plain.Persistence.{shifted}
-use Rattle.passes.proofs.Places.{Carried, carried_none, carried_more, place_in, place-length, all}
+use Rattle.passes.proofs.Places.{carried_none, carried_more, place_in, place-length, all}
 use Rattle.passes.proofs.persistence.shift.Goals as goal
 
 pub loop-j-init : goal.loop-j-init

@@ -1,7 +1,6 @@
 -- `passes::persistence::shift` meets its contract: place by place. Assumes nothing.
-use Rattle.std.proofs.Common.{◌-◌, sym, ◌∙◌, arith}
-use Rattle.passes.specs.Plain.Persistence.{shifted}
-use Rattle.passes.proofs.Places.{Carried, carried_none, carried_more, place_in, place-length, all}
+use Rattle.std.proofs.Common.{◌-◌}
+use Rattle.passes.proofs.Places.{Carried}
 use Rattle.passes.proofs.persistence.shift.Given as goal
 
 abbrev pub invariant-loop-j : goal.invariant-loop-j

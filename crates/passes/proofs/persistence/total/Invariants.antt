@@ -1,8 +1,5 @@
 -- `passes::persistence::total` meets its contract. Assumes nothing.
-use Rattle.std.proofs.Common.{◌≡◌, ◌-◌, ◌≤◌, refl, ap, ◌∙◌, ap₂, add-one, arith}
-use Rattle.num.specs.Const.{c0_55}
-use Rattle.num.specs.F32.{◌⊕◌, ◌⊗◌}
-use Rattle.passes.specs as Text
+use Rattle.std.proofs.Common.{◌≡◌, ◌-◌, ◌≤◌}
 use Rattle.passes.specs.Plain.Persistence.{decay, total}
 use Rattle.passes.proofs.persistence.total.Given as goal
 

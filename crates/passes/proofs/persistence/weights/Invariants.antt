@@ -1,11 +1,7 @@
 -- `passes::persistence::weights` meets its contract. Assumes nothing.
-use Rattle.std.proofs.Common.{◌≡◌, ◌-◌, length, refl, ap, add-one, arith}
-use lib.Ieee.{nan}
-use Rattle.num.specs.Const.{c0_55}
-use Rattle.num.specs.F32.{◌⊗◌, ◌⊘◌}
-use Rattle.passes.specs as Text
+use Rattle.std.proofs.Common.{◌≡◌, ◌-◌, length}
 use Rattle.passes.specs.Plain.Persistence.{decay, weight}
-use Rattle.num.specs.Laws.Rewrite.{Rewritten, none, more, all}
+use Rattle.num.specs.Laws.Rewrite.{Rewritten}
 use Rattle.passes.proofs.persistence.weights.Given as goal
 
 abbrev pub invariant-loop-j : goal.invariant-loop-j

@@ -1,6 +1,6 @@
 -- `passes::rows::copy` meets its contract. Assumes nothing.
-use Rattle.std.proofs.Common.{◌-◌, length, get_or, refl, ◌∙◌, arith}
-use Rattle.num.specs.Laws.Rewrite.{Rewritten, none, more, all, rewrite_copy}
+use Rattle.std.proofs.Common.{refl, ◌∙◌, arith}
+use Rattle.num.specs.Laws.Rewrite.{none, more, all, rewrite_copy}
 use Rattle.passes.proofs.rows.copy.Goals as goal
 
 pub loop-i-init : goal.loop-i-init

@@ -1,5 +1,4 @@
 -- `passes::rows::position` meets its contract. Assumes nothing.
-use Rattle.std.proofs.Common.{rules}
 use Rattle.passes.specs as Text
 use Rattle.passes.proofs.rows.position.Goals as goal
 

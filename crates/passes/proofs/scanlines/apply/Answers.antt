@@ -1,8 +1,7 @@
 -- `passes::scanlines::apply` meets its contract: row by row. Assumes nothing.
-use Rattle.std.proofs.Common.{◌+◌, ◌-◌, ◌≤◌, length, arith}
+use Rattle.std.proofs.Common.{◌+◌, ◌≤◌, length, arith}
 use Rattle.passes.specs as Text
-use Rattle.passes.specs.Plain.Scanlines.{word_at}
-use Rattle.passes.proofs.RowLoops.{Rowed, no_rows, row_in, rows_all, row-loop}
+use Rattle.passes.proofs.RowLoops.{no_rows, row_in, rows_all, row-loop}
 use Rattle.passes.proofs.scanlines.apply.Goals as goal
 use Rattle.passes.proofs.scanlines.apply.Lts as lts
 use Rattle.passes.proofs.scanlines.apply.Reads as reads

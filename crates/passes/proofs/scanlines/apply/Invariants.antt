@@ -1,8 +1,7 @@
 -- `passes::scanlines::apply` meets its contract: row by row. Assumes nothing.
-use Rattle.std.proofs.Common.{◌+◌, ◌-◌, ◌≤◌, length, arith}
-use Rattle.passes.specs as Text
+use Rattle.std.proofs.Common.{◌-◌}
 use Rattle.passes.specs.Plain.Scanlines.{word_at}
-use Rattle.passes.proofs.RowLoops.{Rowed, no_rows, row_in, rows_all, row-loop}
+use Rattle.passes.proofs.RowLoops.{Rowed}
 use Rattle.passes.proofs.scanlines.apply.Given as goal
 
 abbrev pub invariant-loop-y : goal.invariant-loop-y

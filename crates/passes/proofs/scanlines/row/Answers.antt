@@ -1,11 +1,11 @@
 -- `passes::scanlines::row` meets its contract: an even row stays, and each word of an odd one is dimmed. Assumes nothing.
-use Rattle.std.proofs.Common.{◌≡◌, ℕ, zero, suc, ◌-◌, length, sym, refl, ◌∙◌, arith}
+use Rattle.std.proofs.Common.{◌≡◌, ℕ, zero, suc, sym, refl, ◌∙◌}
 use lib.Ieee.{Float}
 use Rattle.num.specs.Const.{c1_0}
 use Rattle.num.specs.F32.{◌⊖◌}
-use Rattle.num.specs.Laws.Rewrite.{Rewritten, none, more, all, rewrite_same}
+use Rattle.num.specs.Laws.Rewrite.{none, more, all, rewrite_same}
 use Rattle.passes.specs as Text
-use Rattle.passes.specs.Plain.Scanlines.{word_at, in_row}
+use Rattle.passes.specs.Plain.Scanlines.{in_row}
 use Rattle.passes.specs.Plain.Pixel.{dim}
 use Rattle.passes.proofs.scanlines.row.Goals as goal
 

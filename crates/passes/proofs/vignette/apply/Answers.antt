@@ -1,10 +1,8 @@
 -- `passes::vignette::apply` meets its contract: the quarter's table, and then row by row. Assumes nothing.
-use Rattle.std.proofs.Common.{◌-◌, sym, arith}
+use Rattle.std.proofs.Common.{sym, arith}
 use Rattle.passes.specs as Text
-use Rattle.passes.specs.Plain.Pixel.{dim}
-use Rattle.passes.specs.Plain.Vignette.{factor_at}
-use Rattle.passes.proofs.RowLoops.{Rowed, no_rows, row_in, row_length, row_by, rows_all}
-use Rattle.passes.proofs.Quarter.{Table, quarter_in, quarter_frame, kept, filled, rest, line_in, line-length}
+use Rattle.passes.proofs.RowLoops.{no_rows, row_in, row_length, row_by, rows_all}
+use Rattle.passes.proofs.Quarter.{quarter_in, quarter_frame, kept, filled, rest, line_in, line-length}
 use Rattle.passes.proofs.Quarter.{by-line}
 use Rattle.passes.proofs.vignette.apply.Goals as goal
 

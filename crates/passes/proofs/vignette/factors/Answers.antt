@@ -1,8 +1,6 @@
 -- `passes::vignette::factors` meets its contract. Assumes nothing.
-use Rattle.std.proofs.Common.{◌-◌, length, arith}
 use lib.Ieee.{nan}
-use Rattle.num.specs.Laws.Rewrite.{Rewritten, none, more, all}
-use Rattle.passes.specs.Plain.Vignette.{factor}
+use Rattle.num.specs.Laws.Rewrite.{none, more, all}
 use Rattle.passes.proofs.vignette.factors.Goals as goal
 
 pub loop-x-init : goal.loop-x-init

@@ -1,7 +1,6 @@
 -- `passes::vignette::factors` meets its contract. Assumes nothing.
-use Rattle.std.proofs.Common.{◌-◌, length, arith}
-use lib.Ieee.{nan}
-use Rattle.num.specs.Laws.Rewrite.{Rewritten, none, more, all}
+use Rattle.std.proofs.Common.{◌-◌, length}
+use Rattle.num.specs.Laws.Rewrite.{Rewritten}
 use Rattle.passes.specs.Plain.Vignette.{factor}
 use Rattle.passes.proofs.vignette.factors.Given as goal
 

@@ -1,5 +1,5 @@
 -- `passes::vignette::line` meets its contract: squares, their roots, and the factors of those. Assumes nothing.
-use Rattle.std.proofs.Common.{◌∙◌, rules}
+use Rattle.std.proofs.Common.{◌∙◌}
 use Rattle.num.specs.F32.{◌⊕◌}
 use Rattle.num.specs.Laws.Rewrite.{every_twice}
 use Rattle.num.specs.Root.{root_of}

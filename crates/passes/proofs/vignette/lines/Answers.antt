@@ -1,7 +1,6 @@
 -- `passes::vignette::lines` meets its contract: line by line. Assumes nothing.
-use Rattle.std.proofs.Common.{◌-◌, arith}
-use Rattle.passes.specs.Plain.Vignette.{factor_at}
-use Rattle.passes.proofs.RowLoops.{Rowed, no_rows, row_in, row_length, row_done, rows_all}
+use Rattle.std.proofs.Common.{arith}
+use Rattle.passes.proofs.RowLoops.{no_rows, row_in, row_length, row_done, rows_all}
 use Rattle.passes.proofs.vignette.lines.Goals as goal
 
 pub loop-y-init : goal.loop-y-init

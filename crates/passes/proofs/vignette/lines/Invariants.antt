@@ -1,7 +1,7 @@
 -- `passes::vignette::lines` meets its contract: line by line. Assumes nothing.
-use Rattle.std.proofs.Common.{◌-◌, arith}
+use Rattle.std.proofs.Common.{◌-◌}
 use Rattle.passes.specs.Plain.Vignette.{factor_at}
-use Rattle.passes.proofs.RowLoops.{Rowed, no_rows, row_in, row_length, row_done, rows_all}
+use Rattle.passes.proofs.RowLoops.{Rowed}
 use Rattle.passes.proofs.vignette.lines.Given as goal
 
 abbrev pub invariant-loop-y : goal.invariant-loop-y

@@ -1,5 +1,4 @@
 -- `passes::vignette::offset_squared` meets its contract. Assumes nothing.
-use Rattle.std.proofs.Common.{rules}
 use Rattle.passes.specs as Text
 use Rattle.passes.proofs.vignette.offset_squared.Goals as goal
 

@@ -1,10 +1,7 @@
 -- `passes::vignette::row` meets its contract: up to the middle x is the nearer to 0 of x and n - x, and from there n - x is. Assumes nothing.
-use Rattle.std.proofs.Common.{◌≡◌, ℕ, ◌-◌, ◌≤◌, List, length, get_or, refl, arith, length-set}
-use lib.Ieee.{Float, nan}
-use Rattle.passes.specs.Plain.Pixel.{dim}
-use Rattle.num.specs.Laws.Rewrite.{Rewritten, none, more, all}
+use Rattle.std.proofs.Common.{◌≡◌, ◌-◌, length, refl, arith, length-set}
+use Rattle.num.specs.Laws.Rewrite.{none, more, all}
 use Rattle.passes.proofs.Mirror.{nearer}
-use Rattle.passes.proofs.vignette.row.Invariants.{Done}
 use Rattle.passes.proofs.vignette.row.Goals as goal
 
 pub loop-x-init : goal.loop-x-init

@@ -1,8 +1,8 @@
 -- `passes::vignette::row` meets its contract: up to the middle x is the nearer to 0 of x and n - x, and from there n - x is. Assumes nothing.
-use Rattle.std.proofs.Common.{◌≡◌, ℕ, ◌-◌, ◌≤◌, List, length, get_or, refl, arith, length-set}
+use Rattle.std.proofs.Common.{◌≡◌, ℕ, ◌-◌, ◌≤◌, List, length, get_or}
 use lib.Ieee.{Float, nan}
 use Rattle.passes.specs.Plain.Pixel.{dim}
-use Rattle.num.specs.Laws.Rewrite.{Rewritten, none, more, all}
+use Rattle.num.specs.Laws.Rewrite.{Rewritten}
 use Rattle.passes.proofs.Mirror.{nearer}
 use Rattle.passes.proofs.vignette.row.Given as goal
 

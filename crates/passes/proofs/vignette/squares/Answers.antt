@@ -1,9 +1,8 @@
 -- `passes::vignette::squares` meets its contract. Assumes nothing.
-use Rattle.std.proofs.Common.{◌-◌, length, ap, arith}
+use Rattle.std.proofs.Common.{ap, arith}
 use lib.Ieee.{Float, nan}
 use Rattle.num.specs.F32.{◌⊕◌}
-use Rattle.num.specs.Laws.Rewrite.{Rewritten, none, more, all}
-use Rattle.passes.specs.Plain.Vignette.{offset_squared}
+use Rattle.num.specs.Laws.Rewrite.{none, more, all}
 use Rattle.passes.proofs.vignette.squares.Goals as goal
 
 pub loop-x-init : goal.loop-x-init

@@ -1,8 +1,7 @@
 -- `passes::vignette::squares` meets its contract. Assumes nothing.
-use Rattle.std.proofs.Common.{◌-◌, length, ap, arith}
-use lib.Ieee.{Float, nan}
+use Rattle.std.proofs.Common.{◌-◌, length}
 use Rattle.num.specs.F32.{◌⊕◌}
-use Rattle.num.specs.Laws.Rewrite.{Rewritten, none, more, all}
+use Rattle.num.specs.Laws.Rewrite.{Rewritten}
 use Rattle.passes.specs.Plain.Vignette.{offset_squared}
 use Rattle.passes.proofs.vignette.squares.Given as goal
 

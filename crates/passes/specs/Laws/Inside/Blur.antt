@@ -3,7 +3,8 @@
 -- quotient's test passes. Of samples in -b..b the weighted sum is in -129 b..129 b, and the quotient too. Assumes nothing.
 use Rattle.std.specs.Prelude.{◌≡◌, ℕ, zero, suc, ◌+◌, ◌-◌, ◌*◌, ◌<◌, ◌≤◌, Bool, true, false, T, ◌⊎◌, nat_le, nat_lt, Float}
 use Rattle.std.proofs.Math.Path.{refl, subst}
-use Rattle.std.proofs.Common.{sym, ap, ◌∙◌, inl, inr, zero-mul, suc-mul, le_refl, mul-one, le_trans, add-one, ltb-true, ltb-false, le-leb, lt-ltb, true≢false, le→leb, lit≤}
+use Rattle.std.proofs.Common.{sym, ap, ◌∙◌, inl, inr, zero-mul, suc-mul, le_refl, mul-one, le_trans, add-one, ltb-true, ltb-false, le-leb, lt-ltb}
+use Rattle.std.proofs.Common.{true≢false, le→leb, lit≤}
 use Rattle.std.proofs.Math.Nat.{mul-le-mul_right}
 use native.Mathlib.Omega.{arith}
 use Rattle.num.specs.Laws.Bounds.{widen}

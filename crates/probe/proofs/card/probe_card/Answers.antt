@@ -1,5 +1,4 @@
 -- `probe::card::probe_card` meets its contract: a card is refused, or its station is written. Assumes nothing.
-use borrow.Author.Rules.{rules}
 use Prim.Native.Nat.{ℕ, ◌+◌}
 use mathlib.Core.List.{List, []}
 use mathlib.Core.Path.{◌≡◌, ap, sym, ◌∙◌}

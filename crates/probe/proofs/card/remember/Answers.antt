@@ -1,7 +1,7 @@
 -- `probe::card::remember` meets its contract: past the twelfth place there is no record to change. Assumes nothing.
 use native.Mathlib.Omega.{arith}
 use mathlib.Core.List.{List}
-use mathlib.Core.Path.{◌≡◌, refl, ap, sym}
+use mathlib.Core.Path.{◌≡◌, ap, sym}
 use borrow.Author.Rules.{rules}
 use lib.ListN.{length}
 use lib.Seq.{set_out}

@@ -1,5 +1,4 @@
 -- `probe::pass::probe_persistence` meets its contract: the pass's own, at the sizes in the words; afterwards the frame's is held. Assumes nothing.
-use borrow.Author.Rules.{rules}
 use Prim.Native.Nat.{ℕ}
 use mathlib.Core.List.{List}
 use mathlib.Core.Path.{◌≡◌, ap, ap₂, sym, ◌∙◌}

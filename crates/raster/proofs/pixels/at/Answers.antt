@@ -1,5 +1,4 @@
 -- `raster::pixels::at` meets its contract: a byte is below 256. Assumes nothing.
-use borrow.Author.Rules.{rules}
 use mathlib.Core.Path.{refl}
 use native.Mathlib.Omega.{arith}
 use Rattle.raster.proofs.pixels.at.Goals as goal

@@ -1,8 +1,7 @@
 -- `raster::pixels::pack` meets its contract: three bytes for each word. Assumes nothing.
-use Prim.Native.Nat.{◌-◌}
 use native.Mathlib.Omega.{arith}
-use lib.ListN.{length, length-set}
-use Rattle.raster.proofs.Packing.{Packed, none, more, all}
+use lib.ListN.{length-set}
+use Rattle.raster.proofs.Packing.{none, more, all}
 use Rattle.raster.proofs.pixels.pack.Goals as goal
 
 pub loop-i-init : goal.loop-i-init

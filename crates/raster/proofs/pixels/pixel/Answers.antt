@@ -1,5 +1,4 @@
 -- `raster::pixels::pixel` meets its contract: three bytes make 24 bits. Assumes nothing.
-use native.Mathlib.Omega.{arith}
 use Rattle.raster.proofs.pixels.pixel.Goals as goal
 
 pub returns : goal.returns

@@ -1,8 +1,5 @@
 -- `raster::pixels::unpack` meets its contract: pixel after pixel. Assumes nothing.
-use Prim.Native.Nat.{◌-◌}
-use native.Mathlib.Omega.{arith}
-use lib.ListN.{length}
-use Rattle.raster.proofs.Unpacking.{Stored, none, more, all}
+use Rattle.raster.proofs.Unpacking.{none, more, all}
 use Rattle.raster.proofs.pixels.unpack.Goals as goal
 
 pub loop-i-init : goal.loop-i-init

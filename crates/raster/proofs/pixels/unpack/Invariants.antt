@@ -1,8 +1,7 @@
 -- `raster::pixels::unpack` meets its contract: pixel after pixel. Assumes nothing.
 use Prim.Native.Nat.{◌-◌}
-use native.Mathlib.Omega.{arith}
 use lib.ListN.{length}
-use Rattle.raster.proofs.Unpacking.{Stored, none, more, all}
+use Rattle.raster.proofs.Unpacking.{Stored}
 use Rattle.raster.proofs.pixels.unpack.Given as goal
 
 abbrev pub invariant-loop-i : goal.invariant-loop-i

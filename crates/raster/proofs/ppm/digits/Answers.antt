@@ -1,10 +1,6 @@
 -- `raster::ppm::digits` meets its contract: digit after digit. Assumes nothing.
-use borrow.Author.Rules.{rules}
-use Prim.Native.Nat.{◌-◌}
 use mathlib.Core.Path.{refl}
-use native.Mathlib.Omega.{arith}
-use lib.ListN.{length}
-use Rattle.raster.proofs.Counting.{Digits, digit-within, digits_more, digits-stop, digits_end_lem}
+use Rattle.raster.proofs.Counting.{digit-within, digits_more, digits-stop, digits_end_lem}
 use Rattle.raster.proofs.ppm.digits.Goals as goal
 
 pub loop-i-init : goal.loop-i-init

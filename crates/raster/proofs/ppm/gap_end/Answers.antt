@@ -1,10 +1,6 @@
 -- `raster::ppm::gap_end` meets its contract: byte after byte. Assumes nothing.
-use borrow.Author.Rules.{rules}
-use Prim.Native.Nat.{◌-◌}
 use mathlib.Core.Path.{refl}
-use native.Mathlib.Omega.{arith}
-use lib.ListN.{length}
-use Rattle.raster.proofs.Counting.{Gap, gap_more, gap-stops, gap_ends}
+use Rattle.raster.proofs.Counting.{gap_more, gap-stops, gap_ends}
 use Rattle.raster.proofs.ppm.gap_end.Goals as goal
 
 pub loop-i-init : goal.loop-i-init

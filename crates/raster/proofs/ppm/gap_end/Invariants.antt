@@ -1,10 +1,7 @@
 -- `raster::ppm::gap_end` meets its contract: byte after byte. Assumes nothing.
-use borrow.Author.Rules.{rules}
 use Prim.Native.Nat.{◌-◌}
-use mathlib.Core.Path.{refl}
-use native.Mathlib.Omega.{arith}
 use lib.ListN.{length}
-use Rattle.raster.proofs.Counting.{Gap, gap_more, gap-stops, gap_ends}
+use Rattle.raster.proofs.Counting.{Gap}
 use Rattle.raster.proofs.ppm.gap_end.Given as goal
 
 abbrev pub invariant-loop-i : goal.invariant-loop-i

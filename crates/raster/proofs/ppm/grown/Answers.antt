@@ -1,5 +1,4 @@
 -- `raster::ppm::grown` meets its contract. Assumes nothing.
-use borrow.Author.Rules.{rules}
 use Rattle.raster.proofs.Tests.{tests}
 use Rattle.raster.proofs.ppm.grown.Goals as goal
 

@@ -1,5 +1,4 @@
 -- `raster::ppm::header` meets its contract: each number was taken or refused, and the definition goes the same way. Assumes nothing.
-use borrow.Author.Rules.{rules}
 use native.Mathlib.Omega.{arith}
 use Rattle.raster.specs.Ppm.{header_in}
 use Rattle.raster.proofs.Steps.{steps}

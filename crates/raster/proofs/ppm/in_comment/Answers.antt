@@ -1,5 +1,4 @@
 -- `raster::ppm::in_comment` meets its contract: each test went as the definition's. Assumes nothing.
-use borrow.Author.Rules.{rules}
 use mathlib.Core.Path.{ap}
 use mathlib.Core.Bool.{not}
 use Rattle.raster.proofs.Tests.{tests}

@@ -1,5 +1,4 @@
 -- `raster::ppm::is_p6` meets its contract: each test went as the definition's. Assumes nothing.
-use borrow.Author.Rules.{rules}
 use Rattle.raster.proofs.Tests.{tests}
 use Rattle.raster.proofs.ppm.is_p6.Goals as goal
 

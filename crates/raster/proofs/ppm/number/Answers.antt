@@ -1,5 +1,4 @@
 -- `raster::ppm::number` meets its contract: the gap and the digits end where the definition says. Assumes nothing.
-use borrow.Author.Rules.{rules}
 use borrow.Author.Tests.{eq-eqb, ne_eqb, le-leb, lt-leb}
 use mathlib.Core.Path.{sym}
 use Rattle.raster.specs.Ppm.{gap_in, digits_in, number_in}

@@ -1,5 +1,4 @@
 -- `raster::ppm::parse` meets its contract: each test went as the definition's. Assumes nothing.
-use borrow.Author.Rules.{rules}
 use native.Mathlib.Nat.{mul-le-mul}
 use native.Mathlib.Omega.{arith}
 use Rattle.raster.specs.Ppm.{frame_in, parse_of}

@@ -1,5 +1,4 @@
 -- `replay::adler::add` meets its contract. Assumes nothing.
-use borrow.Author.Rules.{rules}
 use mathlib.Core.Path.{refl}
 use native.Mathlib.Omega.{arith}
 use Rattle.replay.specs.Adler.{add_byte}

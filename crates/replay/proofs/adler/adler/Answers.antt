@@ -1,13 +1,10 @@
 -- `replay::adler::adler` meets its contract: the sums of the first i bytes. Assumes nothing.
-use Prim.Native.Nat.{ℕ, ◌+◌, ◌*◌, ◌-◌, ◌≤◌}
+use Prim.Native.Nat.{◌+◌, ◌*◌}
 use mathlib.Core.Path.{ap}
-use mathlib.Core.List.{List}
 use native.Mathlib.Omega.{arith}
-use lib.ListN.{length}
-use Rattle.passes.specs.Laws.Fold.{Folded, none, more, all}
-use Rattle.replay.specs.Adler.{sums, add_byte, adler_of}
+use Rattle.passes.specs.Laws.Fold.{none, more, all}
+use Rattle.replay.specs.Adler.{adler_of}
 use Rattle.replay.specs.declared.adler.Sums.{Sums}
-use Rattle.replay.proofs.adler.adler.Invariants.{Summed}
 use Rattle.replay.proofs.adler.adler.Goals as goal
 
 pub loop-i-init : goal.loop-i-init

@@ -1,11 +1,9 @@
 -- `replay::adler::adler` meets its contract: the sums of the first i bytes. Assumes nothing.
-use Prim.Native.Nat.{ℕ, ◌+◌, ◌*◌, ◌-◌, ◌≤◌}
-use mathlib.Core.Path.{ap}
+use Prim.Native.Nat.{ℕ, ◌-◌, ◌≤◌}
 use mathlib.Core.List.{List}
-use native.Mathlib.Omega.{arith}
 use lib.ListN.{length}
-use Rattle.passes.specs.Laws.Fold.{Folded, none, more, all}
-use Rattle.replay.specs.Adler.{sums, add_byte, adler_of}
+use Rattle.passes.specs.Laws.Fold.{Folded}
+use Rattle.replay.specs.Adler.{sums, add_byte}
 use Rattle.replay.specs.declared.adler.Sums.{Sums}
 use Rattle.replay.proofs.adler.adler.Given as goal
 

@@ -1,5 +1,4 @@
 -- `sheets::event::frame` meets its contract: two sides, and as many words as they say. Assumes nothing.
-use borrow.Author.Rules.{rules}
 use mathlib.Core.Path.{◌≡◌}
 use native.Mathlib.Omega.{arith}
 use Rattle.cards.specs.Bits.{field_at}

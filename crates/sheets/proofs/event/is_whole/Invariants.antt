@@ -1,13 +1,8 @@
 -- `sheets::event::is_whole` meets its contract: after each event the rest of the sheet tells as much as all of it. Assumes nothing.
-use borrow.Author.Rules.{rules}
-use Prim.Native.Nat.{ℕ, suc, ◌+◌, ◌-◌, ◌*◌, ◌<◌, ◌≤◌}
-use mathlib.Core.List.{List}
-use mathlib.Core.Path.{◌≡◌, sym, ap, ◌∙◌}
-use native.Mathlib.Omega.{arith}
+use Prim.Native.Nat.{◌+◌, ◌-◌, ◌*◌, ◌<◌, ◌≤◌}
+use mathlib.Core.Path.{◌≡◌}
 use Rattle.sheets.specs.Events.{rest_at, sheet_at}
 use Rattle.sheets.specs.Promises.{is_taken}
-use Rattle.sheets.proofs.Reading.{field_took, field_not, small, next, read_took, read-not}
-use Rattle.sheets.proofs.Events.{still, no_event, one_event, last_event, no_count, counted}
 use Rattle.sheets.proofs.event.is_whole.Given as goal
 
 abbrev pub invariant-loop-i : goal.invariant-loop-i

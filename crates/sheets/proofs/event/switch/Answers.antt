@@ -1,5 +1,4 @@
 -- `sheets::event::switch` meets its contract: a kind and a position, made or asked for. Assumes nothing.
-use borrow.Author.Rules.{rules}
 use Prim.Native.Nat.{ℕ, ◌+◌, ◌≤◌}
 use mathlib.Core.Bool.{Bool, true, false, cond}
 use mathlib.Core.List.{List}

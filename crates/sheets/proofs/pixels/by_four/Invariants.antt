@@ -1,11 +1,9 @@
 -- `sheets::pixels::by_four` meets its contract: four words after four words. Assumes nothing.
-use Prim.Native.Nat.{ℕ, ◌+◌, ◌-◌, ◌%◌, ◌<◌}
-use mathlib.Core.Path.{◌≡◌, refl, sym, ◌∙◌}
-use native.Mathlib.Omega.{arith}
+use Prim.Native.Nat.{◌-◌, ◌%◌}
+use mathlib.Core.Path.{◌≡◌}
 use lib.ListN.{length}
-use Rattle.num.specs.Laws.Rewrite.{none, all}
 use Rattle.sheets.specs.Promises.{word_at}
-use Rattle.sheets.proofs.Words.{Put, one_more, so_many}
+use Rattle.sheets.proofs.Words.{Put}
 use Rattle.sheets.proofs.pixels.by_four.Given as goal
 
 abbrev pub invariant-loop-i : goal.invariant-loop-i

@@ -1,11 +1,9 @@
 -- `sheets::pixels::one_by_one` meets its contract: word after word. Assumes nothing.
-use Prim.Native.Nat.{◌-◌}
 use mathlib.Core.Path.{refl}
 use native.Mathlib.Omega.{arith}
-use lib.ListN.{length}
 use Rattle.num.specs.Laws.Rewrite.{none, all}
 use Rattle.sheets.specs.Promises.{word_at}
-use Rattle.sheets.proofs.Words.{Put, one_more}
+use Rattle.sheets.proofs.Words.{one_more}
 use Rattle.sheets.proofs.pixels.one_by_one.Goals as goal
 
 pub loop-i-init : goal.loop-i-init

@@ -1,11 +1,8 @@
 -- `sheets::pixels::one_by_one` meets its contract: word after word. Assumes nothing.
 use Prim.Native.Nat.{◌-◌}
-use mathlib.Core.Path.{refl}
-use native.Mathlib.Omega.{arith}
 use lib.ListN.{length}
-use Rattle.num.specs.Laws.Rewrite.{none, all}
 use Rattle.sheets.specs.Promises.{word_at}
-use Rattle.sheets.proofs.Words.{Put, one_more}
+use Rattle.sheets.proofs.Words.{Put}
 use Rattle.sheets.proofs.pixels.one_by_one.Given as goal
 
 abbrev pub invariant-loop-i : goal.invariant-loop-i

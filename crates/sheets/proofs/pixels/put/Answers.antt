@@ -1,5 +1,4 @@
 -- `sheets::pixels::put` meets its contract: one word, at its place. Assumes nothing.
-use borrow.Author.Rules.{rules}
 use mathlib.Core.Path.{ap}
 use native.Mathlib.Omega.{arith}
 use lib.ListN.{set}

@@ -1,5 +1,4 @@
 -- `sheets::pixels::unpack` meets its contract: as many words as there are fours, and then the rest. Assumes nothing.
-use borrow.Author.Rules.{rules}
 use Prim.Native.Nat.{ℕ, ◌+◌, ◌*◌, ◌-◌, ◌/◌}
 use mathlib.Core.Path.{◌≡◌, sym, ap}
 use native.Mathlib.Omega.{arith}

@@ -1,6 +1,4 @@
 -- `sheets::pixels::word` meets its contract: 24 bits of four bytes. Assumes nothing.
-use native.Mathlib.Omega.{arith}
-use borrow.Author.Rules.{rules}
 use Rattle.sheets.proofs.Bytes.{word-is}
 use Rattle.sheets.proofs.pixels.word.Goals as goal
 

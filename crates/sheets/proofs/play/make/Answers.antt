@@ -1,5 +1,4 @@
 -- `sheets::play::make` meets its contract: each event is the call of its name. Assumes nothing.
-use borrow.Author.Rules.{rules}
 use mathlib.Core.Path.{refl, ap, subst}
 use Rattle.chain.specs.Machine.{call}
 use Rattle.sheets.specs.Events.{reset, switch, step, ask, commit}

@@ -1,5 +1,4 @@
 -- `sheets::play::play` meets its contract: the station and the whole sheet are looked at before the first event. Assumes nothing.
-use borrow.Author.Rules.{rules}
 use borrow.Author.Tests.{not-true, not-false}
 use mathlib.Core.Bool.{true}
 use mathlib.Core.Path.{◌≡◌, sym, ap, ◌∙◌}

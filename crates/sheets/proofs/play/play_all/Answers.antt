@@ -1,10 +1,8 @@
 -- `sheets::play::play_all` meets its contract: event after event, while the rest of the sheet tells what all of it does. Assumes nothing.
-use borrow.Author.Rules.{rules}
-use Prim.Native.Nat.{ℕ, suc, ◌+◌, ◌-◌, ◌*◌, ◌≤◌}
+use Prim.Native.Nat.{ℕ, suc, ◌+◌, ◌-◌, ◌≤◌}
 use mathlib.Core.List.{List}
 use mathlib.Core.Path.{◌≡◌, refl, sym, ap, ◌∙◌}
 use native.Mathlib.Omega.{arith}
-use lib.ListN.{length}
 use Rattle.chain.specs.Agree.{opened}
 use Rattle.cards.specs.Step.{took}
 use Rattle.sheets.specs.Events.{event_at, rest_at}

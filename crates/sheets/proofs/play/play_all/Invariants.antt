@@ -1,17 +1,12 @@
 -- `sheets::play::play_all` meets its contract: event after event, while the rest of the sheet tells what all of it does. Assumes nothing.
-use borrow.Author.Rules.{rules}
-use Prim.Native.Nat.{ℕ, suc, ◌+◌, ◌-◌, ◌*◌, ◌≤◌}
-use mathlib.Core.List.{List}
-use mathlib.Core.Path.{◌≡◌, refl, sym, ap, ◌∙◌}
-use native.Mathlib.Omega.{arith}
+use Prim.Native.Nat.{◌+◌, ◌-◌, ◌*◌, ◌≤◌}
+use mathlib.Core.Path.{◌≡◌}
 use lib.ListN.{length}
 use Rattle.chain.specs.Agree.{opened}
-use Rattle.cards.specs.Step.{took}
-use Rattle.sheets.specs.Events.{event_at, rest_at}
-use Rattle.sheets.specs.Play.{Lent, Outcome, begun, played_of}
-use Rattle.sheets.specs.Promises.{lent_of, Within, told as told_of}
-use Rattle.sheets.proofs.Reading.{read_took, read-not}
-use Rattle.sheets.proofs.Playing.{Going, going, there, goes_on, at_most, few, recount, lent_alike, ended}
+use Rattle.sheets.specs.Events.{rest_at}
+use Rattle.sheets.specs.Play.{begun, played_of}
+use Rattle.sheets.specs.Promises.{lent_of}
+use Rattle.sheets.proofs.Playing.{Going}
 use Rattle.sheets.proofs.play.play_all.Given as goal
 
 abbrev pub invariant-loop-i : goal.invariant-loop-i

@@ -1,5 +1,4 @@
 -- `sheets::play::show` meets its contract: the station's refusal, or the words and the call. Assumes nothing.
-use borrow.Author.Rules.{rules}
 use Prim.Native.Nat.{ℕ, ◌*◌, ◌≤◌}
 use native.Mathlib.Omega.{arith}
 use mathlib.Core.List.{List, ◌++◌}

@@ -1,5 +1,4 @@
 -- `sheets::write::close` meets its contract: the count stands before the events, and they are a sheet. Assumes nothing.
-use borrow.Author.Rules.{rules}
 use Prim.Native.Nat.{ℕ}
 use mathlib.Core.Path.{refl, subst}
 use native.Mathlib.Omega.{arith}

@@ -1,10 +1,6 @@
 -- `sheets::write::put` meets its contract: bit after bit. Assumes nothing.
-use Prim.Native.Nat.{◌+◌, ◌-◌, ◌/◌, ◌^◌, ◌≤◌}
-use mathlib.Core.Path.{◌≡◌, refl, ◌∙◌}
+use mathlib.Core.Path.{refl, ◌∙◌}
 use native.Mathlib.Omega.{arith}
-use lib.ListN.{length}
-use Rattle.cards.specs.Bits.{field_at}
-use Rattle.sheets.specs.Written.{Writes}
 use Rattle.sheets.proofs.Writing.{no_bit, bit_more, all_bits}
 use Rattle.sheets.proofs.write.put.Goals as goal
 

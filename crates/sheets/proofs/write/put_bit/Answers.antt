@@ -1,5 +1,4 @@
 -- `sheets::write::put_bit` meets its contract: a byte is replaced by one with the bit in its place. Assumes nothing.
-use borrow.Author.Rules.{rules}
 use Prim.Native.Nat.{◌-◌, ◌%◌}
 use native.Mathlib.Omega.{arith}
 use lib.Pow.{shr_le}

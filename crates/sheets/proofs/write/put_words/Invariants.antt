@@ -1,12 +1,10 @@
 -- `sheets::write::put_words` meets its contract: word after word. Assumes nothing.
 use Prim.Native.Nat.{◌+◌, ◌*◌, ◌-◌, ◌≤◌}
-use mathlib.Core.Path.{◌≡◌, refl, ◌∙◌}
-use native.Mathlib.Omega.{arith}
+use mathlib.Core.Path.{◌≡◌}
 use lib.ListN.{length}
 use Rattle.raster.specs.Pixels.{unpacked}
 use Rattle.sheets.specs.Events.{words_at}
 use Rattle.sheets.specs.Written.{Writes}
-use Rattle.sheets.proofs.Writing.{no_word, word_more, all_words}
 use Rattle.sheets.proofs.write.put_words.Given as goal
 
 abbrev pub invariant-loop-i : goal.invariant-loop-i

@@ -1,5 +1,4 @@
 -- `sheets::write::reset` meets its contract: its number is all that it has. Assumes nothing.
-use borrow.Author.Rules.{rules}
 use mathlib.Core.Path.{refl}
 use native.Mathlib.Omega.{arith}
 use Rattle.sheets.specs.Events.{reset}

@@ -1,5 +1,4 @@
 -- `sheets::write::switch` meets its contract: its number, its kind and its position. Assumes nothing.
-use borrow.Author.Rules.{rules}
 use Prim.Native.Nat.{◌+◌}
 use mathlib.Core.Path.{◌≡◌}
 use native.Mathlib.Omega.{arith}
