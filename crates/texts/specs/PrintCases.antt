@@ -82,6 +82,6 @@ answers =
     ∷ []
 
 pub answers_hold : Hold answers
-unfolding of_bits neg lt good_station normal_chain normal_pass settled held_by holding same_held fine_held print_reply print_into text_of lines_text line_text settings_text
-    setting_text real_text pointed down spelled whole_of places_of negative_of
+unfolding of_bits neg lt good_station normal_chain normal_pass settled held_by holding same_held fine_held print_reply print_into text_of lines_text line_text
+    settings_text setting_text real_text pointed down spelled whole_of places_of negative_of
 answers_hold = refl

@@ -1,6 +1,8 @@
 -- A binary32 is told by its sign and its size, and so it is the nearest to its own size; and what its digits and its point say is that size. Assumes nothing.
 use Rattle.std.specs.Prelude.{ℕ, zero, suc, ◌+◌, ◌-◌, ◌*◌, ◌/◌, ◌%◌, ◌^◌, ◌≤◌, ◌<◌, ◌≡◌, refl, Bool, true, ◌&&◌, cond, T, leb, ltb, eqb, ℤ, pos, negsuc, Float}
-use Rattle.std.proofs.Common.{sym, ap, ◌∙◌, subst, zero-mul, mul-one, mul_comm, mul_assoc, mul_right_comm, mul-lt-mul_of_pos_right, lt_of_mul-lt-mul_right, lt_of_not-le, le_of_suc-le-suc, lt_irrefl, lt_of_lt_of_le, arith, ltb→lt, leb→le, eqb→eq, lit≤, pow-add, pow_pos}
+use Rattle.std.proofs.Common.{sym, ap, ◌∙◌, subst, zero-mul, mul-one, mul_comm, mul_assoc, mul_right_comm, mul-lt-mul_of_pos_right}
+use Rattle.std.proofs.Common.{lt_of_mul-lt-mul_right, lt_of_not-le, le_of_suc-le-suc, lt_irrefl, lt_of_lt_of_le, arith, ltb→lt, leb→le, eqb→eq, lit≤}
+use Rattle.std.proofs.Common.{pow-add, pow_pos}
 use Rattle.std.proofs.lemmas.Bool.{false≢true}
 use Rattle.std.proofs.Math.Nat.{eq_of_mul-eq-mul_right}
 use Rattle.std.specs.Float.{nan, inf, fin, Format, binary32}
