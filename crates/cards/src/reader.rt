@@ -287,7 +287,7 @@ pub struct Opened {
 }
 
 // What stands in a place past n.
-pub(crate) fn filler() -> Record
+pub fn filler() -> Record
     ensures { result ≡ unused }
 {
     let pass = Pass::Scanlines { strength: 0.0 };

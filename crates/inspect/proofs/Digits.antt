@@ -2,31 +2,16 @@
 use Prim.Native.Nat.{ℕ, zero, suc, ◌+◌, ◌-◌, ◌*◌, ◌/◌, ◌%◌, ◌^◌, ◌≤◌, ◌<◌}
 use mathlib.Core.Path.{◌≡◌, refl, sym, ap, ◌∙◌, subst}
 use mathlib.Core.List.{List, [], ◌∷◌, ◌++◌, append-nil}
-use native.Mathlib.Nat.{zero-mul, suc-mul, pow-suc, add-mul, mul_assoc, mul-le-mul_right}
+use native.Mathlib.Nat.{zero-mul, suc-mul, add-mul, mul_assoc, mul-le-mul_right}
 use native.Mathlib.Numerals.{add-one, unary_clauses}
 use native.Mathlib.Omega.{arith}
 use lib.ListN.{length, get_or, set, take, drop, length-set, drop_of_length-le}
 use lib.Seq.{take_all, append_snoc, drop-cons, take-suc-set, drop-set-lt, drop-drop}
-use Rattle.inspect.specs.Decimal.{number, Digits}
+use Rattle.inspect.specs.Decimal.{number, Digits, spelled}
+use Rattle.inspect.specs.Laws.Digits.{spelled-number, spelled-digits}
+use Rattle.inspect.specs.Private.{Times}
 
 -- ## The digits of a number
-
-unfoldable pub spelled : ℕ → ℕ → List ℕ
-spelled zero m = []
-spelled (suc k) m = m % 10 ∷ spelled k (m / 10)
-
-spelled-number : (k m : ℕ) → m < 10 ^ k → number (spelled k m) ≡ m
-unfolding spelled number
-spelled-number zero m h = omega arith
-spelled-number (suc k) m h =
-    let p : m < 10 ^ k * 10 = subst (λ (n : ℕ). m < n) (pow-suc 10 k) h in
-    omega (arith, spelled-number k (m / 10) (omega arith))
-
-spelled-each : (k m i : ℕ) → get_or (spelled k m) i 0 < 10
-unfolding spelled
-spelled-each zero m i = omega arith
-spelled-each (suc k) m zero = omega arith
-spelled-each (suc k) m (suc i) = spelled-each k (m / 10) i
 
 -- i digits are stored
 pub record Spelled (m : ℕ) (i rest : ℕ) (out : List ℕ) : Type 0 where
@@ -54,7 +39,7 @@ module _ {m i rest : ℕ} {out : List ℕ} (s : Spelled m i rest out) where
   spelled_all l small =
       let none_left : 150 - i ≡ 0 = omega arith in
       let all : spelled 150 m ≡ out = s.same ∙ ap (λ (k : ℕ). take i out ++ spelled k rest) none_left ∙ append-nil (take i out) ∙ take_all i out (omega (arith, s.long)) in
-      (record { long = s.long; each = λ j. subst (λ (xs : List ℕ). get_or xs j 0 < 10) all (spelled-each 150 m j) }, ap number (sym all) ∙ spelled-number 150 m small)
+      (subst Digits all (spelled-digits m), ap number (sym all) ∙ spelled-number 150 m small)
 
 -- ## Times a small number
 
@@ -140,17 +125,25 @@ module _ {by more : ℕ} {ds : List ℕ} {i carry : ℕ} {out : List ℕ} (m : M
     last = rw add-one (m.last ∙ ap (last_of by carry) front);
   }
 
--- all digits are done, and no carry is left where the product has no more digits
-pub done : {by more : ℕ} {ds : List ℕ} {i carry : ℕ} {out : List ℕ} → Multiplied by more ds i carry out → Digits ds → 150 ≤ i → number ds * by + more < 10 ^ 150 → Digits out × (number out ≡ number ds * by + more)
-unfolding times_of
-done {by} {more} {ds} {i} {carry} {out} m h l small =
+-- all digits are done
+pub done : {by more : ℕ} {ds : List ℕ} {i carry : ℕ} {out : List ℕ} → Multiplied by more ds i carry out → Digits ds → 150 ≤ i → Times by more ds carry out
+unfolding times_of last_of
+done {by} {more} {ds} {i} {carry} {out} m h l =
     let none_left : drop i ds ≡ [] = drop_of_length-le ds {i = i} (omega (arith, h.long)) in
     let all : times_of by more ds ≡ out =
     m.same ∙ ap (λ (xs : List ℕ). take i out ++ times_of by carry xs) none_left ∙ append-nil (take i out) ∙ take_all i out (omega (arith, m.digits.long)) in
-    let whole : number out + last_of by more ds * 10 ^ 150 ≡ number ds * by + more =
-    ap (λ (k : ℕ). number out + last_of by more ds * 10 ^ k) (sym h.long) ∙ ap (λ (xs : List ℕ). number xs + last_of by more ds * 10 ^ length ds) (sym all) ∙ times-number by more ds in
-    (m.digits, kept (10 ^ 150) (last_of by more ds) (number out) (number ds * by + more) whole small)
+    let left : last_of by more ds ≡ carry = m.last ∙ ap (last_of by carry) none_left in
+    record {
+      digits = m.digits;
+      small = m.small;
+      whole = ap (λ (c : ℕ). number out + c * 10 ^ 150) (sym left) ∙ ap (λ (k : ℕ). number out + last_of by more ds * 10 ^ k) (sym h.long)
+          ∙ ap (λ (xs : List ℕ). number xs + last_of by more ds * 10 ^ length ds) (sym all) ∙ times-number by more ds;
+    }
+
+-- no carry is left where the product has no more digits
+pub kept : {by more : ℕ} {ds : List ℕ} {carry : ℕ} {out : List ℕ} → Times by more ds carry out → number ds * by + more < 10 ^ 150 → number out ≡ number ds * by + more
+kept {by} {more} {ds} {carry} {out} t = go (10 ^ 150) carry (number out) (number ds * by + more) t.whole
   where
-    kept : (p c n w : ℕ) → n + c * p ≡ w → w < p → n ≡ w
-    kept p zero n w e l = omega (arith, zero-mul p)
-    kept p (suc c) n w e l = absurd (omega (arith, suc-mul c p))
+    go : (p c n w : ℕ) → n + c * p ≡ w → w < p → n ≡ w
+    go p zero n w e l = omega (arith, zero-mul p)
+    go p (suc c) n w e l = absurd (omega (arith, suc-mul c p))

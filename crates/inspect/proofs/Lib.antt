@@ -1,4 +1,4 @@
--- Laws that the proofs of several functions cite: Arms, Compared, Tokens, Walking; of decimal digits: Digits, Powers, Values. The theorems of specs/Claims.antt: Theorems,
+-- Laws that the proofs of several functions cite: Arms, Compared, Tokens, Walking; of decimal digits: Digits, Powers, Values, Doubling. The theorems of specs/Claims.antt: Theorems,
 -- on SameBits.
 pub mod Arms
 pub mod Compared
@@ -7,5 +7,6 @@ pub mod Walking
 pub mod Digits
 pub mod Powers
 pub mod Values
+pub mod Doubling
 pub mod SameBits
 pub mod Theorems

@@ -1,11 +1,13 @@
 -- Powers beside a number: what one turn of a loop takes of them, how large they get, and how those of 2, 5 and 10 fit together. Assumes nothing.
 use Prim.Native.Nat.{ℕ, zero, suc, ◌+◌, ◌-◌, ◌*◌, ◌/◌, ◌%◌, ◌^◌, ◌≤◌, ◌<◌}
-use mathlib.Core.Path.{◌≡◌, sym, ap, ◌∙◌, subst}
+use mathlib.Core.Path.{◌≡◌, refl, sym, ap, ◌∙◌, subst}
 use native.Mathlib.Nat.{pow-zero, pow-suc, one-le-pow, mul_assoc, mul_comm, mul_right_comm, mul-one, le-mul_of_pos_right, lt_of_le_of_lt}
 use native.Mathlib.Nat.{eq_of_mul-eq-mul_right, mul-le-mul, le_of_lt, pow-le-pow_right}
 use native.Mathlib.Omega.{arith}
+use lib.Arith.{digits_mod}
 use lib.Dec.{lit<}
 use lib.Pow.{pow-add}
+use Rattle.inspect.specs.Laws.Digits.{ten, fives_room}
 
 -- a turn that multiplies takes one factor of the power
 once_more : (n by left : ℕ) → n * by ^ suc left ≡ n * by * by ^ left
@@ -31,6 +33,10 @@ room n by left t p l b e h =
 pub finished : (n by left t : ℕ) → left ≡ 0 → n * by ^ left ≡ t → n ≡ t
 finished n by left t none e = sym (mul-one n) ∙ ap (λ (k : ℕ). n * k) (sym (pow-zero by)) ∙ ap (λ (k : ℕ). n * by ^ k) (sym none) ∙ e
 
+-- one factor of a power, last
+pub one_out : (n p : ℕ) → n * 2 ^ suc p ≡ n * 2 ^ p * 2
+one_out n p = ap (λ (k : ℕ). n * k) (pow-suc 2 p) ∙ sym (mul_assoc n (2 ^ p) 2)
+
 -- a turn that halves
 pub halved : (m p n q : ℕ) → m * 2 ^ p ≡ n * 2 ^ q → 0 < q → m % 2 ≡ 0 → m / 2 * 2 ^ p ≡ n * 2 ^ (q - 1)
 halved m p n zero e l even = absurd (omega arith)
@@ -38,18 +44,8 @@ halved m p n (suc q) e l even =
     let back : suc q - 1 ≡ q = omega arith in
     let twice : m / 2 * 2 ≡ m = omega arith in
     let whole : m / 2 * 2 ^ p * 2 ≡ n * 2 ^ q * 2 =
-    mul_right_comm (m / 2) (2 ^ p) 2 ∙ ap (λ (k : ℕ). k * 2 ^ p) twice ∙ e ∙ ap (λ (k : ℕ). n * k) (pow-suc 2 q) ∙ sym (mul_assoc n (2 ^ q) 2) in
+    mul_right_comm (m / 2) (2 ^ p) 2 ∙ ap (λ (k : ℕ). k * 2 ^ p) twice ∙ e ∙ one_out n q in
     ap (λ (k : ℕ). m / 2 * 2 ^ p) back ∙ eq_of_mul-eq-mul_right 2 (omega arith) (m / 2 * 2 ^ p) (n * 2 ^ q) whole ∙ ap (λ (k : ℕ). n * 2 ^ k) (sym back)
-
-ten : (p : ℕ) → 10 ^ p ≡ 2 ^ p * 5 ^ p
-ten zero = simp pow-zero
-ten (suc p) =
-    let t = 2 ^ p in
-    let f = 5 ^ p in
-    pow-suc 10 p ∙ ap (λ (k : ℕ). k * 10) (ten p) ∙ regroup t f ∙ sym (ap (λ (k : ℕ). k * 5 ^ suc p) (pow-suc 2 p) ∙ ap (λ (k : ℕ). t * 2 * k) (pow-suc 5 p))
-  where
-    regroup : (t f : ℕ) → t * f * 10 ≡ t * 2 * (f * 5)
-    regroup t f = sym (sym (mul_assoc (t * 2) f 5) ∙ ap (λ (k : ℕ). k * 5) (mul_right_comm t 2 f) ∙ mul_assoc (t * f) 2 5)
 
 -- ## m * 2 ^ e units of 2 ^ -149, as a decimal number
 
@@ -81,7 +77,29 @@ high_room n m e same l h = lt_of_le_of_lt (mul-le-mul (le_of_lt (subst (λ (k : 
     left e h = omega arith
 
 pub low_room : (d n m p : ℕ) → d ≡ n → n ≤ m → m < 2 ^ 24 → p ≤ 149 → d * 5 ^ p < 10 ^ 150
-low_room d n m p same l h k = lt_of_le_of_lt (mul-le-mul (small d n m same l h) (pow-le-pow_right (omega arith) k)) (lit< tt)
+low_room d n m p same l h k = fives_room d p (small d n m same l h) k
   where
-    small : (d n m : ℕ) → d ≡ n → n ≤ m → m < 2 ^ 24 → d ≤ 2 ^ 24
+    small : (d n m : ℕ) → d ≡ n → n ≤ m → m < 2 ^ 24 → d < 2 ^ 24
     small d n m same l h = omega arith
+
+-- ## Odd numbers
+
+pub odd_fives : (n p : ℕ) → n % 2 ≡ 1 → n * 5 ^ p % 2 ≡ 1
+odd_fives n zero o = ap (λ (k : ℕ). k % 2) (mul-one n) ∙ o
+odd_fives n (suc p) o = ap (λ (k : ℕ). k % 2) (ap (λ (k : ℕ). n * k) (pow-suc 5 p) ∙ sym (mul_assoc n (5 ^ p) 5)) ∙ five (n * 5 ^ p) (odd_fives n p o)
+  where
+    five : (k : ℕ) → k % 2 ≡ 1 → k * 5 % 2 ≡ 1
+    five k o =
+        let spread : k * 5 ≡ (k / 2 * 5 + 2) * 2 + 1 = omega arith in
+        ap (λ (z : ℕ). z % 2) spread ∙ digits_mod (k / 2 * 5 + 2) {m = 2} {r = 1} (lit< tt)
+
+pub never_even : (n k : ℕ) → n % 2 ≡ 1 → n ≡ k * 2 → ⊥
+never_even n k o e = omega arith
+
+-- an odd number times a power of two is so in one way
+pub odd_pow : (m n a b : ℕ) → m % 2 ≡ 1 → n % 2 ≡ 1 → m * 2 ^ a ≡ n * 2 ^ b → (m ≡ n) × (a ≡ b)
+odd_pow m n zero zero o p e = (sym (mul-one m) ∙ e ∙ mul-one n, refl)
+odd_pow m n zero (suc b) o p e = absurd (never_even m (n * 2 ^ b) o (sym (mul-one m) ∙ e ∙ one_out n b))
+odd_pow m n (suc a) zero o p e = absurd (never_even n (m * 2 ^ a) p (sym (mul-one n) ∙ sym e ∙ one_out m a))
+odd_pow m n (suc a) (suc b) o p e =
+    let r = odd_pow m n a b o p (eq_of_mul-eq-mul_right 2 (omega arith) (m * 2 ^ a) (n * 2 ^ b) (sym (one_out m a) ∙ e ∙ one_out n b)) in (r.0, ap suc r.1)

@@ -1,7 +1,7 @@
 -- Worked cases. Each list pairs what a definition gives with what it should give, and one proof by computation holds the whole list. Assumes nothing.
-use Rattle.std.specs.Prelude.{ℕ, true, false, List, [], ◌∷◌, refl, Float, replicate}
-use Rattle.std.specs.Float.{nan}
-use Rattle.std.specs.Float.Ieee.{of_bits, to_bits, lt, eq, neg}
+use Rattle.std.specs.Prelude.{ℕ, ◌^◌, Bool, true, false, List, [], ◌∷◌, refl, Float, replicate}
+use Rattle.std.specs.Float.{nan, binary32}
+use Rattle.std.specs.Float.Ieee.{of_bits, to_bits, round, lt, eq, neg}
 use Rattle.num.specs.Cases.{Hold}
 use Rattle.num.specs.Const.{c0_0, c0_5, c1_0}
 use Rattle.num.specs.Refusals.{bad_side}
@@ -14,10 +14,12 @@ use Rattle.cards.specs.Records.{carded, record_at}
 use Rattle.cards.specs.Card.{station_of, header_at, records_at, ends_at, end_at, station_at, open_of}
 use Rattle.cards.specs.declared.station.Pass.TheVariants.{Bloom, Scanlines}
 use Rattle.cards.specs.declared.station.Record.{Record}
+use Rattle.inspect.specs.Decimal.{whole_of, places_of, negative_of, point_of}
 use Rattle.inspect.specs.Difference.{settings_difference, record_difference, chain_difference, difference_of}
 use Rattle.inspect.specs.Extent.{step_of, read_of, extent_by, extent_of}
 use Rattle.inspect.specs.Hexadecimal.{digit_of, hex_of, decode_answer, decode_into}
 use Rattle.inspect.specs.Layout.{widths_of, setting_in, end_of, in_record, field_from, field_of}
+use Rattle.inspect.specs.declared.decimal.Point.{Point}
 use Rattle.inspect.specs.declared.difference.Difference.{Difference}
 use Rattle.inspect.specs.declared.difference.Difference.TheVariants.{Alike, Length, Kind, Switch, Setting}
 use Rattle.inspect.specs.declared.extent.Extent.{Extent}
@@ -126,6 +128,52 @@ texts =
 pub texts_hold : Hold texts
 unfolding decode_answer decode_into hex_of
 texts_hold = refl
+
+-- ## Decimal digits
+
+-- the digits of a pattern as one number, and its point
+abbrev pub decimal : ℕ → ℕ × Point
+decimal bits = let x = of_bits binary32 bits in (whole_of x, point_of x)
+
+abbrev signed : Bool → ℕ → Point
+signed negative places = record { negative = negative; places = places }
+
+-- 0.25, -2.5, 10, 2 ^ 30, 0.1 as it is stored; 0, -0, an infinity and a NaN
+abbrev pub decimals : List ((ℕ × Point) × (ℕ × Point))
+decimals =
+    (decimal 0x3e80_0000, (25, signed false 2))
+    ∷ (decimal 0xc020_0000, (25, signed true 1))
+    ∷ (decimal 0x4120_0000, (10, signed false 0))
+    ∷ (decimal 0x4e80_0000, (1073741824, signed false 0))
+    ∷ (decimal 0x3dcc_cccd, (100000001490116119384765625, signed false 27))
+    ∷ (decimal 0, (0, signed false 0))
+    ∷ (decimal 0x8000_0000, (0, signed true 0))
+    ∷ (decimal 0xff80_0000, (0, signed false 0))
+    ∷ (decimal 0x7fc0_0000, (0, signed false 0))
+    ∷ []
+
+pub decimals_hold : Hold decimals
+unfolding of_bits whole_of places_of negative_of
+decimals_hold = refl
+
+-- the nearest to n / 10 ^ p, by its pattern
+abbrev pub near : ℕ → ℕ → ℕ
+near n p = to_bits binary32 (round binary32 false n (10 ^ p))
+
+-- 0.1; 2 ^ 24 + 1 and 2 ^ 24 + 3, which lie midway between two and go to the even one; a little less than half of the smallest positive value,
+-- and a little more
+abbrev pub nears : List (ℕ × ℕ)
+nears =
+    (near 1 1, 0x3dcc_cccd)
+    ∷ (near 16777217 0, 0x4b80_0000)
+    ∷ (near 16777219 0, 0x4b80_0002)
+    ∷ (near 7006492321624085 61, 0)
+    ∷ (near 7006492321624086 61, 1)
+    ∷ []
+
+pub nears_hold : Hold nears
+unfolding round to_bits
+nears_hold = refl
 
 -- ## A size in words
 

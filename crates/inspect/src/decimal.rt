@@ -1,15 +1,15 @@
 // A binary32 number exactly, in decimal digits. A finite one is n / 2^p for whole numbers n and p, and so n * 5^p / 10^p: the digits of n * 5^p, with the
 // point before the last p of them. What the digits say: specs/Decimal.antt.
-ghost use Rattle.std.specs.Prelude.{◌≡◌, ◌+◌, ◌*◌, ◌^◌, ◌<◌, ◌≤◌, length};
-ghost use Rattle.inspect.specs.Decimal.{number, Digits, Exactly};
-ghost use Rattle.inspect.specs.Private.{Units};
+ghost use Rattle.std.specs.Prelude.{◌≡◌, ◌*◌, ◌%◌, ◌^◌, ◌<◌, ◌≤◌, length};
+ghost use Rattle.inspect.specs.Decimal.{number, Digits, Exactly, point_of, digits_of};
+ghost use Rattle.inspect.specs.Private.{Times, Units, Written};
 
 use cards::writer::real_bits;
 
-// The digits are now those of the number times `by`, and `more`.
-fn times(digits: &mut [u8], by: u8, more: u8)
-    requires { Digits digits.old × (by ≤ 5) × (more < by) × (number digits.old * by + more < 10 ^ 150) }
-    ensures { Digits digits.new × (number digits.new ≡ number digits.old * by + more) }
+// The digits are now those of the number times `by`, and `more`; what has no place among them is returned.
+pub(crate) fn times(digits: &mut [u8], by: u8, more: u8) -> u8
+    requires { Digits digits.old × (by ≤ 5) × (more < by) }
+    ensures { Times by more digits.old result digits.new }
 {
     let mut carry = more;
     let mut i: usize = 0;
@@ -19,6 +19,7 @@ fn times(digits: &mut [u8], by: u8, more: u8)
         carry = v / 10;
         i += 1;
     }
+    carry
 }
 
 // Times `by`, again and again.
@@ -56,7 +57,7 @@ struct Fraction {
 
 // The same value, with an odd n or with p = 0: so no digit behind the point is spare.
 fn reduced(n: u32, p: usize) -> Fraction
-    ensures { (result.p ≤ p) × (result.n ≤ n) × (result.n * 2 ^ p ≡ n * 2 ^ result.p) }
+    ensures { (result.p ≤ p) × (result.n ≤ n) × (result.n * 2 ^ p ≡ n * 2 ^ result.p) × (0 < result.p → result.n % 2 ≡ 1) }
 {
     let mut m = n;
     let mut q = p;
@@ -93,7 +94,7 @@ fn decode(b: u32) -> Parts
 // The digits of m * 2^e units, and how many of them stand behind the point.
 fn units(digits: &mut [u8], m: u32, e: usize) -> usize
     requires { (length digits.old ≡ 150) × (m < 2 ^ 24) × (e ≤ 253) }
-    ensures { Digits digits.new × (result ≤ 149) × (number digits.new * 2 ^ 149 ≡ m * 2 ^ e * 10 ^ result) }
+    ensures { Written (m * 2 ^ e) result digits.new }
 {
     if 149 < e {
         spell(digits, m);
@@ -117,7 +118,9 @@ pub struct Point {
 
 // The digits of x, the last one first, and its point; of what is not finite, 0.
 pub fn exact(x: f32, digits: &mut [u8; 150]) -> Point
-    ensures { Exactly x result digits.new }
+    ensures value { Exactly x result digits.new }
+    ensures point { result ≡ point_of x }
+    ensures digits { digits.new ≡ digits_of x }
 {
     let bits = real_bits(x);
     let b = bits % 0x8000_0000;

@@ -6,6 +6,7 @@ mod card;
 mod pass;
 mod sheet;
 mod source;
+mod text;
 
 ghost use Rattle.std.specs.Prelude.{◌≡◌, min};
 ghost use Rattle.num.specs.Const.{c0_0, c1_0, c255_0};

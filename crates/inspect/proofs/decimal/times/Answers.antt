@@ -36,4 +36,4 @@ pub shape_of-digits : goal.shape_of-digits
 shape_of-digits c = c.loop-i.invariant.digits.long ∙ sym c.requires.0.long
 
 pub returns : goal.returns
-returns c = done c.loop-i.invariant c.requires.0 c.loop-i-test.false c.requires.3
+returns c = done c.loop-i.invariant c.requires.0 c.loop-i-test.false

@@ -1,7 +1,8 @@
 -- `inspect::decimal::units` meets its contract: m * 2 ^ e units, as a whole number or as n * 5 ^ p / 10 ^ p. Assumes nothing.
-use mathlib.Core.Path.{sym, ◌∙◌}
+use Prim.Native.Nat.{ℕ, ◌*◌, ◌%◌, ◌^◌}
+use mathlib.Core.Path.{ap, sym, ◌∙◌}
 use native.Mathlib.Omega.{arith}
-use Rattle.inspect.proofs.Powers.{above, below, high_room, low_room}
+use Rattle.inspect.proofs.Powers.{above, below, high_room, low_room, odd_fives}
 use Rattle.inspect.proofs.decimal.units.Goals as goal
 
 pub spell-requires : goal.spell-requires
@@ -14,7 +15,12 @@ pub shape_of-digits-then-e-gt149 : goal.shape_of-digits-then-e-gt149
 shape_of-digits-then-e-gt149 c = c.scale.ensures.0.long ∙ sym c.requires.0
 
 pub returns-then-e-gt149 : goal.returns-then-e-gt149
-returns-then-e-gt149 c = (c.scale.ensures.0, omega arith, above _ _ _ _ c.if-e-gt149.true c.spell.ensures.1 c.scale.ensures.1)
+returns-then-e-gt149 c = record {
+  digits = c.scale.ensures.0;
+  few = omega arith;
+  size = above _ _ _ _ c.if-e-gt149.true c.spell.ensures.1 c.scale.ensures.1;
+  odd = λ h. absurd (omega arith);
+}
 
 pub spell-requires-2 : goal.spell-requires-2
 spell-requires-2 c = c.requires.0
@@ -26,4 +32,9 @@ pub shape_of-digits : goal.shape_of-digits
 shape_of-digits c = c.scale-2.ensures.0.long ∙ sym c.requires.0
 
 pub returns : goal.returns
-returns c = (c.scale-2.ensures.0, omega (arith, c.reduced-f.ensures.0), below _ _ _ _ _ _ c.if-e-gt149.false c.reduced-f.ensures.2 c.spell-2.ensures.1 c.scale-2.ensures.1)
+returns c = record {
+  digits = c.scale-2.ensures.0;
+  few = omega (arith, c.reduced-f.ensures.0);
+  size = below _ _ _ _ _ _ c.if-e-gt149.false c.reduced-f.ensures.2 c.spell-2.ensures.1 c.scale-2.ensures.1;
+  odd = λ h. ap (λ (k : ℕ). k % 2) (c.scale-2.ensures.1 ∙ ap (λ (k : ℕ). k * 5 ^ c.reduced-f.result.p) c.spell-2.ensures.1) ∙ odd_fives _ _ (c.reduced-f.ensures.3 h);
+}

@@ -1,0 +1,279 @@
+// A station's chain as text, into a buffer: a line for each pass. What the text is: specs/Print.antt.
+ghost use Rattle.std.specs.Prelude.{◌≡◌, ◌+◌, ◌≤◌, length, take};
+ghost use Rattle.inspect.specs.Decimal.{Digits};
+ghost use Rattle.texts.specs.Names.{kind_name, preset_name, setting_name};
+ghost use Rattle.texts.specs.Print.{down, pointed, sign_text, real_text, whole_text, count_text, value_text, mark_text, label_text, setting_text, place_text};
+ghost use Rattle.texts.specs.Print.{settings_text, switch_text, line_text, lines_text, print_reply, print_into, Puts};
+ghost use Rattle.texts.specs.Words.{Begins};
+
+use super::names::{kind_name, preset_name, setting_name};
+use cards::check::is_good;
+use cards::station::{Pass, Record, Station, kind_of};
+use inspect::decimal::exact;
+use inspect::settings::{Setting, setting_at};
+
+// A text, and the place behind it.
+fn put(out: &mut [u8], at: usize, text: &[u8]) -> usize
+    requires { at + length text.now ≤ length out.old }
+    ensures { Puts text.now (length text.now) at out.old result out.new }
+{
+    let mut to = at;
+    let mut i: usize = 0;
+    while i < text.len() {
+        out[to] = text[i];
+        to += 1;
+        i += 1;
+    }
+    to
+}
+
+// The digits behind the point.
+fn digits_down(out: &mut [u8], at: usize, digits: &[u8], places: usize) -> usize
+    requires { Digits digits.now × (places ≤ 149) × (at + places ≤ length out.old) }
+    ensures { Puts (down places digits.now) places at out.old result out.new }
+{
+    let mut to = at;
+    let mut i = places;
+    while 0 < i {
+        i -= 1;
+        out[to] = 48 + digits[i];
+        to += 1;
+    }
+    to
+}
+
+// The digits, with the point among them.
+fn put_point(out: &mut [u8], at: usize, digits: &[u8], places: usize) -> usize
+    requires { Digits digits.now × (places ≤ 149) × (at + 151 ≤ length out.old) }
+    ensures { Puts (pointed places digits.now) 151 at out.old result out.new }
+{
+    let one = put(out, at, &[48 + digits[places]]);
+    if places == 0 {
+        return one;
+    }
+    let two = put(out, one, b".");
+    digits_down(out, two, digits, places)
+}
+
+fn put_sign(out: &mut [u8], at: usize, negative: bool) -> usize
+    requires { at + 1 ≤ length out.old }
+    ensures { Puts (sign_text negative) 1 at out.old result out.new }
+{
+    if negative {
+        return put(out, at, b"-");
+    }
+    at
+}
+
+// 150 zeros, made by a function, so that a proof sees the length alone.
+fn zeros() -> [u8; 150]
+    ensures { 150 ≡ length result }
+{
+    [0; 150]
+}
+
+// All digits of x.
+fn put_real(out: &mut [u8], at: usize, x: f32) -> usize
+    requires { at + 152 ≤ length out.old }
+    ensures { Puts (real_text x) 152 at out.old result out.new }
+{
+    let mut digits = zeros();
+    let point = exact(x, &mut digits);
+    let negative = point.negative;
+    let places = point.places;
+    let one = put_sign(out, at, negative);
+    put_point(out, one, &digits, places)
+}
+
+fn put_whole(out: &mut [u8], at: usize, v: u8) -> usize
+    requires { at + 3 ≤ length out.old }
+    ensures { Puts (whole_text v) 3 at out.old result out.new }
+{
+    if v < 10 {
+        return put(out, at, &[48 + v]);
+    }
+    if v < 100 {
+        return put(out, at, &[48 + v / 10, 48 + v % 10]);
+    }
+    put(out, at, &[48 + v / 100, 48 + v / 10 % 10, 48 + v % 10])
+}
+
+// The pass of that kind, by its name.
+fn put_kind(out: &mut [u8], at: usize, kind: u8) -> usize
+    requires { at + 11 ≤ length out.old }
+    ensures { Puts (kind_name kind) 11 at out.old result out.new }
+{
+    let mut name = [0u8; 16];
+    let n = kind_name(kind, &mut name);
+    put(out, at, &name[..n])
+}
+
+fn put_preset(out: &mut [u8], at: usize, preset: u8) -> usize
+    requires { at + 13 ≤ length out.old }
+    ensures { Puts (preset_name preset) 13 at out.old result out.new }
+{
+    let mut name = [0u8; 16];
+    let n = preset_name(preset, &mut name);
+    put(out, at, &name[..n])
+}
+
+fn put_name(out: &mut [u8], at: usize, kind: u8, j: usize) -> usize
+    requires { at + 10 ≤ length out.old }
+    ensures { Puts (setting_name kind j) 10 at out.old result out.new }
+{
+    let mut name = [0u8; 16];
+    let n = setting_name(kind, j, &mut name);
+    put(out, at, &name[..n])
+}
+
+// What stands before the first setting, and before another.
+fn put_mark(out: &mut [u8], at: usize, j: usize) -> usize
+    requires { at + 2 ≤ length out.old }
+    ensures { Puts (mark_text j) 2 at out.old result out.new }
+{
+    if j == 0 {
+        return put(out, at, b": ");
+    }
+    put(out, at, b", ")
+}
+
+// What stands before a value.
+fn put_label(out: &mut [u8], at: usize, kind: u8, j: usize) -> usize
+    requires { at + 13 ≤ length out.old }
+    ensures { Puts (label_text kind j) 13 at out.old result out.new }
+{
+    let one = put_mark(out, at, j);
+    let two = put_name(out, one, kind, j);
+    put(out, two, b" ")
+}
+
+// A whole number, or the preset that it stands for.
+fn put_count(out: &mut [u8], at: usize, kind: u8, v: u8) -> usize
+    requires { at + 13 ≤ length out.old }
+    ensures { Puts (count_text kind v) 13 at out.old result out.new }
+{
+    if kind == 5 {
+        return put_preset(out, at, v);
+    }
+    put_whole(out, at, v)
+}
+
+fn put_value(out: &mut [u8], at: usize, kind: u8, s: Setting) -> usize
+    requires { at + 152 ≤ length out.old }
+    ensures { Puts (value_text kind s) 152 at out.old result out.new }
+{
+    match s {
+        Setting::Real(x) => put_real(out, at, x),
+        Setting::Whole(v) => put_count(out, at, kind, v),
+        Setting::Absent => at,
+    }
+}
+
+// The value of a setting of that kind of pass at the start of the buffer, and its length.
+pub fn value(kind: u8, s: Setting, out: &mut [u8; 152]) -> usize
+    ensures { Begins (value_text kind s) result out.new }
+{
+    put_value(out, 0, kind, s)
+}
+
+fn put_setting(out: &mut [u8], at: usize, kind: u8, j: usize, s: Setting) -> usize
+    requires { at + 165 ≤ length out.old }
+    ensures { Puts (setting_text kind j s) 165 at out.old result out.new }
+{
+    match s {
+        Setting::Real(x) => {
+            let to = put_label(out, at, kind, j);
+            put_real(out, to, x)
+        }
+        Setting::Whole(v) => {
+            let to = put_label(out, at, kind, j);
+            put_count(out, to, kind, v)
+        }
+        Setting::Absent => at,
+    }
+}
+
+// The setting at place j of a pass, if it has one.
+fn put_place(out: &mut [u8], at: usize, pass: Pass, j: usize) -> usize
+    requires { at + 165 ≤ length out.old }
+    ensures { Puts (place_text pass j) 165 at out.old result out.new }
+{
+    let kind = kind_of(pass);
+    let s = setting_at(pass, j);
+    put_setting(out, at, kind, j, s)
+}
+
+fn put_settings(out: &mut [u8], at: usize, pass: Pass) -> usize
+    requires { at + 660 ≤ length out.old }
+    ensures { Puts (settings_text pass) 660 at out.old result out.new }
+{
+    let one = put_place(out, at, pass, 0);
+    let two = put_place(out, one, pass, 1);
+    let three = put_place(out, two, pass, 2);
+    put_place(out, three, pass, 3)
+}
+
+fn put_switch(out: &mut [u8], at: usize, on: bool) -> usize
+    requires { at + 3 ≤ length out.old }
+    ensures { Puts (switch_text on) 3 at out.old result out.new }
+{
+    if on {
+        return put(out, at, b"on");
+    }
+    put(out, at, b"off")
+}
+
+// The line of a pass.
+fn put_record(out: &mut [u8], at: usize, r: Record) -> usize
+    requires { at + 677 ≤ length out.old }
+    ensures { Puts (line_text r) 677 at out.old result out.new }
+{
+    let pass = r.pass;
+    let on = r.on;
+    let one = put_kind(out, at, kind_of(pass));
+    let two = put(out, one, b", ");
+    let three = put_switch(out, two, on);
+    let four = put_settings(out, three, pass);
+    put(out, four, b"\n")
+}
+
+// The lines of the first n records.
+fn put_chain(out: &mut [u8], records: [Record; 12], n: usize) -> usize
+    requires { (n ≤ 12) × (8192 ≤ length out.old) }
+    ensures { Puts (lines_text (take n records)) 8192 0 out.old result out.new }
+{
+    let mut to: usize = 0;
+    let mut i: usize = 0;
+    while i < n {
+        let r = records[i];
+        to = put_record(out, to, r);
+        i += 1;
+    }
+    to
+}
+
+// What a printing answers: the text's length, or a refusal's number.
+#[derive(Clone, Copy)]
+pub enum Printing {
+    Length(usize),
+    Refused(u8),
+}
+
+// The text of the station's chain at the start of the buffer, and its length; 13 for a bad station, 14 for a buffer that may be too short: of fewer than 8,192
+// bytes. No text is longer.
+pub fn print(station: Station, out: &mut [u8]) -> Printing
+    ensures { (result ≡ print_reply station out.old) × (out.new ≡ print_into station out.old) }
+{
+    if !is_good(station) {
+        return Printing::Refused(13);
+    }
+    if out.len() < 8192 {
+        return Printing::Refused(14);
+    }
+    let n = station.n;
+    let records = station.records;
+    if n == 0 {
+        return Printing::Length(put(out, 0, b"none\n"));
+    }
+    Printing::Length(put_chain(out, records, n))
+}
