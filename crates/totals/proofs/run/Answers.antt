@@ -1,6 +1,5 @@
 -- `totals::run` is safe: the areas that were taken are those at the start of the buffer. Assumes nothing.
 use mathlib.Core.Path.{sym}
-use borrow.Author.Rules.{rules}
 use lib.Seq.{length-take-le}
 use Rattle.totals.proofs.run.Goals as goal
 

@@ -1,5 +1,4 @@
 -- `sheet::files::count` meets its contract: 16 bits write a number below 65,536. Assumes nothing.
-use borrow.Author.Rules.{rules}
 use Rattle.sheets.proofs.Reading.{field_took, small}
 use Rattle.sheet.proofs.files.count.Goals as goal
 

@@ -1,5 +1,4 @@
 -- `sheet::pack::event` meets its contract, letter by letter. Assumes nothing.
-use borrow.Author.Rules.{rules}
 use native.Mathlib.Omega.{arith}
 use Rattle.sheet.proofs.Packing.{not_put}
 use Rattle.sheet.proofs.pack.event.Goals as goal

@@ -1,5 +1,4 @@
 -- `sheet::pack::frame` meets its contract: its sides are looked at before its pixels, which are 1,024 at most. Assumes nothing.
-use borrow.Author.Rules.{rules}
 use Prim.Native.Nat.{◌*◌, ◌≤◌}
 use mathlib.Core.Bool.{false}
 use mathlib.Core.Path.{◌≡◌, sym, ◌∙◌}

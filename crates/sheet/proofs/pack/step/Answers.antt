@@ -1,5 +1,4 @@
 -- `sheet::pack::step` meets its contract: a letter alone. Assumes nothing.
-use borrow.Author.Rules.{rules}
 use native.Mathlib.Omega.{arith}
 use Rattle.sheet.proofs.Packing.{not_put, put_step}
 use Rattle.sheet.proofs.pack.step.Goals as goal

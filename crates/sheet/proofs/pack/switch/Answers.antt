@@ -1,5 +1,4 @@
 -- `sheet::pack::switch` meets its contract: a kind below 16, and a position of two. Assumes nothing.
-use borrow.Author.Rules.{rules}
 use native.Mathlib.Omega.{arith}
 use Rattle.sheet.proofs.Packing.{not_put, put_switch}
 use Rattle.sheet.proofs.pack.switch.Goals as goal

@@ -1,6 +1,5 @@
 -- `sheet::play::all` meets its contract: a turn for each event, of which none is longer than the largest frame. Assumes nothing.
-use borrow.Author.Rules.{rules}
-use Prim.Native.Nat.{◌+◌, ◌-◌, ◌*◌, ◌≤◌}
+use Prim.Native.Nat.{◌+◌, ◌≤◌}
 use native.Mathlib.Omega.{arith}
 use Rattle.sheets.specs.Promises.{Within}
 use Rattle.sheets.proofs.Reading.{read_took}

@@ -1,5 +1,4 @@
 -- `sheet::record::behind_card` is safe: the card stands behind its length byte. Assumes nothing.
-use borrow.Author.Rules.{rules}
 use Prim.Native.Nat.{◌≤◌}
 use native.Mathlib.Omega.{arith}
 use Rattle.events.proofs.Sizes.{some_wanted}

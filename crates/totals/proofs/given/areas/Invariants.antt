@@ -1,7 +1,6 @@
 -- `totals::given::areas` is safe and ends. Assumes nothing.
 use Prim.Native.Nat.{◌-◌, ◌≤◌}
 use mathlib.Core.Path.{◌≡◌}
-use borrow.Author.Rules.{rules}
 use lib.ListN.{length}
 use Rattle.totals.proofs.given.areas.Given as goal
 

@@ -1,5 +1,4 @@
 -- `totals::given::take` is safe. Assumes nothing.
-use borrow.Author.Rules.{rules}
 use native.Mathlib.Omega.{arith}
 use lib.ListN.{length-set}
 use Rattle.totals.proofs.given.take.Goals as goal
