@@ -80,14 +80,14 @@ fn definitions(text: &str) -> impl Iterator<Item = (usize, &str)> {
     })
 }
 
-/// The decimal and the bits of a line such as `c0·299 = ofBits binary32 0x3e991687`.
+/// The decimal and the bits of a line such as `c0_299 = of_bits binary32 0x3e991687`.
 fn taken_apart(definition: &str) -> Option<(String, u32)> {
     let words: Vec<&str> = definition.split_whitespace().collect();
-    let [name, "=", "ofBits", "binary32", bits] = words[..] else {
+    let [name, "=", "of_bits", "binary32", bits] = words[..] else {
         return None;
     };
-    // A name cannot have a point in it: a middle dot stands for that.
-    let decimal = name.strip_prefix('c')?.replace('·', ".");
+    // A name cannot have a point in it: an underscore stands for that.
+    let decimal = name.strip_prefix('c')?.replace('_', ".");
     let digits = bits.strip_prefix("0x")?.replace('_', "");
     Some((decimal, u32::from_str_radix(&digits, 16).ok()?))
 }
