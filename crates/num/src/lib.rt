@@ -3,6 +3,7 @@
 // `requires`. Nothing here is assumed.
 #![tactic(auto)]
 
+pub mod refusal; // why a call is refused: the papers' table
 pub mod root; // the square root
 pub mod size; // sizes of pictures: whether a side is taken, what a history holds
 pub mod steps; // clamp, min, max, limit, abs
