@@ -7,9 +7,8 @@ use mathlib.Core.Bool.{Bool, true, false, cond}
 use lib.ListN.{length}
 use lib.Dec.{leb}
 use borrow.Author.Tests.{le-leb}
-use Rattle.cards.specs.Step.{took, refused, stop}
+use Rattle.cards.specs.Step.{Refusal, took, refused, stop}
 use Rattle.cards.specs.Bits.{bit_at, value_at, field_at}
-use Rattle.cards.specs.declared.fields.Refusal.{Refusal}
 
 pub bit_at_lt : (card : List ℕ) (p : ℕ) → bit_at card p < 2
 bit_at_lt card p = omega arith

@@ -1,13 +1,13 @@
 -- Laws that the proofs of several functions cite, and the theorems of specs/Claims.antt: Theorems, OpensGood,
 -- Survives, Inside, Longest.
 pub mod Bits
+pub mod Listed
 pub mod Reals
-pub mod Steps
 pub mod Unknown
 pub mod Tests
-pub mod Widths
 pub mod Taken
 pub mod Opening
+pub mod Padding
 pub mod Packed
 pub mod Back
 pub mod Chain

@@ -3,29 +3,21 @@ use Prim.Native.Nat.{ℕ, suc, ◌+◌, ◌-◌, ◌*◌, ◌≤◌, ◌<◌}
 use native.Mathlib.Omega.{arith}
 use native.Mathlib.Numerals.{add-one}
 use mathlib.Core.Path.{◌≡◌, refl, ap, sym, subst, ◌∙◌}
-use mathlib.Core.Bool.{true, false}
+use mathlib.Core.Bool.{Bool, true, false}
 use mathlib.Core.List.{List, [], ◌∷◌, ◌++◌}
 use lib.ListN.{length, take, drop, set, replicate, length-set, take-append-drop}
 use lib.Seq.{take-suc-set, drop-set-lt, drop-drop, length-take-le}
-use Rattle.cards.specs.Step.{Step, took, refused, and_then, stop, refuse_if}
+use Rattle.cards.specs.Step.{Refusal, Step, took, refused, and_then, stop, refuse_if}
 use Rattle.cards.specs.Bits.{field_at}
 use Rattle.cards.specs.Records.{kinds, record_at}
-use Rattle.cards.specs.Card.{unused, station_of, header_at, records_at, ends_at, end_at, station_at, reading_of}
-use Rattle.cards.specs.declared.fields.Refusal.{Refusal}
+use Rattle.cards.specs.Card.{unused, station_of, header_at, records_at, ends_at, end_at, station_at}
 use Rattle.cards.specs.declared.station.Pending.TheVariants.{Nothing}
 use Rattle.cards.specs.declared.station.Record.{Record}
 use Rattle.cards.specs.declared.station.Station.{Station}
 use borrow.Author.Tests.{ltb-false, le-ltb}
-use Rattle.cards.proofs.Steps.{Wide, field_wide, ret-wide, here-wide, refuse_if-wide, then_wide}
 use Rattle.cards.proofs.Taken.{Gives, gives_then, gives_ret, gives_here, gives_guard, gives_field}
 
--- the header is 8 bits, and takes at most twelve passes
-header_wide : Wide 8 header_at
-unfolding header_at
-header_wide =
-    here-wide (λ p. then_wide 4 4 (field_wide 4) (λ v. then_wide 0 4 (refuse_if-wide 2 p _)
-    (λ u. here-wide (λ q. then_wide 4 0 (field_wide 4) (λ n. then_wide 0 0 (refuse_if-wide 3 q _) (λ u. ret-wide))))))
-
+-- the header takes at most twelve passes
 pub gives_header : Gives header_at (λ n. n ≤ 12)
 unfolding header_at
 gives_header =
@@ -35,6 +27,17 @@ gives_header =
 pub header_took : (card : List ℕ) (n : ℕ) → field_at 4 card 0 ≡ took 1 4 → field_at 4 card 4 ≡ took n 8 → n ≤ 12 → header_at card 0 ≡ took n 8
 unfolding header_at refuse_if
 header_took card n e₁ e₂ few = simp (e₁, e₂, le-ltb 12 n few)
+
+-- what a test of the code answers, as the definition's
+pub test_refused : (k : Refusal) (j p : ℕ) (b : Bool) (card : List ℕ) (n : ℕ) → refused k ≡ refuse_if j p b card n → (b ≡ true) × (k ≡ stop j p)
+unfolding refuse_if
+test_refused k j p true card n e = (refl, cc)
+test_refused k j p false card n e = cc
+
+pub test_passed : (u : Unit {0}) (m j p : ℕ) (b : Bool) (card : List ℕ) (n : ℕ) → took u m ≡ refuse_if j p b card n → b ≡ false
+unfolding refuse_if
+test_passed u m j p true card n e = cc
+test_passed u m j p false card n e = refl
 
 pub no_header : (card : List ℕ) (k : Refusal) → header_at card 0 ≡ refused k → station_at card 0 ≡ refused k
 unfolding station_at
@@ -62,12 +65,12 @@ pub record Done (card : List ℕ) (n start : ℕ) (rs : List Record) (next i : �
   pub rest : drop i rs ≡ replicate (12 - i) unused
   pub same : records_at n [] card start ≡ records_at (n - i) (take i rs) card next
 
-pub done_none : (card : List ℕ) (n start : ℕ) → header_at card 0 ≡ took n start → Done card n start (replicate 12 unused) start 0
-done_none card n start e =
+pub done_none : (card : List ℕ) (n start : ℕ) → header_at card 0 ≡ took n start → start ≤ 8 → Done card n start (replicate 12 unused) start 0
+done_none card n start e h =
     record {
       within = omega arith;
       few = gives_header.gives card 0 n start e;
-      near = omega (arith, header_wide.next card 0 n start e);
+      near = omega arith;
       long = refl;
       rest = refl;
       same = let all : n ≡ n - 0 = omega arith in ap (λ (k : ℕ). records_at k [] card start) all;
@@ -116,6 +119,3 @@ done_all card n start rs next d =
 
 pub done_end : (card : List ℕ) (n start : ℕ) (rs : List Record) (next i : ℕ) → Done card n start rs next i → n ≤ i → Done card n start rs next n
 done_end card n start rs next i d h = let e : i ≡ n = omega (arith, d.within) in subst (λ (k : ℕ). Done card n start rs next k) e d
-
-pub told : (card : List ℕ) (s : Step Station) → station_at card 0 ≡ s → reading_of s ≡ reading_of (station_at card 0)
-told card s e = ap reading_of (sym e)

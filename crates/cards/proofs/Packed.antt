@@ -164,13 +164,12 @@ blank-bits m bs i = go (dec_lt i (length bs))
         ∙ zero-at m (0 + length bs + j)
         ∙ sym (get_or-eq_default bs 0 {n = i} (omega arith))
 
--- packing into the front of a buffer, byte by byte
-pub pack-rewrite : (n : ℕ) (bs buf : List ℕ) → n ≤ length buf → rewrite n (λ j b. value_of (drop (8 * j) bs) 8) buf ≡ pack n bs ++ drop n buf
+-- packing into a buffer, byte by byte
+pub pack-rewrite : (bs buf : List ℕ) → rewrite (length buf) (λ j b. value_of (drop (8 * j) bs) 8) buf ≡ pack (length buf) bs
 unfolding rewrite pack
-pack-rewrite zero bs buf h = refl
-pack-rewrite (suc n) bs [] h = absurd (not-suc-le-zero h)
-pack-rewrite (suc n) bs (b ∷ buf) h =
+pack-rewrite bs [] = refl
+pack-rewrite bs (b ∷ buf) =
     ap (λ (l : List ℕ). value_of bs 8 ∷ l)
-    (rewrite_ext n (λ j b. value_of (drop (8 * suc j) bs) 8) (λ j b. value_of (drop (8 * j) (drop 8 bs)) 8) buf
+    (rewrite_ext (length buf) (λ j b. value_of (drop (8 * suc j) bs) 8) (λ j b. value_of (drop (8 * j) (drop 8 bs)) 8) buf
     (λ j x l. let k : 8 * suc j ≡ 8 + 8 * j = omega arith in ap (λ (m : ℕ). value_of (drop m bs) 8) k ∙ ap (λ (xs : List ℕ). value_of xs 8) (sym (drop-drop (8 * j) 8 bs)))
-    ∙ pack-rewrite n (drop 8 bs) buf (le_of_suc-le-suc h))
+    ∙ pack-rewrite (drop 8 bs) buf)

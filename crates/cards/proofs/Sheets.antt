@@ -6,11 +6,8 @@ use mathlib.Core.Path.{◌≡◌, ap, ap₂, sym, subst, ◌∙◌}
 use mathlib.Core.List.{List, [], ◌∷◌, ◌++◌, append_assoc, append-nil}
 use lib.ListN.{length, take, drop, get_or, length-append, get_or-append, drop_of_length-le}
 use lib.Seq.{paste, take_all, take-length, get_or_at, take_at, drop_at, drop-drop, length-take-le}
-use lib.Dec.{T, leb, leb→le}
-pub use lib.Dec.{lit≤}
 use lib.Pow.{shr-shr}
-use Rattle.cards.specs.declared.station.Pass.{Pass}
-use Rattle.cards.specs.Written.{bits, pass_bits}
+use Rattle.cards.specs.Written.{bits}
 use Rattle.cards.specs.Sheet.{lay}
 use Rattle.cards.specs.declared.writer.Sheet.{Sheet}
 use Rattle.cards.proofs.Packed.{length-bits}
@@ -93,22 +90,10 @@ lay-lay s xs ys =
 pub lay_then : (s u t : Sheet) (xs ys : List ℕ) → u ≡ lay s xs → t ≡ lay u ys → t ≡ lay s (xs ++ ys)
 lay_then s u t xs ys e h = h ∙ ap (λ (v : Sheet). lay v ys) e ∙ lay-lay s xs ys
 
-pub pass_laid : (s t : Sheet) (p q : Pass) → p ≡ q → t ≡ lay s (pass_bits q) → t ≡ lay s (pass_bits p)
-pass_laid s t p q e h = rw e h
-
 -- how far a lay goes
 pub lay-far : (s t : Sheet) (xs : List ℕ) → t ≡ lay s xs → t.at ≡ s.at + length xs
 unfolding lay
 lay-far s t xs e = ap (λ (u : Sheet). u.at) e
 
-pub field_far : (s t : Sheet) (k v w m : ℕ) → t ≡ lay s (bits k v) → s.at + (k + w) ≤ m → t.at + w ≤ m
-field_far s t k v w m e h = omega (arith, lay-far s t (bits k v) e, length-bits k v)
-
-pub room : (p j w m : ℕ) → p ≤ j → T (leb (j + w) m) → p + w ≤ m
-room p j w m h t = omega (arith, leb→le (j + w) m t)
-
-pub reach : (p m : ℕ) → p + 0 ≤ m → p ≤ m
-reach p m h = omega arith
-
--- `search lays` closes what a field needs of the sheet, and that the fields are laid one after another
-pub ruleset lays = (lay_then, pass_laid, field_far, room, reach, lit≤, tt)
+-- fields that are laid one after another are laid at once
+pub ruleset laying = (lay-lay)

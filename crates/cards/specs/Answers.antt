@@ -1,11 +1,8 @@
 -- Document 01's answers, and those of the card's functions in its words: for each case of an answer its number and values. Assumes nothing.
-use Rattle.std.specs.Prelude.{ℕ, ◌+◌, Bool, true, false, List, [], ◌∷◌}
-use Rattle.cards.specs.declared.reader.Opened.{Opened}
-use Rattle.cards.specs.declared.station.Answer.{Answer}
-use Rattle.cards.specs.declared.station.Answer.TheVariants.{Accepted, Refused}
+use Rattle.std.specs.Prelude.{ℕ, ◌+◌, Bool, true, false, List, [], ◌∷◌, Result, Ok, Err}
+use Rattle.num.specs.Refusals.{number_of}
+use Rattle.num.specs.declared.refusal.Refusal.{Refusal}
 use Rattle.cards.specs.declared.station.Station.{Station}
-use Rattle.cards.specs.declared.writer.Writing.{Writing}
-use Rattle.cards.specs.declared.writer.Written.{Written}
 
 -- document 01's answer: a refusal's number, or acceptance with all that the call reports
 pub data Report : Type 0 where
@@ -30,21 +27,18 @@ refusing s k = reply (refusal k) s
 
 -- ## What the functions answer
 
--- of an opening, and of chain's calls that report nothing
-abbrev pub reported : Answer → Report
-reported Accepted = acceptance []
-reported (Refused k) = refusal k
+-- the code's answer, by what the call reports where it is accepted
+abbrev pub reported_by : {A : Type 0} → (A → List ℕ) → Result A Refusal → Report
+reported_by f (Ok a) = acceptance (f a)
+reported_by f (Err k) = refusal (number_of k)
+
+-- of chain's calls that report nothing
+abbrev pub reported : Result (Unit {0}) Refusal → Report
+reported = reported_by (λ _. [])
 
 -- of a writing: acceptance reports the card's length
-abbrev pub reported_writing : Writing → Report
-reported_writing (Writing.Length n) = acceptance (n ∷ [])
-reported_writing (Writing.Refused k) = refusal k
-
-abbrev pub opened : Opened → Reply
-opened r = reply (reported r.answer) r.station
-
-abbrev pub written : Written → Reply
-written r = reply (reported_writing r.answer) r.station
+abbrev pub written : Result ℕ Refusal → Station → Reply
+written r s = reply (reported_by (λ n. n ∷ []) r) s
 
 -- ## For the exports
 

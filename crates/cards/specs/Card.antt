@@ -1,7 +1,9 @@
 -- The card: version, number of passes, records, padding. Opening it gives the station, or a refusal by its number, and the
 -- place where reading stops. Assumes nothing.
-use Rattle.std.specs.Prelude.{ℕ, zero, suc, ◌+◌, ◌-◌, ◌*◌, ◌/◌, Bool, false, not, ◌&&◌, List, [], ◌∷◌, ◌++◌, length, replicate, ltb, eqb}
-use Rattle.cards.specs.Answers.{refusal, acceptance, Reply, reply, reported}
+use Rattle.std.specs.Prelude.{ℕ, zero, suc, ◌+◌, ◌-◌, ◌*◌, ◌/◌, Bool, false, not, ◌&&◌, List, [], ◌∷◌, ◌++◌, length, replicate, ltb, eqb, Result, Ok, Err}
+use Rattle.num.specs.Refusals.{number_of}
+use Rattle.num.specs.declared.refusal.Refusal.{Refusal}
+use Rattle.cards.specs.Answers.{refusal, acceptance, Reply, reply}
 use Rattle.cards.specs.Step.{Step, took, refused, Reader, ◌>>=◌, ◌>>◌, ret, here, refuse_if}
 use Rattle.cards.specs.Bits.{value_at, field_at}
 use Rattle.num.specs.Const.{c0_0}
@@ -10,7 +12,6 @@ use Rattle.cards.specs.declared.station.Pass.TheVariants.{Scanlines}
 use Rattle.cards.specs.declared.station.Pending.TheVariants.{Nothing}
 use Rattle.cards.specs.declared.station.Record.{Record}
 use Rattle.cards.specs.declared.station.Station.{Station}
-use Rattle.cards.specs.declared.reader.Reading.{Reading}
 
 -- what stands in a place past n
 abbrev pub unused : Record
@@ -71,10 +72,7 @@ place_of (refused k) = k.at
 unfoldable pub stopped_of : List ℕ → ℕ
 stopped_of card = place_of (station_at card 0)
 
--- what is opened, with that place
-abbrev pub reading_of : Step Station → Reply × ℕ
-reading_of s = (opened_of s, place_of s)
-
--- the same of what the code answers
-abbrev pub reading : Reading → Reply × ℕ
-reading r = (reply (reported r.answer) r.station, r.at)
+-- what the code answers: a refused card leaves no station, for which the empty one stands
+abbrev pub opened : Result Station Refusal → Reply
+opened (Ok s) = accepted s
+opened (Err k) = reply (refusal (number_of k)) (station_of [])

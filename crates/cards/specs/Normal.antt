@@ -1,5 +1,6 @@
 -- Normalised settings, records and stations: what refusal 13 tests. Assumes nothing.
 use Rattle.std.specs.Prelude.{ℕ, zero, suc, Bool, true, false, not, ◌&&◌, ◌||◌, cond, List, [], ◌∷◌, ◌++◌, take, leb, ltb, eqb, Float}
+use Rattle.std.specs.List.{list_all}
 use Rattle.std.specs.Float.{nan, inf, fin}
 use Rattle.std.specs.Float.Ieee.{lt, neg}
 use Rattle.std.specs.Float.Ieee.Scale.{finite}
@@ -68,8 +69,7 @@ abbrev pub may_hold : Held → Record → Bool
 may_hold size r = same_held r.held nothing || (same_held r.held size && glows r)
 
 unfoldable pub holding : Held → List Record → Bool
-holding size [] = true
-holding size (r ∷ rs) = may_hold size r && holding size rs
+holding size = list_all (may_hold size)
 
 -- nothing is asked for, or a switch of a pass that is in the chain
 abbrev pub askable : Pending → List Record → Bool

@@ -1,5 +1,6 @@
 -- A record: its kind, its switch and its settings; a card's holds nothing. Assumes nothing.
-use Rattle.std.specs.Prelude.{ℕ, ◌+◌, Bool, false, ◌||◌, cond, List, [], ◌∷◌, map, leb, ltb, eqb}
+use Rattle.std.specs.Prelude.{ℕ, ◌+◌, Bool, ◌||◌, cond, List, [], ◌∷◌, map, leb, ltb, eqb}
+use Rattle.std.specs.List.{list_any}
 use Rattle.num.specs.Held.{nothing}
 use Rattle.cards.specs.Step.{Reader, ◌>>=◌, ◌>>◌, ret, here, refuse_if}
 use Rattle.cards.specs.Bits.{field_at}
@@ -11,8 +12,7 @@ abbrev pub kinds : List Record → List ℕ
 kinds = map (λ r. kind_of r.pass)
 
 abbrev pub among : ℕ → List ℕ → Bool
-among k [] = false
-among k (j ∷ js) = eqb j k || among k js
+among k = list_any (λ j. eqb j k)
 
 -- the last of them, d where there is none
 abbrev pub last_of : ℕ → List ℕ → ℕ

@@ -1,19 +1,13 @@
 -- Reading a card: a reader is given the card's bytes and a bit place, and takes a value, with the next place, or refuses by a number of the papers and
 -- the place of what is refused. Assumes nothing.
-use Rattle.std.specs.Prelude.{ℕ, List, Bool, cond, Float}
-use Rattle.cards.specs.declared.fields.Refusal.{Refusal}
-use Rattle.cards.specs.declared.fields.FieldRead.{FieldRead}
-use Rattle.cards.specs.declared.fields.FieldRead.TheVariants as F
-use Rattle.cards.specs.declared.fields.ByteRead.{ByteRead}
-use Rattle.cards.specs.declared.fields.ByteRead.TheVariants as B
-use Rattle.cards.specs.declared.fields.RealRead.{RealRead}
-use Rattle.cards.specs.declared.fields.RealRead.TheVariants as R
-use Rattle.cards.specs.declared.reader.PassRead.{PassRead}
-use Rattle.cards.specs.declared.reader.PassRead.TheVariants as P
-use Rattle.cards.specs.declared.station.Pass.{Pass}
-use Rattle.cards.specs.declared.reader.RecordRead.{RecordRead}
-use Rattle.cards.specs.declared.reader.RecordRead.TheVariants as C
-use Rattle.cards.specs.declared.station.Record.{Record}
+use Rattle.std.specs.Prelude.{ℕ, List, Bool, cond, Result, Ok, Err}
+use Rattle.num.specs.Refusals.{number_of}
+use Rattle.cards.specs.declared.fields.Stop.{Stop}
+
+-- a refusal's number in the papers, and the place of what is refused
+pub record Refusal : Type 0 where
+  pub number : ℕ
+  pub at : ℕ
 
 pub data Step (A : Type 0) : Type 0 where
   took : A → ℕ → Step A
@@ -51,28 +45,7 @@ abbrev pub ◌>>◌ : {A B : Type 0} → Reader A → Reader B → Reader B
 unfoldable pub refuse_if : ℕ → ℕ → Bool → Reader (Unit {0})
 refuse_if k p b card at = cond b (refused (stop k p)) (took tt at)
 
--- the code's answers, as steps
-abbrev pub field_step : FieldRead → Step ℕ
-field_step (F.Value v next) = took v next
-field_step (F.Refused k) = refused k
-
-abbrev pub byte_step : ByteRead → Step ℕ
-byte_step (B.Value v next) = took v next
-byte_step (B.Refused k) = refused k
-
-abbrev pub real_step : RealRead → Step Float
-real_step (R.Value x next) = took x next
-real_step (R.Refused k) = refused k
-
-abbrev pub pass_step : PassRead → Step Pass
-pass_step (P.Value x next) = took x next
-pass_step (P.Refused k) = refused k
-
-abbrev pub record_step : RecordRead → Step Record
-record_step (C.Value x next) = took x next
-record_step (C.Refused k) = refused k
-
--- the refusal of a step, 0 for none
-abbrev pub refusal_of : {A : Type 0} → Step A → Refusal
-refusal_of (took a next) = stop 0 0
-refusal_of (refused k) = k
+-- the code's answer, and the place that it came to, as a step
+abbrev pub step : {A : Type 0} → Result A Stop → ℕ → Step A
+step (Ok a) next = took a next
+step (Err k) next = refused (stop (number_of k.refusal) k.at)

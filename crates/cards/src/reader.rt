@@ -1,422 +1,238 @@
 // Opening a card: the header, the records with their passes, the end.
-ghost use Rattle.std.specs.Prelude.{◌≡◌, ◌+◌, ◌*◌, ◌^◌, ◌<◌, ◌≤◌, take};
-ghost use Rattle.cards.specs.Step.{byte_step, pass_step, record_step, refusal_of, refused};
+ghost use Rattle.std.specs.Prelude.{◌≡◌, ◌+◌, ◌^◌, ◌<◌, ◌≤◌};
+ghost use Rattle.cards.specs.Step.{step};
 ghost use Rattle.cards.specs.Passes.{ntsc_at, bloom_at, auto_gradient_at, persistence_at, lut_at};
 ghost use Rattle.cards.specs.Passes.{curvature_at, color_correction_at, crt_at, vignette_at, scanlines_at, pass_at};
 ghost use Rattle.cards.specs.Records.{kinds, record_at};
-ghost use Rattle.cards.specs.Answers.{opened};
-ghost use Rattle.cards.specs.Card.{unused, header_at, ends_at, station_at, reading, reading_of, open_of, stopped_of};
+ghost use Rattle.cards.specs.Card.{header_at, station_at, opened, open_of, stopped_of};
 
-use super::fields::{
-    ByteRead, FieldRead, RealRead, Refusal, byte, byte_refusal, count, field, limited, preset,
-    raised, real_refusal, within,
-};
-use super::station::{Answer, Pass, Pending, Record, Station, is_full, last_kind};
+use super::fields::{Cursor, Stop, refuse_if};
+use super::station::{Pass, Pending, Record, Station, is_full, last_kind};
+use num::refusal::Refusal;
 use num::size::Size;
 
-#[derive(Clone, Copy)]
-pub enum PassRead {
-    Value(Pass, usize),
-    Refused(Refusal),
-}
+impl Cursor<'_> {
+    #[tactic(auto, unfolding(crate::specs::Passes::ntsc_at))]
+    fn ntsc(&mut self) -> Result<Pass, Stop>
+        requires { self.old.at < 2 ^ 31 }
+        ensures value { step result self.new.at ≡ ntsc_at self.old.bytes.now self.old.at }
+        ensures place { (self.new.bytes ≡ self.old.bytes) × (self.new.at ≤ self.old.at + 128) }
+    {
+        let strength = self.limited(1.0)?;
+        let bleed = self.count(64)?;
+        Ok(Pass::Ntsc { strength, bleed })
+    }
 
-pub(crate) fn ntsc(card: &[u8], at: usize) -> PassRead
-    requires { at < 2 ^ 31 }
-    ensures { pass_step result ≡ ntsc_at card.now at }
-{
-    let r1 = limited(card, at, 1.0);
-    let RealRead::Value(strength, at) = r1 else {
-        return PassRead::Refused(real_refusal(r1));
-    };
-    let r2 = count(card, at, 64);
-    let ByteRead::Value(bleed, at) = r2 else {
-        return PassRead::Refused(byte_refusal(r2));
-    };
-    PassRead::Value(Pass::Ntsc { strength, bleed }, at)
-}
-
-pub(crate) fn bloom(card: &[u8], at: usize) -> PassRead
-    requires { at < 2 ^ 31 }
-    ensures { pass_step result ≡ bloom_at card.now at }
-{
-    let r1 = byte(card, at, 8);
-    let ByteRead::Value(threshold, at) = r1 else {
-        return PassRead::Refused(byte_refusal(r1));
-    };
-    let r2 = limited(card, at, 1.0);
-    let RealRead::Value(strength, at) = r2 else {
-        return PassRead::Refused(real_refusal(r2));
-    };
-    let r3 = count(card, at, 64);
-    let ByteRead::Value(radius, at) = r3 else {
-        return PassRead::Refused(byte_refusal(r3));
-    };
-    PassRead::Value(
-        Pass::Bloom {
+    #[tactic(auto, unfolding(crate::specs::Passes::bloom_at))]
+    fn bloom(&mut self) -> Result<Pass, Stop>
+        requires { self.old.at < 2 ^ 31 }
+        ensures value { step result self.new.at ≡ bloom_at self.old.bytes.now self.old.at }
+        ensures place { (self.new.bytes ≡ self.old.bytes) × (self.new.at ≤ self.old.at + 128) }
+    {
+        let threshold = self.byte(8)?;
+        let strength = self.limited(1.0)?;
+        let radius = self.count(64)?;
+        Ok(Pass::Bloom {
             threshold,
             strength,
             radius,
-        },
-        at,
-    )
-}
+        })
+    }
 
-pub(crate) fn auto_gradient(card: &[u8], at: usize) -> PassRead
-    requires { at < 2 ^ 31 }
-    ensures { pass_step result ≡ auto_gradient_at card.now at }
-{
-    let r1 = limited(card, at, 1.0);
-    let RealRead::Value(strength, at) = r1 else {
-        return PassRead::Refused(real_refusal(r1));
-    };
-    let r2 = limited(card, at, 1.0);
-    let RealRead::Value(vertical, at) = r2 else {
-        return PassRead::Refused(real_refusal(r2));
-    };
-    let r3 = limited(card, at, 1.0);
-    let RealRead::Value(horizontal, at) = r3 else {
-        return PassRead::Refused(real_refusal(r3));
-    };
-    PassRead::Value(
-        Pass::AutoGradient {
+    #[tactic(auto, unfolding(crate::specs::Passes::auto_gradient_at))]
+    fn auto_gradient(&mut self) -> Result<Pass, Stop>
+        requires { self.old.at < 2 ^ 31 }
+        ensures value { step result self.new.at ≡ auto_gradient_at self.old.bytes.now self.old.at }
+        ensures place { (self.new.bytes ≡ self.old.bytes) × (self.new.at ≤ self.old.at + 128) }
+    {
+        let strength = self.limited(1.0)?;
+        let vertical = self.limited(1.0)?;
+        let horizontal = self.limited(1.0)?;
+        Ok(Pass::AutoGradient {
             strength,
             vertical,
             horizontal,
-        },
-        at,
-    )
-}
+        })
+    }
 
-pub(crate) fn persistence(card: &[u8], at: usize) -> PassRead
-    requires { at < 2 ^ 31 }
-    ensures { pass_step result ≡ persistence_at card.now at }
-{
-    let r1 = limited(card, at, 0.95);
-    let RealRead::Value(amount, at) = r1 else {
-        return PassRead::Refused(real_refusal(r1));
-    };
-    let r2 = count(card, at, 8);
-    let ByteRead::Value(depth, at) = r2 else {
-        return PassRead::Refused(byte_refusal(r2));
-    };
-    PassRead::Value(Pass::Persistence { amount, depth }, at)
-}
+    #[tactic(auto, unfolding(crate::specs::Passes::persistence_at))]
+    fn persistence(&mut self) -> Result<Pass, Stop>
+        requires { self.old.at < 2 ^ 31 }
+        ensures value { step result self.new.at ≡ persistence_at self.old.bytes.now self.old.at }
+        ensures place { (self.new.bytes ≡ self.old.bytes) × (self.new.at ≤ self.old.at + 128) }
+    {
+        let amount = self.limited(0.95)?;
+        let depth = self.count(8)?;
+        Ok(Pass::Persistence { amount, depth })
+    }
 
-pub(crate) fn lut(card: &[u8], at: usize) -> PassRead
-    requires { at < 2 ^ 31 }
-    ensures { pass_step result ≡ lut_at card.now at }
-{
-    let r1 = preset(card, at);
-    let ByteRead::Value(preset, at) = r1 else {
-        return PassRead::Refused(byte_refusal(r1));
-    };
-    let r2 = limited(card, at, 1.0);
-    let RealRead::Value(strength, at) = r2 else {
-        return PassRead::Refused(real_refusal(r2));
-    };
-    PassRead::Value(Pass::Lut { preset, strength }, at)
-}
+    #[tactic(auto, unfolding(crate::specs::Passes::lut_at))]
+    fn lut(&mut self) -> Result<Pass, Stop>
+        requires { self.old.at < 2 ^ 31 }
+        ensures value { step result self.new.at ≡ lut_at self.old.bytes.now self.old.at }
+        ensures place { (self.new.bytes ≡ self.old.bytes) × (self.new.at ≤ self.old.at + 128) }
+    {
+        let preset = self.preset()?;
+        let strength = self.limited(1.0)?;
+        Ok(Pass::Lut { preset, strength })
+    }
 
-pub(crate) fn curvature(card: &[u8], at: usize) -> PassRead
-    requires { at < 2 ^ 31 }
-    ensures { pass_step result ≡ curvature_at card.now at }
-{
-    let r1 = limited(card, at, 0.5);
-    let RealRead::Value(amount, at) = r1 else {
-        return PassRead::Refused(real_refusal(r1));
-    };
-    PassRead::Value(Pass::Curvature { amount }, at)
-}
+    #[tactic(auto, unfolding(crate::specs::Passes::curvature_at))]
+    fn curvature(&mut self) -> Result<Pass, Stop>
+        requires { self.old.at < 2 ^ 31 }
+        ensures value { step result self.new.at ≡ curvature_at self.old.bytes.now self.old.at }
+        ensures place { (self.new.bytes ≡ self.old.bytes) × (self.new.at ≤ self.old.at + 128) }
+    {
+        let amount = self.limited(0.5)?;
+        Ok(Pass::Curvature { amount })
+    }
 
-pub(crate) fn color_correction(card: &[u8], at: usize) -> PassRead
-    requires { at < 2 ^ 31 }
-    ensures { pass_step result ≡ color_correction_at card.now at }
-{
-    let r1 = within(card, at, -1.0, 1.0);
-    let RealRead::Value(brightness, at) = r1 else {
-        return PassRead::Refused(real_refusal(r1));
-    };
-    let r2 = raised(card, at, 0.0);
-    let RealRead::Value(contrast, at) = r2 else {
-        return PassRead::Refused(real_refusal(r2));
-    };
-    let r3 = raised(card, at, 0.0);
-    let RealRead::Value(saturation, at) = r3 else {
-        return PassRead::Refused(real_refusal(r3));
-    };
-    let r4 = raised(card, at, 0.01);
-    let RealRead::Value(gamma, at) = r4 else {
-        return PassRead::Refused(real_refusal(r4));
-    };
-    PassRead::Value(
-        Pass::ColorCorrection {
+    #[tactic(auto, unfolding(crate::specs::Passes::color_correction_at))]
+    fn color_correction(&mut self) -> Result<Pass, Stop>
+        requires { self.old.at < 2 ^ 31 }
+        ensures value { step result self.new.at ≡ color_correction_at self.old.bytes.now self.old.at }
+        ensures place { (self.new.bytes ≡ self.old.bytes) × (self.new.at ≤ self.old.at + 128) }
+    {
+        let brightness = self.within(-1.0, 1.0)?;
+        let contrast = self.raised(0.0)?;
+        let saturation = self.raised(0.0)?;
+        let gamma = self.raised(0.01)?;
+        Ok(Pass::ColorCorrection {
             brightness,
             contrast,
             saturation,
             gamma,
-        },
-        at,
-    )
-}
-
-pub(crate) fn crt(card: &[u8], at: usize) -> PassRead
-    requires { at < 2 ^ 31 }
-    ensures { pass_step result ≡ crt_at card.now at }
-{
-    let r1 = limited(card, at, 1.0);
-    let RealRead::Value(strength, at) = r1 else {
-        return PassRead::Refused(real_refusal(r1));
-    };
-    PassRead::Value(Pass::Crt { strength }, at)
-}
-
-pub(crate) fn vignette(card: &[u8], at: usize) -> PassRead
-    requires { at < 2 ^ 31 }
-    ensures { pass_step result ≡ vignette_at card.now at }
-{
-    let r1 = limited(card, at, 1.0);
-    let RealRead::Value(strength, at) = r1 else {
-        return PassRead::Refused(real_refusal(r1));
-    };
-    PassRead::Value(Pass::Vignette { strength }, at)
-}
-
-pub(crate) fn scanlines(card: &[u8], at: usize) -> PassRead
-    requires { at < 2 ^ 31 }
-    ensures { pass_step result ≡ scanlines_at card.now at }
-{
-    let r1 = limited(card, at, 1.0);
-    let RealRead::Value(strength, at) = r1 else {
-        return PassRead::Refused(real_refusal(r1));
-    };
-    PassRead::Value(Pass::Scanlines { strength }, at)
-}
-
-pub(crate) fn pass_refusal(r: PassRead) -> Refusal
-    ensures { result ≡ refusal_of (pass_step r) }
-{
-    match r {
-        PassRead::Value(_, _) => Refusal { number: 0, at: 0 },
-        PassRead::Refused(k) => k,
+        })
     }
-}
 
-// The settings of a pass of that kind.
-pub(crate) fn settings(card: &[u8], at: usize, kind: u8) -> PassRead
-    requires { at < 2 ^ 31 }
-    ensures { pass_step result ≡ pass_at kind card.now at }
-{
-    match kind {
-        1 => ntsc(card, at),
-        2 => bloom(card, at),
-        3 => auto_gradient(card, at),
-        4 => persistence(card, at),
-        5 => lut(card, at),
-        6 => curvature(card, at),
-        7 => color_correction(card, at),
-        8 => crt(card, at),
-        9 => vignette(card, at),
-        10 => scanlines(card, at),
-        _ => PassRead::Refused(Refusal { number: 4, at }),
+    #[tactic(auto, unfolding(crate::specs::Passes::crt_at))]
+    fn crt(&mut self) -> Result<Pass, Stop>
+        requires { self.old.at < 2 ^ 31 }
+        ensures value { step result self.new.at ≡ crt_at self.old.bytes.now self.old.at }
+        ensures place { (self.new.bytes ≡ self.old.bytes) × (self.new.at ≤ self.old.at + 128) }
+    {
+        let strength = self.limited(1.0)?;
+        Ok(Pass::Crt { strength })
     }
-}
 
-#[derive(Clone, Copy)]
-pub enum RecordRead {
-    Value(Record, usize),
-    Refused(Refusal),
-}
+    #[tactic(auto, unfolding(crate::specs::Passes::vignette_at))]
+    fn vignette(&mut self) -> Result<Pass, Stop>
+        requires { self.old.at < 2 ^ 31 }
+        ensures value { step result self.new.at ≡ vignette_at self.old.bytes.now self.old.at }
+        ensures place { (self.new.bytes ≡ self.old.bytes) × (self.new.at ≤ self.old.at + 128) }
+    {
+        let strength = self.limited(1.0)?;
+        Ok(Pass::Vignette { strength })
+    }
 
-pub(crate) fn record_refusal(r: RecordRead) -> Refusal
-    ensures { result ≡ refusal_of (record_step r) }
-{
-    match r {
-        RecordRead::Value(_, _) => Refusal { number: 0, at: 0 },
-        RecordRead::Refused(k) => k,
+    #[tactic(auto, unfolding(crate::specs::Passes::scanlines_at))]
+    fn scanlines(&mut self) -> Result<Pass, Stop>
+        requires { self.old.at < 2 ^ 31 }
+        ensures value { step result self.new.at ≡ scanlines_at self.old.bytes.now self.old.at }
+        ensures place { (self.new.bytes ≡ self.old.bytes) × (self.new.at ≤ self.old.at + 128) }
+    {
+        let strength = self.limited(1.0)?;
+        Ok(Pass::Scanlines { strength })
     }
-}
 
-// A record, after the first n of `records`.
-pub(crate) fn read_record(card: &[u8], at: usize, records: [Record; 12], n: usize) -> RecordRead
-    requires { (at < 2 ^ 30) × (n ≤ 12) }
-    ensures { record_step result ≡ record_at (kinds (take n records)) card.now at }
-{
-    let r1 = byte(card, at, 4);
-    let ByteRead::Value(kind, next) = r1 else {
-        return RecordRead::Refused(byte_refusal(r1));
-    };
-    if kind == 0 {
-        return RecordRead::Refused(Refusal { number: 4, at });
+    // The settings of a pass of that kind.
+    #[tactic(auto, unfolding(crate::specs::Passes::pass_at))]
+    fn settings(&mut self, kind: u8) -> Result<Pass, Stop>
+        requires { self.old.at < 2 ^ 31 }
+        ensures value { step result self.new.at ≡ pass_at kind self.old.bytes.now self.old.at }
+        ensures place { (self.new.bytes ≡ self.old.bytes) × (self.new.at ≤ self.old.at + 128) }
+    {
+        match kind {
+            1 => self.ntsc(),
+            2 => self.bloom(),
+            3 => self.auto_gradient(),
+            4 => self.persistence(),
+            5 => self.lut(),
+            6 => self.curvature(),
+            7 => self.color_correction(),
+            8 => self.crt(),
+            9 => self.vignette(),
+            10 => self.scanlines(),
+            _ => Err(Stop {
+                refusal: Refusal::UnknownPass,
+                at: self.at,
+            }),
+        }
     }
-    if 10 < kind {
-        return RecordRead::Refused(Refusal { number: 4, at });
-    }
-    if is_full(records, n, kind) {
-        return RecordRead::Refused(Refusal { number: 5, at });
-    }
-    if kind < last_kind(records, n) {
-        return RecordRead::Refused(Refusal { number: 15, at });
-    }
-    let r2 = byte(card, next, 1);
-    let ByteRead::Value(on, at) = r2 else {
-        return RecordRead::Refused(byte_refusal(r2));
-    };
-    let r3 = settings(card, at, kind);
-    let PassRead::Value(pass, at) = r3 else {
-        return RecordRead::Refused(pass_refusal(r3));
-    };
-    let held = Size {
-        width: 0,
-        height: 0,
-    };
-    RecordRead::Value(
-        Record {
-            on: on == 1,
+
+    // A record, behind those that were read. As a card has it, it holds nothing.
+    #[tactic(auto, unfolding(crate::specs::Records::record_at))]
+    fn record(&mut self, seen: &[Record]) -> Result<Record, Stop>
+        requires { self.old.at < 2 ^ 30 }
+        ensures value { step result self.new.at ≡ record_at (kinds seen.now) self.old.bytes.now self.old.at }
+        ensures place { (self.new.bytes ≡ self.old.bytes) × (self.new.at ≤ self.old.at + 133) }
+    {
+        let at = self.at;
+        let kind = self.byte(4)?;
+        refuse_if(kind == 0 || 10 < kind, Refusal::UnknownPass, at)?;
+        refuse_if(is_full(seen, kind), Refusal::DoubledPass, at)?;
+        refuse_if(kind < last_kind(seen), Refusal::PassOutOfOrder, at)?;
+        let on = self.byte(1)? == 1;
+        let pass = self.settings(kind)?;
+        Ok(Record {
+            on,
             pass,
-            held,
-        },
-        at,
-    )
-}
-
-// What opening a card answers, with the station: an empty one where the card is refused.
-#[derive(Clone, Copy)]
-pub struct Opened {
-    pub answer: Answer,
-    pub station: Station,
-}
-
-// What stands in a place past n.
-pub fn filler() -> Record
-    ensures { result ≡ unused }
-{
-    let pass = Pass::Scanlines { strength: 0.0 };
-    let held = Size {
-        width: 0,
-        height: 0,
-    };
-    Record {
-        on: false,
-        pass,
-        held,
+            held: Size::NOTHING,
+        })
     }
-}
 
-// What reading a whole card answers, with the station and the place where it stopped. An enum cannot hold the station, which has an array.
-#[derive(Clone, Copy)]
-pub struct Reading {
-    pub answer: Answer,
-    pub station: Station,
-    pub at: usize,
-}
+    // The header: the version, then the number of passes.
+    #[tactic(auto, unfolding(crate::specs::Card::header_at))]
+    fn header(&mut self) -> Result<usize, Stop>
+        requires { self.old.at ≡ 0 }
+        ensures value { step result self.new.at ≡ header_at self.old.bytes.now self.old.at }
+        ensures place { (self.new.bytes ≡ self.old.bytes) × (self.new.at ≤ 8) }
+    {
+        let at = self.at;
+        let version = self.byte(4)?;
+        refuse_if(version != 1, Refusal::ForeignCard, at)?;
+        let at = self.at;
+        let n = self.byte(4)?;
+        refuse_if(12 < n, Refusal::OverfullCard, at)?;
+        Ok(n as usize)
+    }
 
-pub(crate) fn refused(k: Refusal) -> Reading
-    ensures { reading result ≡ reading_of (refused k) }
-{
-    let f = filler();
-    let records = [f; 12];
-    let station = Station {
-        records,
-        n: 0,
-        pending: Pending::Nothing,
-    };
-    Reading {
-        answer: Answer::Refused(k.number),
-        station,
-        at: k.at,
-    }
-}
-
-// Whether the card ends at that place: zero bits to the byte's end, and no byte after it.
-pub fn ends(card: &[u8], at: usize) -> bool
-    requires { at < 2 ^ 44 }
-    ensures { result ≡ ends_at card.now at }
-{
-    let bytes = (at + 7) / 8;
-    if card.len() != bytes {
-        return false;
-    }
-    let FieldRead::Value(v, _) = field(card, at, bytes * 8 - at) else {
-        return false;
-    };
-    v == 0
-}
-
-// The header: the version, then the number of passes.
-pub(crate) fn header(card: &[u8]) -> ByteRead
-    ensures { byte_step result ≡ header_at card.now 0 }
-{
-    let r1 = byte(card, 0, 4);
-    let ByteRead::Value(version, at) = r1 else {
-        return r1;
-    };
-    if version != 1 {
-        return ByteRead::Refused(Refusal { number: 2, at: 0 });
-    }
-    let r2 = byte(card, at, 4);
-    let ByteRead::Value(n, _) = r2 else {
-        return r2;
-    };
-    if 12 < n {
-        return ByteRead::Refused(Refusal { number: 3, at });
-    }
-    r2
-}
-
-// The way through a card: the header, the records one by one, the end.
-pub(crate) fn read(card: &[u8]) -> Reading
-    ensures { reading result ≡ reading_of (station_at card.now 0) }
-{
-    let r1 = header(card);
-    let ByteRead::Value(count, at) = r1 else {
-        return refused(byte_refusal(r1));
-    };
-    let n = count as usize;
-    let f = filler();
-    let mut records = [f; 12];
-    let mut next = at;
-    let mut i: usize = 0;
-    while i < n {
-        let r2 = read_record(card, next, records, i);
-        let RecordRead::Value(r, after) = r2 else {
-            return refused(record_refusal(r2));
-        };
-        records[i] = r;
-        next = after;
-        i += 1;
-    }
-    if !ends(card, next) {
-        return refused(Refusal {
-            number: 7,
-            at: next,
-        });
-    }
-    let station = Station {
-        records,
-        n,
-        pending: Pending::Nothing,
-    };
-    Reading {
-        answer: Answer::Accepted,
-        station,
-        at: next,
+    // The way through a card: the header, the records one by one, the end.
+    fn station(&mut self) -> Result<Station, Stop>
+        requires { self.old.at ≡ 0 }
+        ensures { step result self.new.at ≡ station_at self.old.bytes.now 0 }
+    {
+        let n = self.header()?;
+        let mut records = [Record::filler(); 12];
+        for i in 0..n {
+            records[i] = self.record(&records[..i])?;
+        }
+        refuse_if(!self.is_at_end(), Refusal::LongCard, self.at)?;
+        Ok(Station {
+            records,
+            n,
+            pending: Pending::Nothing,
+        })
     }
 }
 
 // The station of a card, or why the card is refused.
-pub fn open(card: &[u8]) -> Opened
+#[tactic(auto, unfolding(crate::specs::Card::open_of))]
+pub fn open(card: &[u8]) -> Result<Station, Refusal>
     ensures { opened result ≡ open_of card.now }
 {
-    let r = read(card);
-    let answer = r.answer;
-    let station = r.station;
-    Opened { answer, station }
+    let mut cursor = Cursor { bytes: card, at: 0 };
+    cursor.station().map_err(|stop| stop.refusal)
 }
 
 // The bit place where reading the card stops.
+#[tactic(auto, unfolding(crate::specs::Card::stopped_of))]
 pub fn stopped(card: &[u8]) -> usize
     ensures { result ≡ stopped_of card.now }
 {
-    let r = read(card);
-    r.at
+    let mut cursor = Cursor { bytes: card, at: 0 };
+    match cursor.station() {
+        Ok(_) => cursor.at,
+        Err(stop) => stop.at,
+    }
 }

@@ -25,21 +25,21 @@ unfolding value_of
 loop-i-init c = (omega arith, refl)
 
 pub overflow_mul-value : goal.overflow_mul-value
-overflow_mul-value c = omega (arith, below c.args.bits c.args.j c.loop-i.i c.loop-i.value c.requires.1 (omega arith) c.loop-i.invariant.1)
+overflow_mul-value c = omega (arith, below c.args.bits.now c.args.j c.loop-i.i c.loop-i.value c.requires.1 (omega arith) c.loop-i.invariant.1)
 
 pub overflow_add-value-in-loop-i : goal.overflow_add-value-in-loop-i
 overflow_add-value-in-loop-i c = let a = c.args in
-    omega (arith, below a.bits a.j c.loop-i.i c.loop-i.value c.requires.1 (omega arith) c.loop-i.invariant.1, c.requires.1 (8 * a.j + c.loop-i.i))
+    omega (arith, below a.bits.now a.j c.loop-i.i c.loop-i.value c.requires.1 (omega arith) c.loop-i.invariant.1, c.requires.1 (8 * a.j + c.loop-i.i))
 
 pub loop-i-preserved : goal.loop-i-preserved
 unfolding value_of
 loop-i-preserved c = let a = c.args in
     let i = c.loop-i.i in (
       omega arith,
-      rw add-one (omega (arith, c.loop-i.invariant.1, get_or-drop (8 * a.j) a.bits i 0)),
+      rw add-one (omega (arith, c.loop-i.invariant.1, get_or-drop (8 * a.j) a.bits.now i 0)),
     )
 
 pub returns : goal.returns
 returns c = let a = c.args in
     let done : c.loop-i.i ≡ 8 = omega arith in
-    c.loop-i.invariant.1 ∙ ap (value_of (drop (8 * a.j) a.bits)) done
+    c.loop-i.invariant.1 ∙ ap (value_of (drop (8 * a.j) a.bits.now)) done

@@ -1,5 +1,0 @@
--- `cards::reader::pass_refusal` meets its contract. Assumes nothing.
-use Rattle.cards.proofs.reader.pass_refusal.Goals as goal
-
-pub returns-in-Value : goal.returns-in-Value
-returns-in-Value c = rw c.in-Value.is
