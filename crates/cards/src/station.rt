@@ -113,7 +113,7 @@ impl Station {
     // The records of its chain: no more than twelve are there, whatever n says.
     pub fn chain(&self) -> &[Record]
         ensures chain { result.now ≡ chain_of self.now }
-        ensures few { length result.now ≤ 12 }
+        ensures few { (length result.now ≤ 12) × (length self.now.records ≡ 12) }
     {
         &self.records[..self.n.min(12)]
     }

@@ -22,7 +22,11 @@ use Rattle.cards.specs.declared.station.Record.{Record}
 use Rattle.cards.specs.declared.station.Station.{Station}
 use Rattle.cards.specs.Laws.Good.{headed}
 use Rattle.chain.proofs.PassCases.{by_memory}
+use Rattle.chain.specs.Lent.{Found}
+use Rattle.cards.specs.Laws.Scans.{past}
+use Rattle.chain.proofs.FirstOf.{first-told}
 use Rattle.chain.proofs.Replies.{present}
+use lib.ListN.{get_or}
 
 -- ## The first persistence
 
@@ -40,6 +44,11 @@ first_deep seen (r ∷ rs) n e =
 -- so it has on a station that a reset would be accepted of
 pub deep_enough : (s : Station) → lacks s 4 ≡ 0 → 1 ≤ first_depth (chain_of s)
 deep_enough s none = let p = present s 4 none in first_deep [] (chain_of s) p.0.normal p.1
+
+pub depth_known : (s : Station) (i : ℕ) → Found 4 s i → lacks s 4 ≡ 0 → 1 ≤ depth_of (get_or s.records i past).pass
+depth_known s i t none =
+    let e = first-told 4 s.n 0 (λ r. depth_of r.pass) s.records i past t.first t.room in
+    omega (arith, deep_enough s none, e)
 
 -- ## A new depth
 

@@ -6,7 +6,7 @@ use mathlib.Core.Path.{◌≡◌, subst}
 use mathlib.Core.Bool.{true}
 use mathlib.Core.List.{List, [], ◌∷◌, ◌++◌}
 use lib.ListN.{length, take, get_or}
-use lib.Seq.{get_or-take, length-take-le}
+use lib.ListN.{length-take}
 use Rattle.num.specs.Held.{area}
 use Rattle.num.specs.declared.size.Size.{Size}
 use Rattle.cards.specs.Alike.{chain_of}
@@ -26,26 +26,19 @@ depth_more (r ∷ rs) zero d l = omega arith
 depth_more (r ∷ rs) (suc i) d l = omega (arith, depth_more rs i d (le_of_suc-le-suc l))
 
 -- fewer records are not deeper
-pub depth_less : (rs : List Record) (i n : ℕ) → i ≤ n → depth (take i rs) ≤ depth (take n rs)
+pub depth_less : (rs : List Record) (i : ℕ) → depth (take i rs) ≤ depth rs
 unfolding depth
-depth_less rs zero n l = zero-le
-depth_less [] (suc i) n l = zero-le
-depth_less (r ∷ rs) (suc i) zero l = absurd (not-suc-le-zero l)
-depth_less (r ∷ rs) (suc i) (suc n) l = omega (arith, depth_less rs i n (le_of_suc-le-suc l))
+depth_less rs zero = zero-le
+depth_less [] (suc i) = zero-le
+depth_less (r ∷ rs) (suc i) = omega (arith, depth_less rs i)
 
 -- every pass of a normalised chain is normalised
-normal_at : (seen : List ℕ) (rs : List Record) → normal_chain seen rs ≡ true → (i : ℕ) (d : Record) → i < length rs → normal_pass (get_or rs i d).pass ≡ true
+pub normal_at : (seen : List ℕ) (rs : List Record) → normal_chain seen rs ≡ true → (i : ℕ) (d : Record) → i < length rs → normal_pass (get_or rs i d).pass ≡ true
 normal_at seen [] h i d l = absurd (not-suc-le-zero l)
 normal_at seen (r ∷ rs) h zero d l = (headed seen r rs h).normal
 normal_at seen (r ∷ rs) h (suc i) d l = normal_at (seen ++ kind_of r.pass ∷ []) rs (headed seen r rs h).others i d (le_of_suc-le-suc l)
 
 -- so is that of each record of a good station's chain
-pub normal_of : (s : Station) → good_station s ≡ true → length s.records ≡ 12 → (i : ℕ) (d : Record) → i < s.n
-    → normal_pass (get_or s.records i d).pass ≡ true
-normal_of s e long i d l =
-    let g = good s e in
-    let many : length (chain_of s) ≡ s.n = length-take-le s.n s.records (omega (arith, g.few)) in
-    subst (λ (r : Record). normal_pass r.pass ≡ true) (get_or-take s.n s.records i d l) (normal_at [] (chain_of s) g.normal i d (omega arith))
 
 -- a chain reads the curve where one of its passes does
 reads_at : (rs : List Record) (i : ℕ) (d : Record) → i < length rs → reads (get_or rs i d).pass ≡ true → reads_curve rs ≡ true
@@ -55,16 +48,13 @@ reads_at (r ∷ rs) zero d l e = or_left (reads r.pass) (reads_curve rs) e
 reads_at (r ∷ rs) (suc i) d l e = or-second (reads r.pass) (reads_curve rs) (reads_at rs i d (le_of_suc-le-suc l) e)
 
 -- a good station's records are ready where the history is long enough, and the curve where it is read
-pub readies : (s : Station) (size : Size) (room lent : ℕ) → good_station s ≡ true → length s.records ≡ 12 → depth (chain_of s) * area size ≤ room
-    → (reads_curve (chain_of s) ≡ true → 256 ≤ lent) → Readies size s room lent
-readies s size room lent e long fits read =
+pub readies : (s : Station) (size : Size) (room lent : ℕ) → good_station s ≡ true → depth (chain_of s) * area size ≤ room
+    → (reads_curve (chain_of s) ≡ true → 256 ≤ lent) → Readies size (chain_of s) room lent
+readies s size room lent e fits read =
     let g = good s e in
-    let many : length (chain_of s) ≡ s.n = length-take-le s.n s.records (omega (arith, g.few)) in
     record {
-      few = g.few;
+      few = omega (arith, length-take s.n s.records, g.few);
       past_room = fits;
-      normal = normal_of s e long;
-      curve_room = λ i d l.
-          subst (λ (r : Record). reads r.pass ≡ true → 256 ≤ lent) (get_or-take s.n s.records i d l)
-          (λ c. read (reads_at (chain_of s) i d (omega arith) c));
+      normal = normal_at [] (chain_of s) g.normal;
+      curve_room = λ i d l c. read (reads_at (chain_of s) i d l c);
     }

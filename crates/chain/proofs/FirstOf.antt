@@ -4,12 +4,18 @@ use native.Mathlib.Nat.{le_of_suc-le-suc, not-suc-le-zero}
 use native.Mathlib.Numerals.{add-one}
 use native.Mathlib.Omega.{arith}
 use mathlib.Core.Path.{◌≡◌, refl, sym, ap, subst, ◌∙◌}
-use mathlib.Core.Bool.{Bool, true, false, ◌||◌, cond}
+use mathlib.Core.Bool.{Bool, true, false, true≢false, ◌||◌, cond}
 use mathlib.Core.List.{List, [], ◌∷◌, ◌++◌, append-nil}
 use borrow.Author.Tests.{eqb-true, eqb-false, eq-eqb, ne_eqb}
 use lib.Dec.{eqb}
 use lib.ListN.{length, take, drop, get_or, set, drop_of_length-le, take-append-drop}
 use lib.Seq.{slice-cons, length-take-le}
+use Rattle.std.specs.List.{position, position_from}
+use Rattle.std.specs.Option.{is_some}
+use Rattle.std.proofs.Common.{Some}
+use Rattle.std.proofs.lemmas.Iterator.Adapters.{position_from-zero}
+use Rattle.std.proofs.lemmas.List.{get_or-take}
+use Rattle.std.proofs.lemmas.List.Quantifiers.{position-Some}
 use Rattle.chain.specs.Calls.{on_first, of_first, forget, with_depth, redepth, stepped, stepped_pass, preset_of, presets}
 use Rattle.chain.specs.Chain.{depth_of}
 use Rattle.chain.specs.Lent.{First}
@@ -30,46 +36,34 @@ any_end (r ∷ rs) (suc i) d e l = any_end rs i d e (le_of_suc-le-suc l)
 
 -- ## Finding it
 
--- none before i, and one from i on
-pub record Sought (kind n : ℕ) (rs : List Record) (i : ℕ) : Type 0 where
-  pub within : i < n
-  pub left : among kind (kinds (drop i (take n rs))) ≡ true
-  pub earlier : (j : ℕ) → j < i → kind_of (get_or rs j past).pass ≡ kind → ⊥
+-- whether the record is of that kind
+abbrev pub is_kind : ℕ → Record → Bool
+is_kind kind r = eqb (kind_of r.pass) kind
 
-none_of_none : (kind n : ℕ) (rs : List Record) → among kind (kinds (take n rs)) ≡ true → 0 < n
-none_of_none kind zero rs e = false_true e
-none_of_none kind (suc n) rs e = suc-le-suc zero-le
+-- a place that is found is that of the first one
+pub found : (kind n : ℕ) (rs : List Record) (i : ℕ) → n ≤ length rs → position (is_kind kind) (take n rs) ≡ Some i → First kind n rs i
+found kind n rs i l e =
+    let at = λ (d : Record). position-Some (is_kind kind) (take n rs) i d e in
+    let within : i < n = omega (arith, (at past).0, length-take-le n rs l) in
+    record {
+      within = within;
+      there = λ d. eqb-true _ _ (ap (is_kind kind) (sym (get_or-take n rs i d within)) ∙ (at d).1);
+      earlier = λ j d m k. let q = (at d).2 j m in
+          true≢false (sym (eq-eqb _ _ k) ∙ ap (is_kind kind) (sym (get_or-take n rs j d (omega arith))) ∙ q);
+    }
 
-pub sought_all : (kind n : ℕ) (rs : List Record) → among kind (kinds (take n rs)) ≡ true → Sought kind n rs 0
-sought_all kind n rs e = record { within = none_of_none kind n rs e; left = e; earlier = λ j l. absurd (not-suc-le-zero l) }
+among_place : (kind i : ℕ) (rs : List Record) → among kind (kinds rs) ≡ is_some (position_from (is_kind kind) i rs)
+among_place kind i [] = refl
+among_place kind i (r ∷ rs) = go (is_kind kind r) (among_place kind (i + 1) rs)
+  where
+    go : (b : Bool) → among kind (kinds rs) ≡ is_some (position_from (is_kind kind) (i + 1) rs)
+        → (b || among kind (kinds rs)) ≡ is_some (cond b (Some i) (position_from (is_kind kind) (i + 1) rs))
+    go true e = refl
+    go false e = e
 
-module _ {kind n : ℕ} {rs : List Record} {i : ℕ} (t : Sought kind n rs i) (long : length rs ≡ 12) (few : n ≤ 12) where
-  -- the record at i comes next
-  next_kind : (eqb (kind_of (get_or rs i past).pass) kind || among kind (kinds (drop (suc i) (take n rs)))) ≡ true
-  next_kind = ap (λ (l : List Record). among kind (kinds l)) (sym (slice-cons i n rs past t.within (omega arith))) ∙ t.left
-
-  pub sought_found : kind_of (get_or rs i past).pass ≡ kind → First kind n rs i
-  sought_found e = record {
-    within = t.within;
-    there = λ d. ap (λ (r : Record). kind_of r.pass) (any_end rs i d past (omega (arith, t.within))) ∙ e;
-    earlier = λ j d l k. t.earlier j l (ap (λ (r : Record). kind_of r.pass) (any_end rs j past d (omega (arith, t.within))) ∙ k);
-  }
-
-  pub sought_more : i + 1 < n → (kind_of (get_or rs i past).pass ≡ kind → ⊥) → Sought kind n rs (i + 1)
-  sought_more l no_kind = record {
-    within = l;
-    left = rw add-one (or-second_only _ _ (ne_eqb _ _ no_kind) next_kind);
-    earlier = λ j m e. go j m e (eqb j i) refl;
-  }
-    where
-      go : (j : ℕ) → j < i + 1 → kind_of (get_or rs j past).pass ≡ kind → (b : Bool) → eqb j i ≡ b → ⊥
-      go j m e true q = no_kind (subst (λ (k : ℕ). kind_of (get_or rs k past).pass ≡ kind) (eqb-true j i q) e)
-      go j m e false q = let other : j ≡ i → ⊥ = eqb-false j i q in t.earlier j (omega arith) e
-
-  pub sought_last : n ≤ i + 1 → First kind n rs i
-  sought_last l =
-      let end : drop (suc i) (take n rs) ≡ [] = drop_of_length-le (take n rs) {i = suc i} (omega (arith, length-take-le n rs (omega arith))) in
-      sought_found (eqb-true _ _ (or-first_only _ _ (ap (λ (q : List Record). among kind (kinds q)) end) next_kind))
+-- a kind is there just where a place is found
+pub placed-among : (kind : ℕ) (rs : List Record) → among kind (kinds rs) ≡ is_some (position (is_kind kind) rs)
+placed-among kind rs = among_place kind 0 rs ∙ ap is_some (sym (position_from-zero (is_kind kind) rs))
 
 -- among the records after another
 later : {kind n : ℕ} {r : Record} {rs : List Record} {i : ℕ} → First kind (suc n) (r ∷ rs) (suc i) → First kind n rs i

@@ -25,6 +25,7 @@ use Rattle.chain.specs.Lent.{Lent, Readies}
 use Rattle.cards.specs.Normal.{good_station}
 use Rattle.cards.specs.declared.station.Record.{Record}
 use Rattle.cards.specs.declared.station.Station.{Station}
+use Rattle.cards.specs.Laws.Good.{good}
 use Rattle.chain.proofs.Depths.{readies}
 
 pub record Goes (s : Station) (w h words history floats ints : ℕ) (curve : List Float) : Type 0 where
@@ -62,9 +63,9 @@ goes s w h words history floats ints curve e =
 
 -- past the refusals, what the chain is lent: the first words of each buffer
 pub lends : (s : Station) (w h : ℕ) (words past : List ℕ) (floats : List Float) (ints : List ℕ) (curve : List Float)
-    → Goes s w h (length words) (length past) (length floats) (length ints) curve → length s.records ≡ 12
-    → Lent (sized w h) (take (h * w) words) (take (float_room w h) floats) (take (h * w) ints) × Readies (sized w h) s (length past) (length curve)
-lends s w h words past floats ints curve g long = (
+    → Goes s w h (length words) (length past) (length floats) (length ints) curve
+    → Lent (sized w h) (take (h * w) words) (take (float_room w h) floats) (take (h * w) ints) × Readies (sized w h) (chain_of s) (length past) (length curve)
+lends s w h words past floats ints curve g = (
   record {
     shape = record { area = length-take-le _ _ g.frame_room; wide = g.wide.1; high = g.high.1 };
     some-wide = g.wide.0;
@@ -72,8 +73,12 @@ lends s w h words past floats ints curve g long = (
     floats_room = length-take-le _ _ g.floats_room;
     ints_room = length-take-le _ _ g.ints_room;
   },
-  readies s (sized w h) (length past) (length curve) g.good long g.past_room (λ r. curve_long curve (g.curve_good r)),
+  readies s (sized w h) (length past) (length curve) g.good g.past_room (λ r. curve_long curve (g.curve_good r)),
 )
+
+-- a good station's chain has as many records as its n says
+pub chain_long : (s : Station) (rs : List Record) → good_station s ≡ true → length s.records ≡ 12 → rs ≡ chain_of s → length rs ≡ s.n
+chain_long s rs g long e = let few = (good s g).few in ap length e ∙ length-take-le s.n s.records (omega arith)
 
 -- the words behind the first k stay
 pub stays : {X : Type 0} (k : ℕ) (new old : List X) → k ≤ length old → length new ≡ length (take k old) → drop k (new ++ drop k old) ≡ drop k old
@@ -93,13 +98,11 @@ module _ (k w h : ℕ) (s : Station) (words past : List ℕ) (floats ints : ℕ)
 
   -- or what the chain makes of it; the records past n are as they were
   pub shown_frame : k ≡ 0 → {frame' past' : List ℕ} {records' : List Record} {clipped' samples' : ℕ}
-      → ran (painted frame' clipped') (take s.n records') past' ≡ chain w h curve (chain_of s) (painted (take (h * w) words) 0) past
-      → drop s.n records' ≡ drop s.n s.records → samples' ≡ samples_in w h (chain_of s)
-      → framed (acceptance (clipped' ∷ samples' ∷ [])) (record { records = records'; n = s.n; pending = s.pending }) (frame' ++ drop (h * w) words) past'
+      → ran (painted frame' clipped') records' past' ≡ chain w h curve (chain_of s) (painted (take (h * w) words) 0) past
+      → samples' ≡ samples_in w h (chain_of s)
+      → framed (acceptance (clipped' ∷ samples' ∷ [])) (rechain records' s) (frame' ++ drop (h * w) words) past'
       ≡ frame_reply w h s words past floats ints curve
   unfolding frame_reply_by unless shown_by
-  shown_frame z {frame'} {past'} {records'} {clipped'} {samples'} x d n =
-      ap (λ (rs : List Record). framed (acceptance (clipped' ∷ samples' ∷ [])) (record { records = rs; n = s.n; pending = s.pending }) (frame' ++ drop (h * w) words) past')
-      (sym (take-append-drop s.n records') ∙ ap (λ (rs : List Record). take s.n records' ++ rs) d)
-      ∙ ap₂ (λ (y : Ran) (m : ℕ). framed (acceptance (y.frame.clipped ∷ m ∷ [])) (rechain y.records s) (y.frame.words ++ drop (h * w) words) y.past) x n
+  shown_frame z x n =
+      ap₂ (λ (y : Ran) (m : ℕ). framed (acceptance (y.frame.clipped ∷ m ∷ [])) (rechain y.records s) (y.frame.words ++ drop (h * w) words) y.past) x n
       ∙ ap (λ (m : ℕ). unless m (refusing_frame s words past) (shown w h s words past curve)) (sym z ∙ e)

@@ -10,7 +10,8 @@ use mathlib.Core.List.{List, [], ◌∷◌, ◌++◌, append-nil, append_assoc}
 use mir.Syntax.{w32}
 use mir.Val.{Fits}
 use lib.ListN.{length, take, drop, get_or, set, length-append, length-drop, length-set, take-append-drop, drop_of_length-le}
-use lib.Seq.{length-take-le, take_at, drop_at, drop-drop, get_or-drop, drop-set-lt, take-suc-set, slice-cons}
+use lib.Seq.{length-take-le, take_at, drop_at, drop-drop, get_or-drop, drop-set-lt, take-suc-set, take_all}
+use Rattle.std.proofs.Common.{drop-cons}
 use lib.Ieee.{Float}
 use Rattle.num.specs.Const.{c0_0, c0_95}
 use Rattle.num.specs.Held.{Held, area, sized, same_held}
@@ -29,6 +30,7 @@ use Rattle.cards.specs.Normal.{normal_pass, settled}
 use Rattle.cards.specs.declared.station.Pass.{Pass}
 use Rattle.cards.specs.declared.station.Pass.TheVariants.{Ntsc, Bloom, Persistence, ColorCorrection}
 use Rattle.cards.specs.declared.station.Record.{Record}
+use Rattle.cards.specs.Laws.Scans.{past as past-end}
 use Rattle.cards.specs.declared.station.Station.{Station}
 use Rattle.chain.proofs.Depths.{depth_more, depth_less}
 use Rattle.chain.proofs.Taken.{count-fine, bleed_few, radius_few, Summed, summed_none, summed_fits, summed_more, summed_all}
@@ -196,16 +198,16 @@ reshape done new front part tail goes m e =
 
 -- the first i of n records have had their turns: `records` has what they hold, their parts are the first `at` words of the history; `room` is its length
 pub record Running
-    (size : Size) (n i room at : ℕ) (curve : List Float) (rs : List Record) (words was : List ℕ) (records : List Record)
+    (size : Size) (i room at : ℕ) (curve : List Float) (rs : List Record) (words was : List ℕ) (records : List Record)
     (frame : List ℕ) (clipped samples : ℕ) (past : List ℕ) (floats : List Float) (ints : List ℕ) : Type 0
   where
-    pub near : i ≤ n
-    pub so_far : chain size.width size.height curve (take n rs) (painted words 0) was
-        ≡ joined (take i records) (take at past) (chain size.width size.height curve (drop i (take n rs)) (painted frame clipped) (drop at past))
+    pub near : i ≤ length rs
+    pub so_far : chain size.width size.height curve rs (painted words 0) was
+        ≡ joined (take i records) (take at past) (chain size.width size.height curve (drop i rs) (painted frame clipped) (drop at past))
     pub begins : at ≡ depth (take i rs) * area size
     pub left : drop i records ≡ drop i rs
-    pub long : length records ≡ 12
-    pub taken : Summed size.width size.height n i rs samples
+    pub long : length records ≡ length rs
+    pub taken : Summed size.width size.height i rs samples
     pub few : clipped ≤ 3145728 * i
     pub lent : Lent size frame floats ints
     pub kept : length past ≡ room
@@ -221,35 +223,34 @@ relent l f g k = record {
 }
 
 -- of the record at i: it is r, and normalised, and its part of the history has `part` words; records and history are long enough for all n
-pub record Next (size : Size) (n i room : ℕ) (rs : List Record) (d r : Record) (part : ℕ) : Type 0 where
-  pub long : length rs ≡ 12
-  pub few : n ≤ 12
-  pub near : i < n
+pub record Next (size : Size) (i room : ℕ) (rs : List Record) (d r : Record) (part : ℕ) : Type 0 where
+  pub few : length rs ≤ 12
+  pub near : i < length rs
   pub is : r ≡ get_or rs i d
   pub normal : normal_pass (get_or rs i d).pass ≡ true
   pub parts : part ≡ depth_of r.pass * area size
-  pub fits : depth (take n rs) * area size ≤ room
+  pub fits : depth rs * area size ≤ room
 
-module _ {size : Size} {n : ℕ} {curve : List Float} {rs : List Record} where
+module _ {size : Size} {curve : List Float} {rs : List Record} where
   -- before the first record
-  pub running_none : {frame : List ℕ} {past : List ℕ} {floats : List Float} {ints : List ℕ} → length rs ≡ 12 → Lent size frame floats ints
-      → Running size n 0 (length past) 0 curve rs frame past rs frame 0 0 past floats ints
+  pub running_none : {frame : List ℕ} {past : List ℕ} {floats : List Float} {ints : List ℕ} → Lent size frame floats ints
+      → Running size 0 (length past) 0 curve rs frame past rs frame 0 0 past floats ints
   unfolding depth
-  running_none long l =
+  running_none l =
       record {
         near = omega arith;
         so_far = refl;
         begins = sym (zero-mul (area size));
         left = refl;
-        long = long;
-        taken = summed_none _ _ _ _;
+        long = refl;
+        taken = summed_none _ _ _;
         few = omega arith;
         lent = l;
         kept = refl;
       }
 
   module _ {i room at : ℕ} {words was : List ℕ} {records : List Record} {frame : List ℕ} {clipped samples : ℕ} {past : List ℕ} {floats : List Float}
-      {ints : List ℕ} (t : Running size n i room at curve rs words was records frame clipped samples past floats ints) where
+      {ints : List ℕ} (t : Running size i room at curve rs words was records frame clipped samples past floats ints) where
     -- the record at i is as it was
     pub next-is : (d : Record) → get_or records i d ≡ get_or rs i d
     next-is d =
@@ -257,16 +258,28 @@ module _ {size : Size} {n : ℕ} {curve : List Float} {rs : List Record} where
         ap (λ (k : ℕ). get_or records k d) (sym none) ∙ sym (get_or-drop i records 0 d) ∙ ap (λ (q : List Record). get_or q 0 d) t.left
         ∙ get_or-drop i rs 0 d ∙ ap (λ (k : ℕ). get_or rs k d) none
 
-    module _ {d r : Record} {part : ℕ} (q : Next size n i room rs d r part) where
+    -- what is known of it
+    pub next_of : {lent d count : ℕ} → Readies size rs room lent → i < length rs → d ≡ depth_of (get_or records i past-end).pass → count ≡ area size
+        → Next size i room rs past-end (get_or records i past-end) (d * count)
+    next_of ready l e c = record {
+      few = ready.few;
+      near = l;
+      is = next-is past-end;
+      normal = ready.normal i past-end l;
+      parts = ap₂ (λ (a b : ℕ). a * b) e c;
+      fits = ready.past_room;
+    }
+
+    module _ {d r : Record} {part : ℕ} (q : Next size i room rs d r part) where
       next-begins : at + part ≡ depth (take (suc i) rs) * area size
       next-begins =
           ap₂ (λ (a b : ℕ). a + b) t.begins (q.parts ∙ ap (λ (x : Record). depth_of x.pass * area size) q.is)
-          ∙ sym (ap (λ (k : ℕ). k * area size) (depth_more rs i d (omega (arith, q.long, q.near, q.few))) ∙ add-mul (depth (take i rs)) (depth_of (get_or rs i d).pass) (area size))
+          ∙ sym (ap (λ (k : ℕ). k * area size) (depth_more rs i d (omega (arith, q.near))) ∙ add-mul (depth (take i rs)) (depth_of (get_or rs i d).pass) (area size))
 
       -- the part ends within the history
       pub part_in : at + part ≤ length past
       part_in =
-          let less : depth (take (suc i) rs) * area size ≤ depth (take n rs) * area size = mul-le-mul_right (area size) (depth_less rs (suc i) n q.near) in
+          let less : depth (take (suc i) rs) * area size ≤ depth rs * area size = mul-le-mul_right (area size) (depth_less rs (suc i)) in
           omega (arith, next-begins, t.kept, q.fits)
 
       pub part_long : length (take (at + part - at) (drop at past)) ≡ part
@@ -295,20 +308,20 @@ module _ {size : Size} {n : ℕ} {curve : List Float} {rs : List Record} where
 
         pub running_more : {floats' : List Float} {ints' : List ℕ} → length frame' ≡ length frame
             → length part' ≡ length (take (at + part - at) (drop at past)) → length floats' ≡ length floats → length ints' ≡ length ints
-            → Running size n (i + 1) room (at + part) curve rs words was (set records i (with_held held' r)) frame' (clipped + more') (samples + taken')
+            → Running size (i + 1) room (at + part) curve rs words was (set records i (with_held held' r)) frame' (clipped + more') (samples + taken')
             (take at past ++ (part' ++ drop (at + part - at) (drop at past))) floats' ints'
         unfolding chain_by
         running_more f p g k =
             let whole : at + part - at ≡ depth_of r.pass * area size = let same : at + part - at ≡ part = omega arith in same ∙ q.parts in
             let now = drop at past in
             let new = with_held held' r in
-            let rest = drop (suc i) (take n rs) in
+            let rest = drop (suc i) rs in
             let goes : List ℕ → Ran = λ left. chain size.width size.height curve rest (painted frame' (clipped + more')) left in
             let tail = drop (at + part - at) now in
             let past' = take at past ++ (part' ++ tail) in
             let front : length (take at past) ≡ at = length-take-le at past (omega (arith, part_in)) in
             let both : length (take at past ++ part') ≡ at + part = length-append (take at past) part' ∙ omega (arith, p, part_long, front) in
-            let cons : drop i (take n rs) ≡ r ∷ rest = slice-cons i n rs d q.near (omega (arith, q.long, q.few)) ∙ ap (λ (x : Record). x ∷ rest) (sym q.is) in
+            let cons : drop i rs ≡ r ∷ rest = drop-cons rs i d q.near ∙ ap (λ (x : Record). x ∷ rest) (sym q.is) in
             let turned : turn size.width size.height curve r (painted frame clipped) (take (depth_of r.pass * area size) now)
             ≡ adding clipped (flow (painted frame' more') held' part') =
             turn_adds size.width size.height clipped curve frame (take (depth_of r.pass * area size) now) r
@@ -327,12 +340,12 @@ module _ {size : Size} {n : ℕ} {curve : List Float} {rs : List Record} where
                   ∙ reshape (take i records) new (take at past) part' tail goes (at + part) both
                   ∙ ap₂ (λ (qs : List Record) (m : ℕ).
                   joined qs (take (at + part) past')
-                  (chain size.width size.height curve (drop m (take n rs)) (painted frame' (clipped + more')) (drop (at + part) past')))
-                  (sym (ap (λ (m : ℕ). take m (set records i new)) (add-one i) ∙ take-suc-set records i new (omega (arith, t.long, q.near, q.few)))) (sym (add-one i));
+                  (chain size.width size.height curve (drop m rs) (painted frame' (clipped + more')) (drop (at + part) past')))
+                  (sym (ap (λ (m : ℕ). take m (set records i new)) (add-one i) ∙ take-suc-set records i new (omega (arith, t.long, q.near)))) (sym (add-one i));
               begins = next-begins ∙ ap (λ (m : ℕ). depth (take m rs) * area size) (sym (add-one i));
               left = drop-set-lt (i + 1) records i new (omega arith) ∙ sym (drop-drop 1 i records) ∙ ap (drop 1) t.left ∙ drop-drop 1 i rs;
               long = length-set records i new ∙ t.long;
-              taken = summed_more t.taken d taken_is q.normal t.lent.shape.wide t.lent.shape.high q.near q.few q.long;
+              taken = summed_more t.taken d taken_is q.normal t.lent.shape.wide t.lent.shape.high q.near q.few;
               few = omega (arith, t.few, few_more);
               lent = relent t.lent f g k;
               kept =
@@ -341,26 +354,23 @@ module _ {size : Size} {n : ℕ} {curve : List Float} {rs : List Record} where
             }
 
     -- after the last one
-    pub running_all : length rs ≡ 12 → n ≤ 12 → n ≤ i
-        → (ran (painted frame clipped) (take n records) past ≡ chain size.width size.height curve (take n rs) (painted words 0) was)
-        × (drop n records ≡ drop n rs)
-        × (samples ≡ samples_in size.width size.height (take n rs))
+    pub running_all : length rs ≤ i
+        → (ran (painted frame clipped) records past ≡ chain size.width size.height curve rs (painted words 0) was)
+        × (samples ≡ samples_in size.width size.height rs)
     unfolding chain_by
-    running_all long few l =
-        let all : i ≡ n = omega (arith, t.near) in
-        let none : drop i (take n rs) ≡ [] = drop_of_length-le (take n rs) {i = i} (omega (arith, length-take-le n rs (omega arith))) in (
+    running_all l =
+        let none : drop i rs ≡ [] = drop_of_length-le rs {i = i} l in (
           sym (t.so_far
               ∙ ap (λ (q : List Record). joined (take i records) (take at past) (chain size.width size.height curve q (painted frame clipped) (drop at past))) none
               ∙ ap₂ (λ (q : List Record) (w : List ℕ). ran (painted frame clipped) q w)
-              (append-nil (take i records) ∙ ap (λ (k : ℕ). take k records) all) (take-append-drop at past)),
-          ap (λ (k : ℕ). drop k records) (sym all) ∙ t.left ∙ ap (λ (k : ℕ). drop k rs) all,
+              (append-nil (take i records) ∙ take_all i records (omega (arith, t.long))) (take-append-drop at past)),
           summed_all t.taken l,
         )
 
 -- the record at i is ready for its part
-pub running_ready : (size : Size) (s : Station) (i room lent part : ℕ) (r d : Record)
-    → Readies size s room lent → i < s.n → r ≡ get_or s.records i d → part ≡ depth_of r.pass * area size → Ready size r.pass part lent
-running_ready size s i room lent part r d ready l e long =
+pub running_ready : (size : Size) (rs : List Record) (i room lent part : ℕ) (r d : Record)
+    → Readies size rs room lent → i < length rs → r ≡ get_or rs i d → part ≡ depth_of r.pass * area size → Ready size r.pass part lent
+running_ready size rs i room lent part r d ready l e long =
     record {
       normal = ap (λ (q : Record). normal_pass q.pass) e ∙ ready.normal i d l;
       past_room = omega (arith, long);

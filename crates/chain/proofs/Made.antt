@@ -35,16 +35,16 @@ one_more {s} {t} {c} {cs} {gave} d e r =
 is_machine : {s t : State} {cs : List Call} {gave : List Seen} → Made s cs gave t → Is s cs gave t
 unfolding call saw run
 is_machine begin = record { given = refl; left = refl }
-is_machine (by_apply {s = s} {w = w} {h = h} {history = history} {words' = words'} {past' = past'} r a rest) =
+is_machine (by_apply {s = s} {w = w} {h = h} {history = history} {words' = words'} {past' = past'} r u a rest) =
     let lending = lend (h * w) history s.history in
-    one_more (lending (framed (reported_frame r.answer) r.station words' past')) (ap lending a.replies) (is_machine rest)
-is_machine (by_reset {s = s} r e rest) = one_more (still s.history (called r)) (ap (still s.history) e) (is_machine rest)
-is_machine (by-set_enabled {s = s} r e rest) = one_more (still s.history (called r)) (ap (still s.history) e) (is_machine rest)
-is_machine (by_ask {s = s} r e rest) = one_more (still s.history (called r)) (ap (still s.history) e) (is_machine rest)
-is_machine (by_commit {s = s} r e rest) = one_more (still s.history (called r)) (ap (still s.history) e) (is_machine rest)
-is_machine (by_cycle_lut {s = s} r e rest) = one_more (still s.history (cycled r)) (ap (still s.history) e) (is_machine rest)
-is_machine (by-set-depth {s = s} {history = history} {past' = past'} r e rest) =
-    one_more (lend 0 history s.history (called_with r past')) (ap (lend 0 history s.history) e) (is_machine rest)
+    one_more (lending (framed (reported_frame r) u words' past')) (ap lending a.replies) (is_machine rest)
+is_machine (by_reset {s = s} r u e rest) = one_more (still s.history (called r u)) (ap (still s.history) e) (is_machine rest)
+is_machine (by-set_enabled {s = s} r u e rest) = one_more (still s.history (called r u)) (ap (still s.history) e) (is_machine rest)
+is_machine (by_ask {s = s} r u e rest) = one_more (still s.history (called r u)) (ap (still s.history) e) (is_machine rest)
+is_machine (by_commit {s = s} r u e rest) = one_more (still s.history (called r u)) (ap (still s.history) e) (is_machine rest)
+is_machine (by_cycle_lut {s = s} r u e rest) = one_more (still s.history (cycled r u)) (ap (still s.history) e) (is_machine rest)
+is_machine (by-set-depth {s = s} {history = history} {past' = past'} r u e rest) =
+    one_more (lend 0 history s.history (called_with r u past')) (ap (lend 0 history s.history) e) (is_machine rest)
 
 pub made-is : Made-is
 made-is s t cs gave m = ((is_machine m).given, (is_machine m).left)

@@ -20,6 +20,7 @@ use Rattle.cards.specs.declared.station.Pass.{Pass}
 use Rattle.cards.specs.declared.station.Pass.TheVariants.{Ntsc, Bloom, AutoGradient, Persistence, Lut, Curvature}
 use Rattle.cards.specs.declared.station.Pass.TheVariants.{ColorCorrection, Crt, Vignette, Scanlines}
 use Rattle.cards.specs.declared.station.Record.{Record}
+use lib.Seq.{take_all}
 use Rattle.chain.specs.Chain.{samples_of, record_samples, samples_in}
 
 -- a counted setting, after one that is none
@@ -79,18 +80,18 @@ record_few w h r n wide high = le_trans (record_most w h r n) (go (eqb (kind_of 
 -- ## One record after the other
 
 -- the first i of n records take `sum`
-pub record Summed (w h n i : ℕ) (rs : List Record) (sum : ℕ) : Type 0 where
-  pub near : i ≤ n
+pub record Summed (w h i : ℕ) (rs : List Record) (sum : ℕ) : Type 0 where
+  pub near : i ≤ length rs
   pub so_far : Folded i (λ n r. n + record_samples w h r) 0 rs sum
   pub few : sum ≤ 270532608 * i
 
-pub summed_none : (w h n : ℕ) (rs : List Record) → Summed w h n 0 rs 0
-summed_none w h n rs = record { near = zero-le; so_far = none _ _ _; few = omega arith }
+pub summed_none : (w h : ℕ) (rs : List Record) → Summed w h 0 rs 0
+summed_none w h rs = record { near = zero-le; so_far = none _ _ _; few = omega arith }
 
-module _ {w h n i : ℕ} {rs : List Record} {sum : ℕ} (t : Summed w h n i rs sum) where
+module _ {w h i : ℕ} {rs : List Record} {sum : ℕ} (t : Summed w h i rs sum) where
   -- the record at i takes `taken`
   module _ (d : Record) {taken : ℕ} (e : taken ≡ record_samples w h (get_or rs i d)) (normal : normal_pass (get_or rs i d).pass ≡ true) (wide : w ≤ 1024)
-      (high : h ≤ 1024) (l : i < n) (k : n ≤ 12) where
+      (high : h ≤ 1024) (l : i < length rs) (k : length rs ≤ 12) where
     few-taken : taken ≤ 270532608
     few-taken = subst (λ (m : ℕ). m ≤ 270532608) (sym e) (record_few w h (get_or rs i d) normal wide high)
 
@@ -98,13 +99,13 @@ module _ {w h n i : ℕ} {rs : List Record} {sum : ℕ} (t : Summed w h n i rs s
     pub summed_fits : sum + taken ≤ 3246391296
     summed_fits = omega (arith, t.few, few-taken)
 
-    pub summed_more : length rs ≡ 12 → Summed w h n (i + 1) rs (sum + taken)
-    summed_more long = record {
+    pub summed_more : Summed w h (i + 1) rs (sum + taken)
+    summed_more = record {
       near = omega arith;
       so_far = more t.so_far d (omega arith) (ap (λ (m : ℕ). sum + m) e);
       few = omega (arith, t.few, few-taken);
     }
 
   -- after the last one
-  pub summed_all : n ≤ i → sum ≡ samples_in w h (take n rs)
-  summed_all l = let all : i ≡ n = omega (arith, t.near) in t.so_far.done ∙ ap (λ (k : ℕ). samples_in w h (take k rs)) all
+  pub summed_all : length rs ≤ i → sum ≡ samples_in w h rs
+  summed_all l = t.so_far.done ∙ ap (samples_in w h) (take_all i rs l)

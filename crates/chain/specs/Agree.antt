@@ -1,5 +1,7 @@
 -- Demand 3: whatever two stations went through, from the point of agreement of a shared list on they give the same. Assumes nothing.
-use Rattle.std.specs.Prelude.{ℕ, suc, ◌*◌, ◌-◌, ◌≤◌, ◌≡◌, Bool, true, false, not, ◌&&◌, ◌||◌, cond, List, [], ◌∷◌, ◌++◌, eqb, length, take, drop, Float}
+use Rattle.std.specs.Prelude.{ℕ, suc, ◌*◌, ◌-◌, ◌≤◌, ◌≡◌, Bool, true, false, not, ◌&&◌, ◌||◌, cond, List, [], ◌∷◌, ◌++◌, eqb, length, take, drop, Float, Result}
+use Rattle.num.specs.declared.refusal.Refusal.{Refusal}
+use Rattle.passes.specs.declared.blur.Counts.{Counts}
 use Rattle.std.specs.Bool.{beq}
 use Rattle.cards.specs.Alike.{chain_of, switches}
 use Rattle.chain.specs.Answers.{reported_frame, called, called_with, cycled, Applies}
@@ -10,9 +12,6 @@ use Rattle.chain.specs.Chain.{depth_on, depths}
 use Rattle.chain.specs.Machine.{Call, frame, reset, switch, ask, commit, step, new_depth, State, Seen, seen, picture, lend, still, call, after, run, saw}
 use Rattle.cards.specs.Normal.{persists}
 use Rattle.cards.specs.Written.{card_of}
-use Rattle.chain.specs.declared.pipeline.Applied.{Applied}
-use Rattle.chain.specs.declared.pipeline.Called.{Called}
-use Rattle.chain.specs.declared.pipeline.Cycled.{Cycled}
 use Rattle.cards.specs.declared.station.Station.{Station}
 
 -- ## Own lists, equal frames, lent words
@@ -148,33 +147,33 @@ pub data Made : (s : State) → List Call → (gave : List Seen) → (t : State)
   begin : {s : State} → Made s [] [] s
   -- `apply` with the first words of the own buffer, and scratches with any words
   by_apply : {s t : State} {cs : List Call} {gave : List Seen} {w h history : ℕ} {words ints words' past' ints' : List ℕ}
-      {floats floats' curve : List Float} (r : Applied)
-      → Applies w h s.station words (take history s.history) floats ints curve r words' past' floats' ints'
-      → Made (record { station = r.station; history = past' ++ drop history s.history }) cs gave t
+      {floats floats' curve : List Float} (r : Result Counts Refusal) (u : Station)
+      → Applies w h s.station words (take history s.history) floats ints curve r u words' past' floats' ints'
+      → Made (record { station = u; history = past' ++ drop history s.history }) cs gave t
       → Made s (frame w h words history (length floats) (length ints) curve ∷ cs)
-      (seen (reported_frame r.answer) r.station (picture (reported_frame r.answer) (h * w) words') ∷ gave) t
-  by_reset : {s t : State} {cs : List Call} {gave : List Seen} (r : Called) → called r ≡ reset_reply s.station
-      → Made (record { station = r.station; history = s.history }) cs gave t
-      → Made s (reset ∷ cs) ((still s.history (called r)).gives ∷ gave) t
-  by-set_enabled : {s t : State} {cs : List Call} {gave : List Seen} {kind : ℕ} {position : Bool} (r : Called)
-      → called r ≡ switch_reply kind position s.station
-      → Made (record { station = r.station; history = s.history }) cs gave t
-      → Made s (switch kind position ∷ cs) ((still s.history (called r)).gives ∷ gave) t
-  by_ask : {s t : State} {cs : List Call} {gave : List Seen} {kind : ℕ} {position : Bool} (r : Called)
-      → called r ≡ ask_reply kind position s.station
-      → Made (record { station = r.station; history = s.history }) cs gave t
-      → Made s (ask kind position ∷ cs) ((still s.history (called r)).gives ∷ gave) t
-  by_commit : {s t : State} {cs : List Call} {gave : List Seen} (r : Called) → called r ≡ commit_reply s.station
-      → Made (record { station = r.station; history = s.history }) cs gave t
-      → Made s (commit ∷ cs) ((still s.history (called r)).gives ∷ gave) t
-  by_cycle_lut : {s t : State} {cs : List Call} {gave : List Seen} (r : Cycled) → cycled r ≡ step_reply s.station
-      → Made (record { station = r.station; history = s.history }) cs gave t
-      → Made s (step ∷ cs) ((still s.history (cycled r)).gives ∷ gave) t
+      (seen (reported_frame r) u (picture (reported_frame r) (h * w) words') ∷ gave) t
+  by_reset : {s t : State} {cs : List Call} {gave : List Seen} (r : Result (Unit {0}) Refusal) (u : Station) → called r u ≡ reset_reply s.station
+      → Made (record { station = u; history = s.history }) cs gave t
+      → Made s (reset ∷ cs) ((still s.history (called r u)).gives ∷ gave) t
+  by-set_enabled : {s t : State} {cs : List Call} {gave : List Seen} {kind : ℕ} {position : Bool} (r : Result (Unit {0}) Refusal) (u : Station)
+      → called r u ≡ switch_reply kind position s.station
+      → Made (record { station = u; history = s.history }) cs gave t
+      → Made s (switch kind position ∷ cs) ((still s.history (called r u)).gives ∷ gave) t
+  by_ask : {s t : State} {cs : List Call} {gave : List Seen} {kind : ℕ} {position : Bool} (r : Result (Unit {0}) Refusal) (u : Station)
+      → called r u ≡ ask_reply kind position s.station
+      → Made (record { station = u; history = s.history }) cs gave t
+      → Made s (ask kind position ∷ cs) ((still s.history (called r u)).gives ∷ gave) t
+  by_commit : {s t : State} {cs : List Call} {gave : List Seen} (r : Result (Unit {0}) Refusal) (u : Station) → called r u ≡ commit_reply s.station
+      → Made (record { station = u; history = s.history }) cs gave t
+      → Made s (commit ∷ cs) ((still s.history (called r u)).gives ∷ gave) t
+  by_cycle_lut : {s t : State} {cs : List Call} {gave : List Seen} (r : Result ℕ Refusal) (u : Station) → cycled r u ≡ step_reply s.station
+      → Made (record { station = u; history = s.history }) cs gave t
+      → Made s (step ∷ cs) ((still s.history (cycled r u)).gives ∷ gave) t
   -- with the first words of the own buffer
-  by-set-depth : {s t : State} {cs : List Call} {gave : List Seen} {d history : ℕ} {past' : List ℕ} (r : Called)
-      → called_with r past' ≡ depth_reply d s.station (take history s.history)
-      → Made (record { station = r.station; history = past' ++ drop history s.history }) cs gave t
-      → Made s (new_depth d history ∷ cs) ((lend 0 history s.history (called_with r past')).gives ∷ gave) t
+  by-set-depth : {s t : State} {cs : List Call} {gave : List Seen} {d history : ℕ} {past' : List ℕ} (r : Result (Unit {0}) Refusal) (u : Station)
+      → called_with r u past' ≡ depth_reply d s.station (take history s.history)
+      → Made (record { station = u; history = past' ++ drop history s.history }) cs gave t
+      → Made s (new_depth d history ∷ cs) ((lend 0 history s.history (called_with r u past')).gives ∷ gave) t
 
 -- what a list of calls gave and left is what the plain machine gives and leaves: each answer, returned station and picture, and the own buffer
 abbrev pub Plain : State → List Call → List Seen → State → Type 0

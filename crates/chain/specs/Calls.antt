@@ -90,10 +90,6 @@ on_first kind f (r ∷ rs) = cond (eqb (kind_of r.pass) kind) (f r ∷ rs) (r �
 abbrev pub forget : List Record → List Record
 forget = map (with_held nothing)
 
--- those from a place on
-abbrev pub forget_from : ℕ → Station → Station
-forget_from i s = rechain (take i (chain_of s) ++ forget (drop i (chain_of s))) s
-
 abbrev pub reset_reply : Station → Reply
 reset_reply s = unless (lacks s 4) (refusing s) (reply (acceptance []) (rechain (forget (chain_of s)) s))
 

@@ -1,5 +1,6 @@
 -- The way of a frame through the chain: the passes that are on, in the card's order, each persistence on its own part of the history. Assumes nothing.
 use Rattle.std.specs.Prelude.{ℕ, ◌+◌, ◌*◌, Bool, false, ◌||◌, cond, List, [], ◌∷◌, ◌++◌, map, Float, take, drop}
+use Rattle.std.specs.List.{list_any}
 use Rattle.num.specs.Held.{Held, sized}
 use Rattle.passes.specs.Arith.{Arith, plain}
 use Rattle.passes.specs.Fold.{fold}
@@ -152,8 +153,7 @@ reads (Scanlines strength) = false
 
 -- whether a pass in the chain does, on or off
 unfoldable pub reads_curve : List Record → Bool
-reads_curve [] = false
-reads_curve (r ∷ rs) = reads r.pass || reads_curve rs
+reads_curve = list_any (λ r. reads r.pass)
 
 -- ## The samples that blurs take (request P9)
 

@@ -1,11 +1,10 @@
 -- What the inner functions of the calls rely on: what is lent to a pass, and where a record stands. Assumes nothing.
 use Rattle.std.specs.Prelude.{ℕ, ◌*◌, ◌≤◌, ◌<◌, ◌≡◌, true, List, [], length, get_or, set, Float}
-use Rattle.num.specs.Held.{nothing, area}
+use Rattle.num.specs.Held.{area}
 use Rattle.num.specs.declared.size.Size.{Size}
 use Rattle.passes.specs.Rows.{Frame}
-use Rattle.chain.specs.Calls.{float_room, of_first}
+use Rattle.chain.specs.Calls.{float_room}
 use Rattle.chain.specs.Chain.{depth_of, depth, reads}
-use Rattle.cards.specs.Alike.{chain_of}
 use Rattle.cards.specs.Normal.{normal_pass}
 use Rattle.cards.specs.Passes.{kind_of}
 use Rattle.cards.specs.declared.station.Pass.{Pass}
@@ -26,12 +25,12 @@ pub record Ready (size : Size) (pass : Pass) (room lent : ℕ) : Type 0 where
   pub past_room : depth_of pass * area size ≤ room
   pub curve_room : reads pass ≡ true → 256 ≤ lent
 
--- a station's chain: the history has room for all places of its first n records, each is normalised, and the curve is long enough where one reads it
-pub record Readies (size : Size) (s : Station) (room lent : ℕ) : Type 0 where
-  pub few : s.n ≤ 12
-  pub past_room : depth (chain_of s) * area size ≤ room
-  pub normal : (i : ℕ) (d : Record) → i < s.n → normal_pass (get_or s.records i d).pass ≡ true
-  pub curve_room : (i : ℕ) (d : Record) → i < s.n → reads (get_or s.records i d).pass ≡ true → 256 ≤ lent
+-- the records of a chain: the history has room for all their places, each is normalised, and the curve is long enough where one reads it
+pub record Readies (size : Size) (rs : List Record) (room lent : ℕ) : Type 0 where
+  pub few : length rs ≤ 12
+  pub past_room : depth rs * area size ≤ room
+  pub normal : (i : ℕ) (d : Record) → i < length rs → normal_pass (get_or rs i d).pass ≡ true
+  pub curve_room : (i : ℕ) (d : Record) → i < length rs → reads (get_or rs i d).pass ≡ true → 256 ≤ lent
 
 -- the first record of that kind among the first n stands at i
 pub record First (kind n : ℕ) (rs : List Record) (i : ℕ) : Type 0 where
@@ -39,12 +38,12 @@ pub record First (kind n : ℕ) (rs : List Record) (i : ℕ) : Type 0 where
   pub there : (d : Record) → kind_of (get_or rs i d).pass ≡ kind
   pub earlier : (j : ℕ) (d : Record) → j < i → kind_of (get_or rs j d).pass ≡ kind → ⊥
 
--- r is the first record of that kind in the chain
-pub record Stands (kind : ℕ) (rs : List Record) (r : Record) : Type 0 where
-  pub kind_is : kind_of r.pass ≡ kind
-  pub told : (f : Record → List ℕ) → of_first kind [] f rs ≡ f r
-  pub holds : of_first kind nothing (λ q. q.held) rs ≡ r.held
-  pub deep : of_first kind 0 (λ q. depth_of q.pass) rs ≡ depth_of r.pass
+-- the first record of that kind in the station's chain stands at i
+pub record Found (kind : ℕ) (s : Station) (i : ℕ) : Type 0 where
+  pub first : First kind s.n s.records i
+  pub few : s.n ≤ 12
+  pub room : s.n ≤ length s.records
+  pub inside : i < 12
 
 -- the station with that record in that place
 abbrev pub put_at : ℕ → Record → Station → Station

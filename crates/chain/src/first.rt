@@ -1,36 +1,29 @@
-// The first record of a kind: where it stands, and what it is. A switch, a preset step and a new depth are of that one.
-ghost use Rattle.std.specs.Prelude.{◌≡◌, true, ◌≤◌, take};
-ghost use Rattle.cards.specs.Alike.{chain_of};
-ghost use Rattle.cards.specs.Records.{kinds, among};
-ghost use Rattle.chain.specs.Calls.{lacks as lacksAt};
-ghost use Rattle.chain.specs.Lent.{First, Stands};
+// The first record of a kind: a switch, a preset step and a new depth are of that one.
+ghost use Rattle.std.specs.Prelude.{◌≡◌, eqb, IfOk};
+ghost use Rattle.std.specs.List.{position};
+ghost use Rattle.num.specs.Refusals.{code};
+ghost use Rattle.cards.specs.Passes.{kind_of};
+ghost use Rattle.chain.specs.Calls.{lacks};
+ghost use Rattle.chain.specs.Lent.{Found};
 
-use cards::station::{Record, Station, kind_of};
+use cards::station::{Record, Station};
+use num::refusal::Refusal;
 
-// The place of the first record of that kind among the first n.
-pub(crate) fn place(records: [Record; 12], n: usize, kind: u8) -> usize
-    requires { (n ≤ 12) × (among kind (kinds (take n records)) ≡ true) }
-    ensures { First kind n records result }
+// The place of the first record of that kind.
+fn first(records: &[Record], kind: u8) -> Option<usize>
+    ensures { result ≡ position (λ r. eqb (kind_of r.pass) kind) records.now }
 {
-    let mut i: usize = 0;
-    while i + 1 < n {
-        let r = records[i];
-        let pass = r.pass;
-        if kind_of(pass) == kind {
-            return i;
-        }
-        i += 1;
-    }
-    i
+    records.iter().position(|r| r.pass.kind() == kind)
 }
 
-// The record of that kind, where `lacks` refuses nothing.
-pub(crate) fn record_of(station: Station, kind: u8) -> Record
-    requires { lacksAt station kind ≡ 0 }
-    ensures { Stands kind (chain_of station) result }
+// The place of the first record of that kind in a station's chain. A call on the pass of that kind is refused where there is none.
+#[tactic(auto, unfolding(crate::specs::Calls::lacks))]
+pub(crate) fn place(station: &Station, kind: u8) -> Result<usize, Refusal>
+    ensures refusal { code result ≡ lacks station.now kind }
+    ensures place { IfOk result (Found kind station.now) }
 {
-    let n = station.n;
-    let records = station.records;
-    let at = place(records, n, kind);
-    records[at]
+    if !station.is_good() {
+        return Err(Refusal::BadStation);
+    }
+    first(station.chain(), kind).ok_or(Refusal::NotInChain)
 }

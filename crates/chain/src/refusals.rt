@@ -1,38 +1,33 @@
-// What the calls refuse: a number of the papers' tables, 0 for none. (`commit` tells its own two, as it takes the pending switch apart.)
-ghost use Rattle.std.specs.Prelude.{◌≡◌, not, ◌&&◌, ◌≤◌, ◌*◌, take};
+// What a frame is refused by, and what of a chain is asked for it: its depth, and whether it reads a curve.
+ghost use Rattle.std.specs.Prelude.{◌≡◌, not, ◌&&◌, ◌≤◌, length};
+ghost use Rattle.num.specs.Refusals.{code};
 ghost use Rattle.passes.specs.ColorCorrection.{good_curve};
 ghost use Rattle.chain.specs.Chain.{depth_of, depth as depthIn, reads as readsBy, reads_curve};
-ghost use Rattle.chain.specs.Calls.{stops as stopsBy, lacks as lacksAt, ask_stops, depth_stops};
+ghost use Rattle.chain.specs.Calls.{stops as stopsBy};
 
-use super::first::record_of;
-use cards::check::is_good;
-use cards::fields::one_at_least;
-use cards::station::{Pass, Pending, Record, Station, has_kind};
-use num::size::{area, bad_side};
+use cards::station::{Pass, Record, Station};
+use num::refusal::Refusal;
+use num::size::bad_side;
 use passes::color_correction::{is_curved, is_good_curve};
 
 // How many older frames a pass keeps.
 pub(crate) fn depth_of(pass: Pass) -> usize
     ensures { (result ≡ depth_of pass) × (result ≤ 255) }
 {
-    if let Pass::Persistence { amount: _, depth } = pass {
-        return depth as usize;
+    match pass {
+        Pass::Persistence { depth, .. } => depth as usize,
+        _ => 0,
     }
-    0
 }
 
-// The sum of the depths of the first n records.
-pub(crate) fn depth(records: [Record; 12], n: usize) -> usize
-    requires { n ≤ 12 }
-    ensures { (result ≡ depthIn (take n records)) × (result ≤ 3060) }
+// The sum of the depths of the records.
+pub(crate) fn depth(records: &[Record]) -> usize
+    requires { length records.now ≤ 12 }
+    ensures { (result ≡ depthIn records.now) × (result ≤ 3060) }
 {
-    let mut sum: usize = 0;
-    let mut i: usize = 0;
-    while i < n {
-        let r = records[i];
-        let pass = r.pass;
-        sum += depth_of(pass);
-        i += 1;
+    let mut sum = 0;
+    for r in records {
+        sum += depth_of(r.pass);
     }
     sum
 }
@@ -41,47 +36,32 @@ pub(crate) fn depth(records: [Record; 12], n: usize) -> usize
 pub(crate) fn reads(pass: Pass) -> bool
     ensures { result ≡ readsBy pass }
 {
-    if let Pass::ColorCorrection {
-        brightness: _,
-        contrast: _,
-        saturation: _,
-        gamma,
-    } = pass
-    {
-        return is_curved(gamma);
+    match pass {
+        Pass::ColorCorrection { gamma, .. } => is_curved(gamma),
+        _ => false,
     }
-    false
 }
 
-// Whether one of the first n records does, on or off.
-pub(crate) fn reads_curve(records: [Record; 12], n: usize) -> bool
-    requires { n ≤ 12 }
-    ensures { result ≡ reads_curve (take n records) }
+// Whether one of the records does, on or off.
+#[tactic(auto, unfolding(crate::specs::Chain::reads_curve))]
+fn reads_curve(records: &[Record]) -> bool
+    ensures { result ≡ reads_curve records.now }
 {
-    let mut i: usize = 0;
-    while i < n {
-        let r = records[i];
-        let pass = r.pass;
-        if reads(pass) {
-            return true;
-        }
-        i += 1;
-    }
-    false
+    records.iter().any(|r| reads(r.pass))
 }
 
-// Whether the first n records read a curve and this one cannot be read.
-pub(crate) fn lacks_curve(records: [Record; 12], n: usize, curve: &[f32]) -> bool
-    requires { n ≤ 12 }
-    ensures { result ≡ (reads_curve (take n records) && not (good_curve curve.now)) }
+// Whether the records read a curve and this one cannot be read.
+fn lacks_curve(records: &[Record], curve: &[f32]) -> bool
+    ensures { result ≡ (reads_curve records.now && not (good_curve curve.now)) }
 {
-    reads_curve(records, n) && !is_good_curve(curve)
+    reads_curve(records) && !is_good_curve(curve)
 }
 
 // Of a frame, by the curve and the lengths of all else that is lent: what `apply` would refuse it by. Nothing is changed, so a caller
 // may ask before it writes the frame's words.
+#[tactic(auto, unfolding(crate::specs::Calls::stops))]
 pub fn stops(
-    station: Station,
+    station: &Station,
     width: usize,
     height: usize,
     words: usize,
@@ -89,81 +69,28 @@ pub fn stops(
     floats: usize,
     ints: usize,
     curve: &[f32],
-) -> u8
-    ensures { result ≡ stopsBy station width height words history floats ints curve.now }
+) -> Result<(), Refusal>
+    ensures { code result ≡ stopsBy station.now width height words history floats ints curve.now }
 {
-    if !is_good(station) {
-        return 13;
+    if !station.is_good() {
+        return Err(Refusal::BadStation);
     }
-    if bad_side(width) {
-        return 8;
-    }
-    if bad_side(height) {
-        return 8;
+    if bad_side(width) || bad_side(height) {
+        return Err(Refusal::BadSize);
     }
     let count = height * width;
     if words < count {
-        return 9;
+        return Err(Refusal::ShortFrame);
     }
-    let n = station.n;
-    let records = station.records;
-    if history < depth(records, n) * count {
-        return 10;
+    let records = station.chain();
+    if history < depth(records) * count {
+        return Err(Refusal::ShortHistory);
     }
-    if floats < 3 * count + 3 * width {
-        return 11;
+    if floats < 3 * count + 3 * width || ints < count {
+        return Err(Refusal::ShortScratch);
     }
-    if ints < count {
-        return 11;
+    if lacks_curve(records, curve) {
+        return Err(Refusal::BadCurve);
     }
-    if lacks_curve(records, n, curve) {
-        return 16;
-    }
-    0
-}
-
-// Of a call on the pass of that kind.
-pub(crate) fn lacks(station: Station, kind: u8) -> u8
-    ensures { result ≡ lacksAt station kind }
-{
-    if !is_good(station) {
-        return 13;
-    }
-    if has_kind(station, kind) {
-        return 0;
-    }
-    12
-}
-
-// Of asking for a switch of the pass of that kind.
-pub(crate) fn ask_stops(station: Station, kind: u8) -> u8
-    ensures { result ≡ ask_stops station kind }
-{
-    let refusal = lacks(station, kind);
-    if refusal != 0 {
-        return refusal;
-    }
-    let pending = station.pending;
-    if let Pending::Switch { kind: _, on: _ } = pending {
-        return 17;
-    }
-    0
-}
-
-// Of a new depth, by how many words of the history are lent. Where the first persistence holds nothing none is asked for.
-pub(crate) fn depth_stops(station: Station, d: u8, history: usize) -> u8
-    ensures { result ≡ depth_stops station d history }
-{
-    let refusal = lacks(station, 4);
-    if refusal != 0 {
-        return refusal;
-    }
-    if 8 < d {
-        return 6;
-    }
-    let r = record_of(station, 4);
-    if history < one_at_least(d) as usize * area(r.held) {
-        return 10;
-    }
-    0
+    Ok(())
 }

@@ -4,8 +4,34 @@ use Rattle.std.proofs.Common.{mul-le-mul, arith, ltb-false}
 use Rattle.std.specs.Prelude.{Bool, true, false, cond, ◌≡◌, refl, eqb, ltb}
 use Rattle.std.proofs.Math.Path.{ap}
 use Rattle.std.proofs.lemmas.Bool.{eqb-false}
-use Rattle.num.specs.Refusals.{bad_side, unless}
+use Rattle.num.specs.Refusals.{bad_side, unless, number_of}
+use Rattle.num.specs.declared.refusal.Refusal.{Refusal}
+use Rattle.num.specs.declared.refusal.Refusal.TheVariants as R
 use Rattle.num.specs.Laws.Bools.{neither}
+
+-- a refusal's number is not 0
+pub number-some : (k : Refusal) → number_of k ≡ 0 → ⊥
+number-some R.TornCard e = absurd (omega arith)
+number-some R.ForeignCard e = absurd (omega arith)
+number-some R.OverfullCard e = absurd (omega arith)
+number-some R.UnknownPass e = absurd (omega arith)
+number-some R.DoubledPass e = absurd (omega arith)
+number-some R.BadSetting e = absurd (omega arith)
+number-some R.LongCard e = absurd (omega arith)
+number-some R.BadSize e = absurd (omega arith)
+number-some R.ShortFrame e = absurd (omega arith)
+number-some R.ShortHistory e = absurd (omega arith)
+number-some R.ShortScratch e = absurd (omega arith)
+number-some R.NotInChain e = absurd (omega arith)
+number-some R.BadStation e = absurd (omega arith)
+number-some R.ShortCardBuffer e = absurd (omega arith)
+number-some R.PassOutOfOrder e = absurd (omega arith)
+number-some R.BadCurve e = absurd (omega arith)
+number-some R.AlreadyAsked e = absurd (omega arith)
+number-some R.NotAsked e = absurd (omega arith)
+number-some R.BadArea e = absurd (omega arith)
+number-some R.BadSheet e = absurd (omega arith)
+number-some R.BadSource e = absurd (omega arith)
 
 -- a test that gives a number other than 0 went by
 pub by : (t : Bool) (k rest : ℕ) → 0 < k → cond t k rest ≡ 0 → (t ≡ false) × (rest ≡ 0)

@@ -1,12 +1,17 @@
--- `chain::pipeline::ask` meets its contract. Assumes nothing.
-use mathlib.Core.Path.{ap, ◌∙◌}
-use mathlib.Core.List.{[]}
-use Rattle.num.specs.Laws.Refusals.{refuses, accepts}
-use Rattle.cards.specs.Answers.{acceptance, reply}
+-- `chain::pipeline::ask` meets its contract: 13, 12, 17, else the switch is recorded. Assumes nothing.
+use Rattle.std.specs.Prelude.{◌≡◌}
+use Rattle.std.proofs.Common.{Err, rules}
+use Rattle.num.specs.Laws.Refusals.{number-some}
+use Rattle.chain.proofs.Replies.{ask_refused, ask_waits, asks}
 use Rattle.chain.proofs.pipeline.ask.Goals as goal
 
-pub returns-then-refusal-ne0 : goal.returns-then-refusal-ne0
-returns-then-refusal-ne0 c = refuses _ _ _ c.ask_stops-refusal.ensures c.if-refusal-ne0.true
+pub returns-in_err-place : goal.returns-in_err-place
+returns-in_err-place c =
+    let s : c.from_residual.result ≡ Err c.in_err-place.field-0.0 = search rules in
+    rw s (ask_refused _ _ _ _ c.in_err-place.ensures.refusal (number-some c.in_err-place.field-0.0))
+
+pub returns-in-Switch : goal.returns-in-Switch
+returns-in-Switch c = ask_waits _ _ _ c.in_ok-place.ensures.refusal c.in-Switch.is
 
 pub returns : goal.returns
-returns c = ap (reply (acceptance [])) c.pend-after.ensures ∙ accepts _ _ _ c.ask_stops-refusal.ensures c.if-refusal-ne0.false
+returns c = asks _ _ _ c.in_ok-place.ensures.refusal c.in_default.is

@@ -1,10 +1,8 @@
--- `chain::pipeline::forget` meets its contract: the loop's invariant is `Forgetting`. Assumes nothing.
-use Prim.Native.Nat.{◌-◌}
-use Rattle.chain.proofs.Forgets.{Forgetting}
+-- `chain::pipeline::forget` meets its contract: record after record. Assumes nothing.
+use Rattle.num.specs.Held.{nothing}
+use Rattle.num.specs.Laws.Rewrite.{Rewritten}
+use Rattle.chain.specs.Chain.{with_held}
 use Rattle.chain.proofs.pipeline.forget.Given as goal
 
-abbrev pub invariant-loop-i : goal.invariant-loop-i
-invariant-loop-i l = Forgetting l.from l.n l.initial.records l.i l.records
-
-abbrev pub decreases-loop-i : goal.decreases-loop-i
-decreases-loop-i l = l.n - l.i
+abbrev pub invariant-loop-r : goal.invariant-loop-r
+invariant-loop-r l = Rewritten l.r-index (λ i. with_held nothing) l.initial.records l.records

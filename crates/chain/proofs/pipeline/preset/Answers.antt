@@ -1,24 +1,17 @@
--- `chain::pipeline::preset` meets its contract: the preset of the LUT that is found. Assumes nothing.
-use mathlib.Core.Path.{◌≡◌, sym, ◌∙◌}
-use Rattle.num.specs.Laws.Refusals.{refuses}
-use Rattle.chain.specs.Calls.{lacks, preset_of}
+-- `chain::pipeline::preset` meets its contract: the LUT is found, and asked. Assumes nothing.
+use Rattle.std.specs.Prelude.{◌≡◌}
+use Rattle.std.proofs.Common.{Err, rules, arith, sym}
+use Rattle.num.specs.Laws.Refusals.{number-some, refuses}
+use Rattle.chain.specs.Calls.{preset_of}
 use Rattle.chain.proofs.Replies.{tells}
 use Rattle.chain.proofs.pipeline.preset.Goals as goal
-use Rattle.chain.proofs.pipeline.preset.Lts as lts
-use Rattle.chain.proofs.pipeline.preset.Reads as reads
-use Rattle.chain.proofs.pipeline.preset.Tie as tie
 
-none : (c : lts.Else1 tie.the-claims reads.Pre reads.Post) → lacks c.args.station 5 ≡ 0
-none c = sym c.lacks-refusal.ensures ∙ c.if-refusal-ne0.false
-
-pub returns-then-refusal-ne0 : goal.returns-then-refusal-ne0
-returns-then-refusal-ne0 c = refuses _ _ _ c.lacks-refusal.ensures c.if-refusal-ne0.true
-
-pub record_of-r-requires : goal.record_of-r-requires
-record_of-r-requires c = none c
-
-pub preset_of-requires : goal.preset_of-requires
-preset_of-requires c = c.record_of-r.ensures.kind_is
+pub returns-in_err-at : goal.returns-in_err-at
+returns-in_err-at c =
+    let s : c.from_residual.result ≡ Err c.in_err-at.field-0.0 = search rules in
+    rw s (refuses _ _ _ c.in_err-at.ensures.refusal (number-some c.in_err-at.field-0.0))
 
 pub returns : goal.returns
-returns c = tells _ _ c.record_of-r.ensures (none c.before.before) (λ r. preset_of r.pass) (sym c.preset_of.ensures)
+returns c =
+    let at = c.in_ok-at.ensures in
+    tells 5 c.args.station.now c.in_ok-at.at at.place (sym at.refusal) (λ r. preset_of r.pass) (sym c.preset_of.ensures)

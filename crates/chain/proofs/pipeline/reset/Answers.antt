@@ -1,17 +1,16 @@
--- `chain::pipeline::reset` meets its contract: what is forgotten from the first record on is all. Assumes nothing.
-use Prim.Native.Nat.{zero-le}
-use mathlib.Core.List.{[]}
-use mathlib.Core.Path.{ap, sym, ◌∙◌}
-use Rattle.num.specs.Laws.Refusals.{refuses, accepts}
-use Rattle.cards.specs.Answers.{acceptance, reply}
-use Rattle.chain.proofs.Replies.{present}
+-- `chain::pipeline::reset` meets its contract: where persistence is found, all records are forgotten. Assumes nothing.
+use Rattle.std.specs.Prelude.{◌≡◌}
+use Rattle.std.proofs.Common.{Err, rules, sym, refl}
+use Rattle.num.specs.Laws.Refusals.{number-some, refuses, accepts}
 use Rattle.chain.proofs.pipeline.reset.Goals as goal
 
-pub returns-then-refusal-ne0 : goal.returns-then-refusal-ne0
-returns-then-refusal-ne0 c = refuses _ _ _ c.lacks-refusal.ensures c.if-refusal-ne0.true
+pub returns-in_err-place : goal.returns-in_err-place
+returns-in_err-place c =
+    let s : c.from_residual.result ≡ Err c.in_err-place.field-0.0 = search rules in
+    rw s (refuses _ _ _ c.in_err-place.ensures.refusal (number-some c.in_err-place.field-0.0))
 
-pub forget-requires : goal.forget-requires
-forget-requires c = ((present _ _ (sym c.lacks-refusal.ensures ∙ c.if-refusal-ne0.false)).0.few, zero-le)
+pub slice_bounds-forget-end : goal.slice_bounds-forget-end
+slice_bounds-forget-end c = c.in_ok-place.ensures.place.few
 
 pub returns : goal.returns
-returns c = ap (reply (acceptance [])) c.forget.ensures ∙ accepts _ _ _ c.lacks-refusal.ensures c.if-refusal-ne0.false
+returns c = rw c.forget.ensures (accepts _ _ _ c.in_ok-place.ensures.refusal refl)

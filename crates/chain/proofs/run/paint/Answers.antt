@@ -10,13 +10,13 @@ use Rattle.chain.proofs.run.paint.Goals as goal
 -- what closes an arm's return
 ruleset arms = (painted-by, none_clipped, samples-by, refl)
 
-pub apply-requires : goal.apply-requires
+pub apply-requires-clause-fact_2 : goal.apply-requires-clause-fact_2
 unfolding paint
-apply-requires c = search bleed_fine
+apply-requires-clause-fact_2 c = search bleed_fine
 
-pub apply-requires-in-Bloom : goal.apply-requires-in-Bloom
+pub apply-requires-in-Bloom-clause-fact_2 : goal.apply-requires-in-Bloom-clause-fact_2
 unfolding paint
-apply-requires-in-Bloom c = search (radius_fine, arith)
+apply-requires-in-Bloom-clause-fact_2 c = search (radius_fine, arith)
 
 pub apply-requires-in-Lut : goal.apply-requires-in-Lut
 unfolding paint
@@ -36,32 +36,32 @@ returns-in-Bloom c = search arms
 
 pub returns-in-AutoGradient : goal.returns-in-AutoGradient
 unfolding paint
-returns-in-AutoGradient c = search arms
+returns-in-AutoGradient c = rw (c.clipped.ensures.0, c.clipped.ensures.1) (search arms)
 
 pub returns-in-Persistence : goal.returns-in-Persistence
 unfolding paint
-returns-in-Persistence c = search arms
+returns-in-Persistence c = rw (c.clipped-in-Persistence.ensures.0, c.clipped-in-Persistence.ensures.1) (search arms)
 
 pub returns-in-Lut : goal.returns-in-Lut
 unfolding paint
-returns-in-Lut c = search arms
+returns-in-Lut c = rw (c.clipped-in-Lut.ensures.0, c.clipped-in-Lut.ensures.1) (search arms)
 
 pub returns-in-Curvature : goal.returns-in-Curvature
 unfolding paint
-returns-in-Curvature c = search arms
+returns-in-Curvature c = rw (c.clipped-in-Curvature.ensures.0, c.clipped-in-Curvature.ensures.1) (search arms)
 
 pub returns-in-ColorCorrection : goal.returns-in-ColorCorrection
 unfolding paint
-returns-in-ColorCorrection c = search arms
+returns-in-ColorCorrection c = rw (c.clipped-in-ColorCorrection.ensures.0, c.clipped-in-ColorCorrection.ensures.1) (search arms)
 
 pub returns-in-Crt : goal.returns-in-Crt
 unfolding paint
-returns-in-Crt c = search arms
+returns-in-Crt c = rw (c.clipped-in-Crt.ensures.0, c.clipped-in-Crt.ensures.1) (search arms)
 
 pub returns-in-Vignette : goal.returns-in-Vignette
 unfolding paint
-returns-in-Vignette c = search arms
+returns-in-Vignette c = rw (c.clipped-in-Vignette.ensures.0, c.clipped-in-Vignette.ensures.1) (search arms)
 
 pub returns-in-Scanlines : goal.returns-in-Scanlines
 unfolding paint
-returns-in-Scanlines c = search arms
+returns-in-Scanlines c = rw (c.clipped-in-Scanlines.ensures.0, c.clipped-in-Scanlines.ensures.1) (search arms)
