@@ -37,12 +37,10 @@ fn add_scaled(acc: &mut [f32], src: &[f32], w: f32) -> usize
     requires { length acc.old ≡ length src.now }
     ensures { (acc.new ≡ every (λ i v. v ⊕ at src.now i ⊗ w) acc.old) × (result ≡ length acc.old) }
 {
-    let mut i = 0usize;
-    while i < acc.len() {
-        acc[i] = acc[i] + src[i] * w;
-        i += 1;
+    for (i, sum) in acc.iter_mut().enumerate() {
+        *sum = *sum + src[i] * w;
     }
-    i
+    acc.len()
 }
 
 // The weight of offset k.
@@ -83,12 +81,10 @@ fn add_four(acc: &mut [f32], a: &[f32], b: &[f32], c: &[f32], d: &[f32], w: Four
         ≡ every (four_added a.now b.now c.now d.now w) acc.old)
         × (result ≡ 4 * length acc.old) }
 {
-    let mut i = 0usize;
-    while i < acc.len() {
-        acc[i] = acc[i] + a[i] * w.a + b[i] * w.b + c[i] * w.c + d[i] * w.d;
-        i += 1;
+    for (i, sum) in acc.iter_mut().enumerate() {
+        *sum = *sum + a[i] * w.a + b[i] * w.b + c[i] * w.c + d[i] * w.d;
     }
-    4 * i
+    4 * acc.len()
 }
 
 // Adds the samples at offset k of every place, those outside skipped. Returns how many it added.
@@ -161,13 +157,11 @@ fn add_edge(part: &mut [f32], src: &[f32], radius: usize, start: usize, k: usize
     ensures { (part.new ≡ every (λ i. line_onward src.now radius k 4 (start + i)) part.old)
         × (result ≡ sum_of (length part.old) (λ i. insides (length src.now) radius k 4 (start + i))) }
 {
-    let mut samples = 0usize;
-    let mut i = 0usize;
-    while i < part.len() {
-        let sum = add_samples(part[i], src, radius, start + i, k, w);
-        part[i] = sum.value;
+    let mut samples = 0;
+    for (i, place) in part.iter_mut().enumerate() {
+        let sum = add_samples(*place, src, radius, start + i, k, w);
+        *place = sum.value;
         samples += sum.samples;
-        i += 1;
     }
     samples
 }
@@ -257,24 +251,13 @@ fn add_offsets(acc: &mut [f32], src: &[f32], radius: usize, k: usize) -> Taken
     }
 }
 
-// 0.0 everywhere
-fn clear(acc: &mut [f32])
-    ensures { acc.new ≡ fill (λ i. c0_0) acc.old }
-{
-    let mut i = 0usize;
-    while i < acc.len() {
-        acc[i] = 0.0;
-        i += 1;
-    }
-}
-
 // The sums of the weighted samples of each place of a line. Returns how many samples were taken.
 fn accumulate(acc: &mut [f32], src: &[f32], radius: usize) -> usize
     requires { (length acc.old ≡ length src.now) × (radius ≤ 64) × (length src.now ≤ 1024) }
     ensures { (acc.new ≡ fill (Blur.weighted (at src.now) (length src.now) radius) acc.old)
         × (result ≡ samples_of (length src.now) radius) }
 {
-    clear(acc);
+    acc.fill(0.0);
     let mut samples = 0usize;
     let mut k = 0usize;
     while k < 2 * radius + 1 {
@@ -303,11 +286,9 @@ pub fn weight_sum(n: usize, radius: usize, x: usize) -> f32
     requires { (radius ≤ 64) × (x < n) × (n ≤ 1024) }
     ensures { result ≡ Blur.weight_sum n radius x }
 {
-    let mut sum = 0.0f32;
-    let mut k = 0usize;
-    while k < 2 * radius + 1 {
+    let mut sum = 0.0;
+    for k in 0..2 * radius + 1 {
         sum = add_weight(sum, n, radius, x, k);
-        k += 1;
     }
     sum
 }
@@ -324,10 +305,8 @@ fn divide(sums: &mut [f32], w: &[f32])
     requires { length sums.old ≡ length w.now }
     ensures { sums.new ≡ every (λ i v. Blur.quotient v (at w.now i)) sums.old }
 {
-    let mut i = 0usize;
-    while i < sums.len() {
-        sums[i] = quotient(sums[i], w[i]);
-        i += 1;
+    for (i, sum) in sums.iter_mut().enumerate() {
+        *sum = quotient(*sum, w[i]);
     }
 }
 
@@ -437,7 +416,7 @@ pub fn accumulate_rows(
         ≡ fill (λ x. Blur.weighted (λ i. cell plane.now (length acc.old) x i) height radius y) acc.old)
         × (result ≡ sum_of (2 * radius + 1) (once height radius y)) }
 {
-    clear(acc);
+    acc.fill(0.0);
     let mut samples = 0usize;
     let mut k = 0usize;
     while k < 2 * radius + 1 {
@@ -468,10 +447,8 @@ pub fn weight_line(n: usize, radius: usize) -> [f32; 1024]
     ensures { Begins 1024 n (Blur.weight_sum n radius) result }
 {
     let mut out = line();
-    let mut x = 0usize;
-    while x < n {
+    for x in 0..n {
         out[x] = weight_sum(n, radius, x);
-        x += 1;
     }
     out
 }

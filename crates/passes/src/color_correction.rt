@@ -28,17 +28,7 @@ fn in_unit(x: f32) -> bool
 pub fn is_good_curve(curve: &[f32]) -> bool
     ensures { result ≡ Text.good_curve curve.now }
 {
-    if curve.len() < 256 {
-        return false;
-    }
-    let mut k = 0;
-    while k < 256 {
-        if !in_unit(curve[k]) {
-            return false;
-        }
-        k += 1;
-    }
-    true
+    curve.len() >= 256 && curve[..256].iter().all(|x| in_unit(*x))
 }
 
 // The channels of a word as the curve has them.
@@ -81,10 +71,8 @@ fn tone(c: Rgb, brightness: f32, contrast: f32, saturation: f32) -> u32
 fn by_share(frame: &mut [u32], brightness: f32, contrast: f32, saturation: f32)
     ensures { frame.new ≡ every_unit (λ i. ColorCorrection.colour ColorCorrection.share brightness contrast saturation) frame.old }
 {
-    let mut i = 0;
-    while i < frame.len() {
-        frame[i] = tone(pixel::unit(frame[i]), brightness, contrast, saturation);
-        i += 1;
+    for word in frame.iter_mut() {
+        *word = tone(pixel::unit(*word), brightness, contrast, saturation);
     }
 }
 
@@ -93,10 +81,8 @@ fn by_curve(frame: &mut [u32], curve: &[f32], brightness: f32, contrast: f32, sa
     ensures { frame.new ≡ every_unit (λ i. ColorCorrection.colour (ColorCorrection.power curve.now) brightness contrast saturation)
         frame.old }
 {
-    let mut i = 0;
-    while i < frame.len() {
-        frame[i] = tone(powers(curve, frame[i]), brightness, contrast, saturation);
-        i += 1;
+    for word in frame.iter_mut() {
+        *word = tone(powers(curve, *word), brightness, contrast, saturation);
     }
 }
 

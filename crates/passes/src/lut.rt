@@ -92,10 +92,8 @@ fn greys(table: &mut [u32], which: usize, preset: u8, strength: f32)
     requires { length table.old ≤ 256 }
     ensures { table.new ≡ fill (λ k. entry which (Lut.colour preset strength (k * 65793))) table.old }
 {
-    let mut k = 0;
-    while k < table.len() {
-        table[k] = entry(which, colour(k as u32 * 65793, preset, strength));
-        k += 1;
+    for (k, word) in table.iter_mut().enumerate() {
+        *word = entry(which, colour(k as u32 * 65793, preset, strength));
     }
 }
 
@@ -131,10 +129,8 @@ fn by_greys(frame: &mut [u32], reds: &[u32], greens: &[u32], blues: &[u32])
     ensures { frame.new ≡ every (λ i. picked (λ k. slice_index reds.now k) (λ k. slice_index greens.now k)
         (λ k. slice_index blues.now k)) frame.old }
 {
-    let mut i = 0;
-    while i < frame.len() {
-        frame[i] = picked(reds, greens, blues, frame[i]);
-        i += 1;
+    for word in frame.iter_mut() {
+        *word = picked(reds, greens, blues, *word);
     }
 }
 
@@ -143,10 +139,8 @@ fn by_greys(frame: &mut [u32], reds: &[u32], greens: &[u32], blues: &[u32])
 fn by_composite(frame: &mut [u32], strength: f32)
     ensures { frame.new ≡ every_unit (λ i. Lut.colour 3 strength) frame.old }
 {
-    let mut i = 0;
-    while i < frame.len() {
-        frame[i] = marks::unit(colour(frame[i], 3, strength));
-        i += 1;
+    for word in frame.iter_mut() {
+        *word = marks::unit(colour(*word, 3, strength));
     }
 }
 
@@ -154,10 +148,8 @@ fn by_composite(frame: &mut [u32], strength: f32)
 fn by_game_boy(frame: &mut [u32], strength: f32)
     ensures { frame.new ≡ every_unit (λ i. Lut.colour 4 strength) frame.old }
 {
-    let mut i = 0;
-    while i < frame.len() {
-        frame[i] = marks::unit(colour(frame[i], 4, strength));
-        i += 1;
+    for word in frame.iter_mut() {
+        *word = marks::unit(colour(*word, 4, strength));
     }
 }
 
@@ -165,10 +157,8 @@ fn by_game_boy(frame: &mut [u32], strength: f32)
 fn by_amber(frame: &mut [u32], strength: f32)
     ensures { frame.new ≡ every_unit (λ i. Lut.colour 5 strength) frame.old }
 {
-    let mut i = 0;
-    while i < frame.len() {
-        frame[i] = marks::unit(colour(frame[i], 5, strength));
-        i += 1;
+    for word in frame.iter_mut() {
+        *word = marks::unit(colour(*word, 5, strength));
     }
 }
 

@@ -15,8 +15,10 @@ pub fn clip(x: f32, top: f32) -> u32
 {
     if x < 0.0 {
         1
+    } else if top < x {
+        1
     } else {
-        if top < x { 1 } else { 0 }
+        0
     }
 }
 
@@ -40,12 +42,9 @@ pub fn collect(frame: &mut [u32]) -> u32
     ensures { painted frame.new result ≡ unmarked frame.old }
 {
     let mut clipped = 0;
-    let mut i = 0;
-    while i < frame.len() {
-        let q = frame[i];
-        frame[i] = q % 16777216;
-        clipped += q / 16777216;
-        i += 1;
+    for word in frame.iter_mut() {
+        clipped += *word / 16777216;
+        *word %= 16777216;
     }
     clipped
 }

@@ -21,11 +21,9 @@ fn total(amount: f32, depth: usize) -> f32
 {
     let mut sum = 1.0;
     let mut weight = amount;
-    let mut j = 0;
-    while j < depth {
+    for _ in 0..depth {
         sum = sum + weight;
         weight = weight * 0.55;
-        j += 1;
     }
     sum
 }
@@ -35,11 +33,9 @@ fn weights(out: &mut [f32], amount: f32, sum: f32)
     ensures { out.new ≡ fill (Persistence.weight amount sum) out.old }
 {
     let mut weight = amount;
-    let mut j = 0;
-    while j < out.len() {
-        out[j] = weight / sum;
+    for share in out.iter_mut() {
+        *share = weight / sum;
         weight = weight * 0.55;
-        j += 1;
     }
 }
 
@@ -48,10 +44,8 @@ fn begin_line(acc: &mut [f32], part: &[u32], w: f32, which: usize)
     requires { length acc.old ≡ length part.now }
     ensures { acc.new ≡ fill (λ x. channel which (unpack (slice_index part.now x)) ⊗ w) acc.old }
 {
-    let mut i = 0usize;
-    while i < acc.len() {
-        acc[i] = pixel::channel(which, pixel::unpack(part[i])) * w;
-        i += 1;
+    for (i, sum) in acc.iter_mut().enumerate() {
+        *sum = pixel::channel(which, pixel::unpack(part[i])) * w;
     }
 }
 
@@ -60,10 +54,8 @@ fn add_line(acc: &mut [f32], part: &[u32], w: f32, which: usize)
     requires { length acc.old ≡ length part.now }
     ensures { acc.new ≡ every (λ x v. v ⊕ channel which (unpack (slice_index part.now x)) ⊗ w) acc.old }
 {
-    let mut i = 0usize;
-    while i < acc.len() {
-        acc[i] = acc[i] + pixel::channel(which, pixel::unpack(part[i])) * w;
-        i += 1;
+    for (i, sum) in acc.iter_mut().enumerate() {
+        *sum = *sum + pixel::channel(which, pixel::unpack(part[i])) * w;
     }
 }
 
@@ -83,13 +75,9 @@ fn mix_line(
 {
     let count = part.len();
     begin_line(acc, part, w, which);
-    let mut start = at;
-    let mut j = 0;
-    while j < ws.len() {
-        let end = start + count;
-        add_line(acc, &history[start..end], ws[j], which);
-        start += n;
-        j += 1;
+    for (j, older) in ws.iter().enumerate() {
+        let start = j * n + at;
+        add_line(acc, &history[start..start + count], *older, which);
     }
 }
 
@@ -106,14 +94,12 @@ fn finish_part(part: &mut [u32], r: &[f32], g: &[f32], b: &[f32])
     ensures { part.new
         ≡ fill (λ x. mark_clamped (rgb (at r.now x) (at g.now x) (at b.now x))) part.old }
 {
-    let mut i = 0usize;
-    while i < part.len() {
-        part[i] = marks::clamped(Rgb {
+    for (i, word) in part.iter_mut().enumerate() {
+        *word = marks::clamped(Rgb {
             r: r[i],
             g: g[i],
             b: b[i],
         });
-        i += 1;
     }
 }
 
@@ -148,27 +134,9 @@ fn refill(history: &mut [u32], frame: &[u32], depth: usize)
     ensures { history.new ≡ Persistence.refilled depth frame.now history.old }
 {
     let count = frame.len();
-    let mut at = 0;
-    let mut j = 0;
-    while j < depth {
-        let end = at + count;
-        rows::copy(&mut history[at..end], frame);
-        at = end;
-        j += 1;
-    }
-}
-
-// Two buffers change their words.
-fn exchange(a: &mut [u32], b: &mut [u32])
-    requires { length a.old ≡ length b.old }
-    ensures { (a.new ≡ b.old) × (b.new ≡ a.old) }
-{
-    let mut i = 0;
-    while i < a.len() {
-        let x = a[i];
-        a[i] = b[i];
-        b[i] = x;
-        i += 1;
+    for j in 0..depth {
+        let at = j * count;
+        rows::copy(&mut history[at..at + count], frame);
     }
 }
 
@@ -179,13 +147,9 @@ fn shift(history: &mut [u32], carried: &mut [u32], depth: usize)
     ensures { history.new ≡ Persistence.shifted depth carried.old history.old }
 {
     let count = carried.len();
-    let mut at = 0;
-    let mut j = 0;
-    while j < depth {
-        let end = at + count;
-        exchange(&mut history[at..end], carried);
-        at = end;
-        j += 1;
+    for j in 0..depth {
+        let at = j * count;
+        history[at..at + count].swap_with_slice(carried);
     }
 }
 
@@ -195,11 +159,7 @@ fn repeat(history: &mut [u32], at: usize, count: usize)
     ensures { history.new ≡ paste history.old at (drop (at - count) history.old) count }
 {
     let from = at - count;
-    let mut i = 0;
-    while i < count {
-        history[at + i] = history[from + i];
-        i += 1;
-    }
+    history.copy_within(from..from + count, at);
 }
 
 // The places of the history, of count words each, become `to`: the newest stay where they are, and the oldest is repeated until there
@@ -211,12 +171,8 @@ pub fn resize(history: &mut [u32], count: usize, from: usize, to: usize)
     if to <= from {
         return;
     }
-    let mut at = from * count;
-    let mut j = from;
-    while j < to {
-        repeat(history, at, count);
-        at += count;
-        j += 1;
+    for j in from..to {
+        repeat(history, j * count, count);
     }
 }
 

@@ -28,13 +28,13 @@ pub loop-i-preserved : goal.loop-i-preserved
 loop-i-preserved c = let l = c.loop-i in
     let a = c.args in
     let e = c.add_samples-sum.ensures in (
-      more l.invariant.0 nan c.loop-i-test.true e.0,
+      more l.invariant.0 nan (omega arith) e.0,
       omega (arith, l.invariant.1, e.1, sum_more l.i (λ i. insides (length a.src.now) a.radius a.k 4 (a.start + i))),
     )
 
 pub returns : goal.returns
 returns c = let l = c.loop-i in
     let a = c.args in (
-      all l.invariant.0 c.loop-i-test.false,
+      all l.invariant.0 (omega arith),
       l.invariant.1 ∙ ap (λ (i : ℕ). sum i (λ i. insides (length a.src.now) a.radius a.k 4 (a.start + i))) (omega arith),
     )

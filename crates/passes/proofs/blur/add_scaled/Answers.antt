@@ -11,8 +11,5 @@ pub loop-i-preserved : goal.loop-i-preserved
 loop-i-preserved c = let l = c.loop-i in
     more l.invariant nan (omega arith) refl
 
-pub shape_of-acc : goal.shape_of-acc
-shape_of-acc c = c.loop-i.invariant.kept
-
 pub returns : goal.returns
 returns c = (all c.loop-i.invariant (omega arith), omega arith)

@@ -6,14 +6,14 @@ use Rattle.passes.specs as Text
 use Rattle.passes.specs.Plain.Persistence.{total}
 use Rattle.passes.proofs.persistence.total.Goals as goal
 
-pub loop-j-init : goal.loop-j-init
+pub loop-init : goal.loop-init
 unfolding Text.Persistence.total Text.Persistence.decay
-loop-j-init c = (omega arith, refl, refl)
+loop-init c = (refl, refl)
 
-pub loop-j-preserved : goal.loop-j-preserved
+pub loop-preserved : goal.loop-preserved
 unfolding Text.Persistence.total Text.Persistence.decay
-loop-j-preserved c = let inv = c.loop-j.invariant in
-    (omega arith, rw add-one (ap₂ ◌⊕◌ inv.1 inv.2), rw add-one (ap (λ w. w ⊗ c0_55) inv.2))
+loop-preserved c = let inv = c.loop.invariant in
+    (rw add-one (ap₂ ◌⊕◌ inv.0 inv.1), rw add-one (ap (λ w. w ⊗ c0_55) inv.1))
 
 pub returns : goal.returns
-returns c = c.loop-j.invariant.1 ∙ ap (total _) (omega arith)
+returns c = c.loop.invariant.0 ∙ ap (total _) (omega arith)
