@@ -118,7 +118,7 @@ pub fn apply(
     ensures { painted frame.new result ≡ AutoGradient.auto_gradient width height strength vertical horizontal frame.old }
 {
     let a = adaptive(strength, frame.len() as u32, total(frame));
-    let mut line = blur::line();
+    let mut line = blur::line::<1024>();
     falls(&mut line[..width], horizontal, a);
     rows(frame, &line[..width], width, height, vertical, a);
     marks::collect(frame)

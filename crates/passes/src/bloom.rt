@@ -197,8 +197,8 @@ pub fn apply(
 {
     let n = 3 * frame.len();
     let w = blur::weight_line(width, radius);
-    let mut line = blur::line();
-    let mut sums = blur::line3();
+    let mut line = blur::line::<1024>();
+    let mut sums = blur::line::<3072>();
     let across = horizontal(
         &mut scratch[..n],
         frame,

@@ -11,7 +11,7 @@ ghost use Rattle.passes.specs.Samples.{samples as samples_of, once};
 ghost use Rattle.passes.specs.Private.{at, cell, Begins, four_weights, four_added, line_onward, rows_onward, insides, blur_by};
 
 // What a pass counts: the channels that it clipped, and the samples that its blur took.
-#[derive(Clone, Copy)]
+#[derive(Clone, Copy, Debug, PartialEq)]
 pub struct Counts {
     pub clipped: u32,
     pub samples: u32,
@@ -52,7 +52,7 @@ fn offset_weight(radius: usize, k: usize) -> f32
 }
 
 // The weights of four offsets, one after another.
-#[derive(Clone, Copy)]
+#[derive(Clone, Copy, Debug, PartialEq)]
 struct Four {
     a: f32,
     b: f32,
@@ -108,7 +108,7 @@ fn add_offset(acc: &mut [f32], src: &[f32], radius: usize, k: usize) -> usize
 }
 
 // A place's sum, and how many samples were added to it.
-#[derive(Clone, Copy)]
+#[derive(Clone, Copy, Debug, PartialEq)]
 struct Sum {
     value: f32,
     samples: usize,
@@ -221,7 +221,7 @@ fn add_four_offsets(acc: &mut [f32], src: &[f32], radius: usize, k: usize) -> us
 }
 
 // What a step of a loop over the offsets took: so many offsets, and so many samples at them.
-#[derive(Clone, Copy)]
+#[derive(Clone, Copy, Debug, PartialEq)]
 struct Taken {
     offsets: usize,
     samples: usize,
@@ -427,18 +427,11 @@ pub fn accumulate_rows(
     samples
 }
 
-// Room for a line of samples.
-pub fn line() -> [f32; 1024]
-    ensures { length result ≡ 1024 }
+// Room for a line of N samples.
+pub fn line<const N: usize>() -> [f32; N]
+    ensures { length result ≡ N }
 {
-    [0.0f32; 1024]
-}
-
-// Room for a line of three channels.
-pub fn line3() -> [f32; 3072]
-    ensures { length result ≡ 3072 }
-{
-    [0.0f32; 3072]
+    [0.0; N]
 }
 
 // The sums of the weights of each place of a line of n samples.
@@ -446,7 +439,7 @@ pub fn weight_line(n: usize, radius: usize) -> [f32; 1024]
     requires { (radius ≤ 64) × (n ≤ 1024) }
     ensures { Begins 1024 n (Blur.weight_sum n radius) result }
 {
-    let mut out = line();
+    let mut out = line::<1024>();
     for x in 0..n {
         out[x] = weight_sum(n, radius, x);
     }

@@ -54,17 +54,9 @@ fn level(x: f32, brightness: f32, contrast: f32) -> f32
 fn tone(c: Rgb, brightness: f32, contrast: f32, saturation: f32) -> u32
     ensures { result ≡ mark_unit (toned brightness contrast saturation c) }
 {
-    let d = Rgb {
-        r: level(c.r, brightness, contrast),
-        g: level(c.g, brightness, contrast),
-        b: level(c.b, brightness, contrast),
-    };
+    let d = c.map(|x| level(x, brightness, contrast));
     let luminance = pixel::luma709(d);
-    marks::unit(Rgb {
-        r: luminance + (d.r - luminance) * saturation,
-        g: luminance + (d.g - luminance) * saturation,
-        b: luminance + (d.b - luminance) * saturation,
-    })
+    marks::unit(d.map(|x| luminance + (x - luminance) * saturation))
 }
 
 // At gamma 1.0, by a loop of its own: it reads no table, so that it becomes vector code.

@@ -56,11 +56,7 @@ fn transform(preset: u8, c: Rgb) -> Rgb
                 b: luminance * 0.16,
             }
         }
-        _ => Rgb {
-            r: (c.r - 0.5) * 1.25 + 0.5,
-            g: (c.g - 0.5) * 1.25 + 0.5,
-            b: (c.b - 0.5) * 1.25 + 0.5,
-        },
+        _ => c.map(|x| (x - 0.5) * 1.25 + 0.5),
     }
 }
 
@@ -97,17 +93,10 @@ fn greys(table: &mut [u32], which: usize, preset: u8, strength: f32)
     }
 }
 
-// Room for a table.
-fn room() -> [u32; 256]
-    ensures { 256 ≡ length result }
-{
-    [0; 256]
-}
-
 fn table(which: usize, preset: u8, strength: f32) -> [u32; 256]
     ensures { Greys which preset strength result }
 {
-    let mut words = room();
+    let mut words = [0; 256];
     greys(&mut words, which, preset, strength);
     words
 }
@@ -121,7 +110,7 @@ fn picked(reds: &[u32], greens: &[u32], blues: &[u32], p: u32) -> u32
     let red = reds[(p / 65536 % 256) as usize];
     let green = greens[(p / 256 % 256) as usize];
     let blue = blues[(p % 256) as usize];
-    std::num::wrapping_add_u32(std::num::wrapping_add_u32(red, green), blue)
+    red.wrapping_add(green).wrapping_add(blue)
 }
 
 fn by_greys(frame: &mut [u32], reds: &[u32], greens: &[u32], blues: &[u32])
@@ -134,31 +123,13 @@ fn by_greys(frame: &mut [u32], reds: &[u32], greens: &[u32], blues: &[u32])
     }
 }
 
-// The three presets that mix channels, each in a loop of its own. The preset is a number there, so that the loop has its own treatment
-// alone and becomes vector code. As one loop that is handed the preset it did not, and took seven times as long.
-fn by_composite(frame: &mut [u32], strength: f32)
-    ensures { frame.new ≡ every_unit (λ i. Lut.colour 3 strength) frame.old }
+// Presets 3, 4 and 5, which mix channels. Each is an instance of its own, where the preset is a number: so the loop has its own
+// treatment alone and becomes vector code. As one loop that is handed the preset it did not, and took seven times as long.
+fn by_mixing<const PRESET: u8>(frame: &mut [u32], strength: f32)
+    ensures { frame.new ≡ every_unit (λ i. Lut.colour PRESET strength) frame.old }
 {
     for word in frame.iter_mut() {
-        *word = marks::unit(colour(*word, 3, strength));
-    }
-}
-
-// The same.
-fn by_game_boy(frame: &mut [u32], strength: f32)
-    ensures { frame.new ≡ every_unit (λ i. Lut.colour 4 strength) frame.old }
-{
-    for word in frame.iter_mut() {
-        *word = marks::unit(colour(*word, 4, strength));
-    }
-}
-
-// The same.
-fn by_amber(frame: &mut [u32], strength: f32)
-    ensures { frame.new ≡ every_unit (λ i. Lut.colour 5 strength) frame.old }
-{
-    for word in frame.iter_mut() {
-        *word = marks::unit(colour(*word, 5, strength));
+        *word = marks::unit(colour(*word, PRESET, strength));
     }
 }
 
@@ -167,9 +138,9 @@ fn paint(frame: &mut [u32], preset: u8, strength: f32)
     ensures { frame.new ≡ every_unit (λ i. Lut.colour preset strength) frame.old }
 {
     match preset {
-        3 => by_composite(frame, strength),
-        4 => by_game_boy(frame, strength),
-        5 => by_amber(frame, strength),
+        3 => by_mixing::<3>(frame, strength),
+        4 => by_mixing::<4>(frame, strength),
+        5 => by_mixing::<5>(frame, strength),
         _ => {
             let reds = table(0, preset, strength);
             let greens = table(1, preset, strength);

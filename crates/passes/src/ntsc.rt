@@ -118,9 +118,9 @@ pub fn apply(frame: &mut [u32], width: usize, height: usize, strength: f32, blee
     ensures { (painted frame.new result.clipped ≡ Ntsc.ntsc width strength bleed frame.old)
         × (result.samples ≡ ntsc_samples width height bleed) }
 {
-    let mut line = blur::line();
-    let mut u = blur::line();
-    let mut v = blur::line();
+    let mut line = blur::line::<1024>();
+    let mut u = blur::line::<1024>();
+    let mut v = blur::line::<1024>();
     let w = blur::weight_line(width, bleed);
     let samples = rows(
         frame,

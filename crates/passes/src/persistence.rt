@@ -12,7 +12,7 @@ ghost use Rattle.passes.specs.Painted.{painted};
 ghost use Rattle.passes.specs.Private.{at, mark_clamped, blended_word, mixed_channel};
 
 use crate::pixel::Rgb;
-use crate::{marks, pixel, rows};
+use crate::{blur, marks, pixel, rows};
 use num::size::{Size, same};
 
 // 1 + amount + amount * 0.55 + ..
@@ -81,13 +81,6 @@ fn mix_line(
     }
 }
 
-// Room for a line. So few words of the frame and of each place of the history stay near from one channel to the next.
-fn short() -> [f32; 64]
-    ensures { length result ≡ 64 }
-{
-    [0.0; 64]
-}
-
 // The words of three lines of channels.
 fn finish_part(part: &mut [u32], r: &[f32], g: &[f32], b: &[f32])
     requires { (length part.old ≤ length r.now) × (length part.old ≤ length g.now) × (length part.old ≤ length b.now) }
@@ -103,19 +96,19 @@ fn finish_part(part: &mut [u32], r: &[f32], g: &[f32], b: &[f32])
     }
 }
 
-// A part that begins at word `at` of a frame of n, by way of a line for each channel. The lines are made here: a line that a function
-// returned would be copied.
+// A part that begins at word `at` of a frame of n, by way of a line for each channel: so few words of the frame and of each place of
+// the history stay near from one channel to the next. The lines are made here: a line that this function returned would be copied.
 fn blend_part(part: &mut [u32], at: usize, n: usize, w: f32, ws: &[f32], history: &[u32])
     requires { (length part.old ≤ 64) × (at + length part.old ≤ n) × (length ws.now * n ≤ length history.now) }
     ensures { part.new ≡ every (λ x. blended_word w (λ j. slice_index_or ws.now j nan) (length ws.now)
         history.now n (at + x)) part.old }
 {
     let count = part.len();
-    let mut r = short();
+    let mut r = blur::line::<64>();
     mix_line(&mut r[..count], part, at, n, w, ws, history, 0);
-    let mut g = short();
+    let mut g = blur::line::<64>();
     mix_line(&mut g[..count], part, at, n, w, ws, history, 1);
-    let mut b = short();
+    let mut b = blur::line::<64>();
     mix_line(&mut b[..count], part, at, n, w, ws, history, 2);
     finish_part(part, &r, &g, &b);
 }
@@ -191,13 +184,6 @@ fn blend_parts(frame: &mut [u32], w: f32, ws: &[f32], history: &[u32])
     }
 }
 
-// Room for the weights.
-fn line() -> [f32; 8]
-    ensures { length result ≡ 8 }
-{
-    [0.0; 8]
-}
-
 // A frame of the held size: it becomes the picture, and the history gets it as it came, by way of a copy. Returns how many channels
 // were clipped.
 fn follow(
@@ -214,7 +200,7 @@ fn follow(
 {
     rows::copy(carried, frame);
     let sum = total(amount, depth);
-    let mut ws = line();
+    let mut ws = blur::line::<8>();
     weights(&mut ws[..depth], amount, sum);
     blend_parts(frame, 1.0 / sum, &ws[..depth], history);
     let clipped = marks::collect(frame);

@@ -22,7 +22,7 @@ three-wide : (n h w : ℕ) → n ≡ h * w → 3 * n ≡ h * (3 * w)
 three-wide n h w e = ap (λ (m : ℕ). 3 * m) e ∙ sym (mul_assoc 3 h w) ∙ ap (λ (m : ℕ). m * w) (mul_comm 3 h) ∙ mul_assoc h 3 w
 
 -- once the lines are made: what is lent of them and of the scratch
-module _ (c : lts.After-line3 tie.the-claims reads.Pre reads.Post tie.handed_clauses) where
+module _ (c : lts.After-line2 tie.the-claims reads.Pre reads.Post tie.handed_clauses) where
   abbrev start : lts.Start tie.the-claims reads.Pre reads.Post tie.handed_clauses
   start = c.before.before.before.before.before
 
@@ -38,12 +38,12 @@ module _ (c : lts.After-line3 tie.the-claims reads.Pre reads.Post tie.handed_cla
   abbrev row_long : (line : List Float) → length line ≡ 1024 → length (take start.args.width line) ≡ start.args.width
   row_long line e = front line 1024 start.args.width e start.requires.fact_1.wide
 
-  sums_long : length (take (3 * start.args.width) c.line3-sums.result) ≡ 3 * start.args.width
-  sums_long = front c.line3-sums.result 3072 (3 * start.args.width) c.line3-sums.ensures (omega (arith, start.requires.fact_1.wide))
+  sums_long : length (take (3 * start.args.width) c.line-sums.result) ≡ 3 * start.args.width
+  sums_long = front c.line-sums.result 3072 (3 * start.args.width) c.line-sums.ensures (omega (arith, start.requires.fact_1.wide))
 
 -- once the planes are written
 module _ (c : lts.After-horizontal tie.the-claims reads.Pre reads.Post tie.handed_clauses) where
-  abbrev lines : lts.After-line3 tie.the-claims reads.Pre reads.Post tie.handed_clauses
+  abbrev lines : lts.After-line2 tie.the-claims reads.Pre reads.Post tie.handed_clauses
   lines = c.before.before.before.before.before
 
   written : length c.horizontal-across.new.planes ≡ words lines

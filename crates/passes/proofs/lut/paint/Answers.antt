@@ -17,13 +17,13 @@ pub by_greys-requires : goal.by_greys-requires
 by_greys-requires c = (c.table-reds.ensures.room, c.table-greens.ensures.room, c.table-blues.ensures.room)
 
 pub returns-in-3 : goal.returns-in-3
-returns-in-3 c = rw c.in-3.is c.by_composite.ensures
+returns-in-3 c = rw c.in-3.is c.by_mixing.ensures
 
 pub returns-in-4 : goal.returns-in-4
-returns-in-4 c = rw c.in-4.is c.by_game_boy.ensures
+returns-in-4 c = rw c.in-4.is c.by_mixing-in-4.ensures
 
 pub returns-in-5 : goal.returns-in-5
-returns-in-5 c = rw c.in-5.is c.by_amber.ensures
+returns-in-5 c = rw c.in-5.is c.by_mixing-in-5.ensures
 
 pub returns-in_default : goal.returns-in_default
 returns-in_default c = let args = c.args in
