@@ -113,14 +113,6 @@ fn blend_part(part: &mut [u32], at: usize, n: usize, w: f32, ws: &[f32], history
     finish_part(part, &r, &g, &b);
 }
 
-// Where the part from `at` on ends: a line has room for 64 words.
-fn part_end(at: usize, n: usize) -> usize
-    requires { at < n }
-    ensures { (at < result) × (result ≤ n) × (result ≤ at + 64) }
-{
-    if n - at < 64 { n } else { at + 64 }
-}
-
 // Each place of the history gets the frame.
 fn refill(history: &mut [u32], frame: &[u32], depth: usize)
     requires { depth * length frame.now ≤ length history.old }
@@ -176,11 +168,9 @@ fn blend_parts(frame: &mut [u32], w: f32, ws: &[f32], history: &[u32])
         history.now (length frame.old)) frame.old }
 {
     let n = frame.len();
-    let mut at = 0;
-    while at < n {
-        let end = part_end(at, n);
-        blend_part(&mut frame[at..end], at, n, w, ws, history);
-        at = end;
+    for at in (0..n).step_by(64) {
+        let count = (n - at).min(64);
+        blend_part(&mut frame[at..at + count], at, n, w, ws, history);
     }
 }
 
