@@ -25,13 +25,6 @@ fn weight(radius: usize, distance: usize) -> f32
     1.0 - distance as f32 / (radius as f32 + 1.0)
 }
 
-// a - b, or 0 where b is above a
-fn monus(a: usize, b: usize) -> usize
-    ensures { result ≡ a - b }
-{
-    if b <= a { a - b } else { 0 }
-}
-
 // Adds src[i] * w at each i. Returns how many samples it added.
 fn add_scaled(acc: &mut [f32], src: &[f32], w: f32) -> usize
     requires { length acc.old ≡ length src.now }
@@ -48,7 +41,7 @@ fn offset_weight(radius: usize, k: usize) -> f32
     requires { (radius ≤ 64) × (k ≤ 2 * radius) }
     ensures { result ≡ Blur.weight radius (Blur.distance radius k) }
 {
-    weight(radius, monus(radius, k) + monus(k, radius))
+    weight(radius, radius.abs_diff(k))
 }
 
 // The weights of four offsets, one after another.
@@ -94,8 +87,8 @@ fn add_offset(acc: &mut [f32], src: &[f32], radius: usize, k: usize) -> usize
         × (result ≡ length src.now - Blur.distance radius k) }
 {
     let n = src.len();
-    let to = monus(radius, k);
-    let from = monus(k, radius);
+    let to = radius.saturating_sub(k);
+    let from = k.saturating_sub(radius);
     let d = to + from;
     if d < n {
         let w = weight(radius, d);
@@ -200,9 +193,9 @@ fn add_to_edge(acc: &mut [f32], src: &[f32], radius: usize, k: usize, w: Four) -
     ensures { (acc.new ≡ rewrite (length src.now - (k + 3 - radius)) (line_onward src.now radius k 4) acc.old)
         × (result ≡ sum_of (length src.now - (k + 3 - radius)) (insides (length src.now) radius k 4)) }
 {
-    let first = monus(radius, k + 3);
-    let to = monus(radius, k);
-    let end = src.len() - monus(k + 3, radius);
+    let first = radius.saturating_sub(k + 3);
+    let to = radius.saturating_sub(k);
+    let end = src.len() - (k + 3).saturating_sub(radius);
     let edge = add_edge(&mut acc[first..to], src, radius, first, k, w);
     edge + add_middle(&mut acc[to..end], src, radius, to, k, w)
 }
@@ -215,8 +208,8 @@ fn add_four_offsets(acc: &mut [f32], src: &[f32], radius: usize, k: usize) -> us
 {
     let w = four_weights(radius, k);
     let before = add_to_edge(acc, src, radius, k, w);
-    let end = src.len() - monus(k + 3, radius);
-    let last = src.len() - monus(k, radius);
+    let end = src.len() - (k + 3).saturating_sub(radius);
+    let last = src.len() - k.saturating_sub(radius);
     before + add_edge(&mut acc[end..last], src, radius, end, k, w)
 }
 
@@ -234,7 +227,7 @@ fn add_offsets(acc: &mut [f32], src: &[f32], radius: usize, k: usize) -> Taken
         × (acc.new ≡ every (line_onward src.now radius k result.offsets) acc.old)
         × (result.samples ≡ sum_of (length src.now) (insides (length src.now) radius k result.offsets)) }
 {
-    let outside = monus(radius, k) + monus(k + 3, radius);
+    let outside = radius.saturating_sub(k) + (k + 3).saturating_sub(radius);
     if k + 3 <= 2 * radius {
         if outside < src.len() {
             let samples = add_four_offsets(acc, src, radius, k);

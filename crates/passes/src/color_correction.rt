@@ -60,6 +60,7 @@ fn tone(c: Rgb, brightness: f32, contrast: f32, saturation: f32) -> u32
 }
 
 // At gamma 1.0, by a loop of its own: it reads no table, so that it becomes vector code.
+#[inline(never)]
 fn by_share(frame: &mut [u32], brightness: f32, contrast: f32, saturation: f32)
     ensures { frame.new ≡ every_unit (λ i. ColorCorrection.colour ColorCorrection.share brightness contrast saturation) frame.old }
 {
@@ -68,6 +69,7 @@ fn by_share(frame: &mut [u32], brightness: f32, contrast: f32, saturation: f32)
     }
 }
 
+#[inline(never)]
 fn by_curve(frame: &mut [u32], curve: &[f32], brightness: f32, contrast: f32, saturation: f32)
     requires { 256 ≤ length curve.now }
     ensures { frame.new ≡ every_unit (λ i. ColorCorrection.colour (ColorCorrection.power curve.now) brightness contrast saturation)

@@ -63,6 +63,7 @@ fn shade(column: u16, dim: f32, factor: f32, p: u32) -> u32
 }
 
 // One row of the frame. A column is below 1024, and its remainder in 16 bits is quicker than in 64.
+#[inline(never)]
 fn row(row: &mut [u32], y: usize, width: usize, height: usize, strength: f32)
     requires { (y < height) × (height ≤ 1024) × (width ≤ 1024) × (length row.old ≡ width) }
     ensures { row.new ≡ every (λ x. Crt.word_at width height strength x y) row.old }

@@ -49,6 +49,7 @@ fn bend(copy: &[u32], width: usize, height: usize, amount: f32, nx: f32, ny: f32
 }
 
 // The words at these places are those of row y.
+#[inline(never)]
 fn places(line: &mut [u32], copy: &[u32], y: usize, width: usize, height: usize, amount: f32)
     requires { (y < height) × (length line.old ≡ width) × Frame width height copy.now }
     ensures { every (λ x p. slice_index copy.now p) line.new
@@ -68,6 +69,7 @@ fn word(copy: &[u32], place: u32) -> u32
     if at < copy.len() { copy[at] } else { 0 }
 }
 
+#[inline(never)]
 fn words(line: &mut [u32], copy: &[u32])
     ensures { line.new ≡ every (λ x p. slice_index copy.now p) line.old }
 {

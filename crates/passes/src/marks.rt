@@ -45,6 +45,7 @@ pub fn unit(c: Rgb) -> u32
 }
 
 // Clears the marks of a frame, and returns their sum: at most 255 for each word, which 32 bits hold.
+#[inline(never)]
 pub fn collect(frame: &mut [u32]) -> u32
     requires { length frame.old ≤ 1048576 }
     ensures { painted frame.new result ≡ unmarked frame.old }

@@ -6,7 +6,7 @@ ghost use Rattle.passes.specs.Plain.Position as Position;
 fn last(n: usize) -> usize
     ensures { result ≡ max (n - 1) 1 }
 {
-    if n < 2 { 1 } else { n - 1 }
+    n.saturating_sub(1).max(1)
 }
 
 // Where k lies among 0..n - 1, as -1..1.

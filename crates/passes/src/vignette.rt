@@ -87,14 +87,6 @@ fn row(row: &mut [u32], line: &[f32])
     }
 }
 
-// The nearer to 0 of k and n - k.
-fn nearer(n: usize, k: usize) -> usize
-    requires { k ≤ n }
-    ensures { result ≡ min k (n - k) }
-{
-    if k < n - k { k } else { n - k }
-}
-
 // The scratch from the frame's count of words on stays as it is.
 pub fn apply(frame: &mut [u32], scratch: &mut [f32], width: usize, height: usize, strength: f32)
     requires { Frame width height frame.old × (0 < width) × (0 < height) × (length frame.old ≤ length scratch.old) }
@@ -107,7 +99,7 @@ pub fn apply(frame: &mut [u32], scratch: &mut [f32], width: usize, height: usize
     lines(&mut scratch[..words], wide, high, width, height, strength);
     for y in 0..height {
         let at = y * width;
-        let from = nearer(height, y) * wide;
+        let from = y.min(height - y) * wide;
         row(&mut frame[at..at + width], &scratch[from..from + wide]);
     }
 }

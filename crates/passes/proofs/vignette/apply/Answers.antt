@@ -22,24 +22,24 @@ pub loop-y-init : goal.loop-y-init
 loop-y-init c = (begin_rows _ c.requires.0.area, filled c.args.scratch.now c.requires _ _ c.lines.ensures)
 
 pub overflow_mul-from : goal.overflow_mul-from
-overflow_mul-from c = omega (arith, line_in c.loop-y.invariant.1 c.loop-y-test.true c.nearer.ensures)
+overflow_mul-from c = omega (arith, line_in c.loop-y.invariant.1 c.loop-y-test.true c.min.ensures)
 
 pub offset_bounds-scratch-from : goal.offset_bounds-scratch-from
-offset_bounds-scratch-from c = omega (arith, line_in c.loop-y.invariant.1 c.loop-y-test.true c.nearer.ensures)
+offset_bounds-scratch-from c = omega (arith, line_in c.loop-y.invariant.1 c.loop-y-test.true c.min.ensures)
 
 pub slice_bounds-row-end-in-loop-y : goal.slice_bounds-row-end-in-loop-y
-slice_bounds-row-end-in-loop-y c = omega (arith, line_in c.loop-y.invariant.1 c.loop-y-test.true c.nearer.ensures)
+slice_bounds-row-end-in-loop-y c = omega (arith, line_in c.loop-y.invariant.1 c.loop-y-test.true c.min.ensures)
 
 pub row-requires : goal.row-requires
 row-requires c = let inv = c.loop-y.invariant in
     let below = c.loop-y-test.true in
     let wide = row_length inv.0 below in
-    (omega (arith, wide), omega (arith, wide, line-length inv.1 below c.nearer.ensures))
+    (omega (arith, wide), omega (arith, wide, line-length inv.1 below c.min.ensures))
 
 pub loop-y-preserved : goal.loop-y-preserved
 loop-y-preserved c = let inv = c.loop-y.invariant in
     let below = c.loop-y-test.true in
-    (next_row_by inv.0 _ _ below (by-line inv.1 below c.nearer.ensures (row_length inv.0 below)) c.row.ensures, inv.1)
+    (next_row_by inv.0 _ _ below (by-line inv.1 below c.min.ensures (row_length inv.0 below)) c.row.ensures, inv.1)
 
 pub shape_of-scratch : goal.shape_of-scratch
 shape_of-scratch c = kept c.args.scratch.now c.requires _ _ c.lines.ensures
