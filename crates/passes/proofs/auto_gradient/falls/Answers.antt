@@ -7,8 +7,5 @@ use Rattle.passes.proofs.auto_gradient.falls.Goals as goal
 pub loop-x-init : goal.loop-x-init
 loop-x-init c = none _ _
 
-pub fall-requires : goal.fall-requires
-fall-requires c = (omega arith, omega arith)
-
 pub loop-x-preserved : goal.loop-x-preserved
 loop-x-preserved c = more c.loop-x.invariant nan (omega arith) c.fall.ensures

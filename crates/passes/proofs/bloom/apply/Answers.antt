@@ -4,7 +4,7 @@ use lib.Ieee.{Float}
 use Rattle.num.specs.F32.{whole}
 use Rattle.passes.specs as Text
 use Rattle.passes.specs.Rows.{placed}
-use Rattle.passes.specs.Laws.Rows.{frame_small, placed_ext}
+use Rattle.passes.specs.Laws.Rows.{placed_ext}
 use Rattle.passes.specs.Plain.Blur.{weight_sum, down}
 use Rattle.passes.specs.Plain.Bloom.{composite, vertical, sample, horizontal}
 use Rattle.passes.proofs.Offsets.{front, weight-at, blur_by_lem, blur_same}
@@ -88,19 +88,6 @@ module _ (c : lts.After-slice_known5 tie.the-claims reads.Pre reads.Post tie.han
         rows_few s.args.height s.args.width s.args.radius s.requires.fact_1.high s.requires.fact_1.wide s.requires.fact_2.0 crossed.horizontal-across.ensures.1,
         rows_few s.args.width s.args.height s.args.radius s.requires.fact_1.wide s.requires.fact_1.high s.requires.fact_2.0 downed.composite_rows-down.ensures.1,
       )
-
-pub horizontal-across-requires : goal.horizontal-across-requires
-horizontal-across-requires c = let p = c.requires in
-    record {
-      fact_1 = (p.fact_2.0, planes_long c.before.before.before.before.before ∙ planes_sized c.before.before.before.before.before, row_long c.before.before.before.before.before _ c.line-line.ensures, row_long c.before.before.before.before.before _ c.weight_line-w.ensures.long);
-      fact_2 = p.fact_1;
-    }
-
-pub composite_rows-down-requires : goal.composite_rows-down-requires
-composite_rows-down-requires c = record { fact_1 = (c.requires.fact_2.0, ap length (shared c.before.before.before.before.before.before) ∙ written c.before.before.before.before.before.before ∙ planes_sized c.before.before.before.before.before.before.before.before.before.before.before, sums_long c.before.before.before.before.before.before.before.before.before.before.before); fact_2 = c.requires.fact_1 }
-
-pub collect-clipped-requires : goal.collect-clipped-requires
-collect-clipped-requires c = omega (arith, c.composite_rows-down.auto.frame, frame_small c.requires.fact_1)
 
 pub overflow_add-result : goal.overflow_add-result
 overflow_add-result c = omega (arith, few c.before)

@@ -27,10 +27,6 @@ sum-down planes before sums w h radius y i j q e f g d l =
 pub loop-y-init : goal.loop-y-init
 loop-y-init c = let p = c.requires in (p.fact_1.2, sym (sum-zero _), begin_rows _ p.fact_2.area)
 
-pub accumulate_rows-taken-requires : goal.accumulate_rows-taken-requires
-accumulate_rows-taken-requires c = let p = c.requires in
-    (p.fact_1.0, c.loop-y-test.true, p.fact_2.high, p.fact_1.1 ∙ ap (λ (m : ℕ). c.args.height * m) (sym c.loop-y.invariant.0))
-
 pub overflow_add-taken : goal.overflow_add-taken
 overflow_add-taken c = let o = c.loop-y in
     let a = c.args in
@@ -38,9 +34,6 @@ overflow_add-taken c = let o = c.loop-y in
     let few = above-few a.height a.radius (o.y + 1) (omega (arith, c.loop-y-test.true, p.fact_2.high)) p.fact_1.0
     (above_on a.height a.radius o.y o.invariant.1 c.accumulate_rows-taken.ensures.1) in
     omega (arith, few)
-
-pub composite_row-requires : goal.composite_row-requires
-composite_row-requires c = c.accumulate_rows-taken.auto.acc ∙ c.loop-y.invariant.0 ∙ ap (λ (m : ℕ). 3 * m) (sym (row_length c.loop-y.invariant.2 c.loop-y-test.true))
 
 pub loop-y-preserved : goal.loop-y-preserved
 loop-y-preserved c = let o = c.loop-y in

@@ -4,7 +4,7 @@ use Rattle.passes.specs.Plain.Bloom.{bright_of}
 use Rattle.passes.specs.Samples.{samples as samples_of}
 use Rattle.passes.specs.Private.{at, blur_by}
 use Rattle.passes.proofs.Counted.{rows_on, rows_few}
-use Rattle.passes.proofs.RowLoops.{begin_rows, row_length, next_row_by, rows_all}
+use Rattle.passes.proofs.RowLoops.{begin_rows, next_row_by}
 use Rattle.passes.proofs.Planes.{beside, row_across}
 use Rattle.passes.proofs.bloom.horizontal.Goals as goal
 
@@ -14,13 +14,6 @@ frame_row frame w h y area l = beside frame w h y (y * w) area l refl
 
 pub loop-y-init : goal.loop-y-init
 loop-y-init c = (c.requires.fact_1.2, sym (zero-mul (samples_of c.args.width c.args.radius)), begin_rows _ c.requires.fact_1.1)
-
-pub horizontal_row-samples-requires : goal.horizontal_row-samples-requires
-horizontal_row-samples-requires c = let l = c.loop-y.invariant in
-    let a = c.args in
-    let p = c.requires in
-    let e = sym (frame_row a.frame.now a.width a.height c.loop-y.y p.fact_2.area c.loop-y-test.true) in
-    (p.fact_1.0, row_length l.2 c.loop-y-test.true ∙ ap (λ (m : ℕ). 3 * m) e, l.0 ∙ e, p.fact_1.3 ∙ e, omega (arith, e, p.fact_2.wide))
 
 pub overflow_add-samples : goal.overflow_add-samples
 overflow_add-samples c = let o = c.loop-y in
@@ -45,11 +38,4 @@ loop-y-preserved c = let o = c.loop-y in
           (λ j v q. ap (λ (m : ℕ). blur_by (at a.w.now) (λ n. bright_of a.threshold (j / m) (get_or part n 0)) (length part) a.radius (j % m)) long
           ∙ row_across a.frame.now a.width a.height o.y from area t refl (at a.w.now) a.threshold (j / a.width) a.radius (j % a.width))
           c.horizontal_row-samples.ensures.0,
-    )
-
-pub returns : goal.returns
-returns c = let l = c.loop-y in
-    let a = c.args in (
-      rows_all l.invariant.2 c.loop-y-test.false,
-      l.invariant.1 ∙ ap (λ (m : ℕ). m * samples_of a.width a.radius) (omega arith),
     )

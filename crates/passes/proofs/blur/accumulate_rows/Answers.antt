@@ -1,5 +1,5 @@
 -- `passes::blur::accumulate_rows` meets its contract: after k offsets each column has the definition's sum over the first k. Assumes nothing.
-use Rattle.std.proofs.Common.{ℕ, ◌+◌, ◌*◌, sym, ap, ◌∙◌, arith}
+use Rattle.std.proofs.Common.{ℕ, ◌+◌, sym, ap, ◌∙◌, arith}
 use Rattle.num.specs.F32.{◌⊗◌}
 use Rattle.num.specs.Rewrite.{every, fill}
 use Rattle.passes.specs as Text
@@ -17,10 +17,6 @@ pub loop-k-init : goal.loop-k-init
 unfolding Text.Blur.total
 loop-k-init c = let a = c.args in
     (summed_none a.acc.now _ (c.fill.ensures.after (λ y e. e) ∙ filled _ a.acc.now), sym (sum-zero (once a.height a.radius a.y)))
-
-pub add_rows-taken-requires : goal.add_rows-taken-requires
-add_rows-taken-requires c =
-    (omega arith, omega arith, omega arith, omega arith, c.requires.3 ∙ ap (λ (n : ℕ). c.args.height * n) (sym (c.loop-k.invariant.0.kept ∙ c.fill.ensures.len)))
 
 pub overflow_add-samples : goal.overflow_add-samples
 overflow_add-samples c =

@@ -50,14 +50,6 @@ module _ (acc src : List Float) (radius k more less : ℕ) (e : length acc ≡ l
           ∙ right_none (length src) radius k (length src - less) (ap (λ (x : ℕ). length src - x) el) (omega arith),
     )
 
-pub add_edge-requires : goal.add_edge-requires
-add_edge-requires c = let a = c.args in (
-  c.requires.1,
-  c.requires.2,
-  fits a.acc.now a.src.now a.radius a.k c.saturating_sub.result c.saturating_sub-2.result c.requires.0 c.requires.3 c.saturating_sub.ensures c.saturating_sub-2.ensures c.add_to_edge-before.new.acc c.add_to_edge-before.ensures.0,
-  c.four_weights-w.ensures,
-)
-
 -- no place counts more than four
 pub overflow_add-result : goal.overflow_add-result
 overflow_add-result c = let a = c.args in

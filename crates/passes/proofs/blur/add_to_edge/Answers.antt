@@ -52,17 +52,6 @@ module _ (acc src : List Float) (radius k first to less : ℕ) (e : length acc �
           counted-on to (length src - less) _ count (omega arith) middle_long edge hb ∙ ap (λ (x : ℕ). sum (length src - x) count) el,
         )
 
-pub add_middle-requires : goal.add_middle-requires
-add_middle-requires c = let left = c.add_edge-edge in
-    let a = c.args in (
-      c.requires.1,
-      c.requires.2,
-      omega (arith, c.saturating_sub-to.ensures),
-      fits a.acc.now a.src.now a.radius a.k c.saturating_sub-first.result c.saturating_sub-to.result c.saturating_sub.result c.requires.0 c.requires.3 c.saturating_sub-first.ensures c.saturating_sub-to.ensures c.saturating_sub.ensures
-          left.new.part left.ensures.0,
-      c.requires.4,
-    )
-
 -- no place counts more than four
 pub overflow_add-result : goal.overflow_add-result
 overflow_add-result c = let a = c.args in

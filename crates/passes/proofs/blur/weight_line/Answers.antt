@@ -8,12 +8,6 @@ use Rattle.passes.proofs.blur.weight_line.Goals as goal
 pub loop-x-init : goal.loop-x-init
 loop-x-init c = (omega arith, none _ _)
 
-pub offset_bounds-out-x : goal.offset_bounds-out-x
-offset_bounds-out-x c = omega (arith, c.line-out.ensures)
-
-pub bounds-out-x : goal.bounds-out-x
-bounds-out-x c = omega (arith, c.line-out.ensures)
-
 pub loop-x-preserved : goal.loop-x-preserved
 loop-x-preserved c = (omega arith, more c.loop-x.invariant.1 nan (omega (arith, c.line-out.ensures)) c.weight_sum.ensures)
 

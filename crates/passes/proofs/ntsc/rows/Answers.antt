@@ -4,19 +4,13 @@ use Rattle.passes.specs.Plain.Ntsc.{pixel}
 use Rattle.passes.specs.Samples.{samples as samples_of}
 use Rattle.passes.specs.Private.{at, chroma_by, mark_clamped}
 use Rattle.passes.proofs.Counted.{rows_on, rows_few}
-use Rattle.passes.proofs.RowLoops.{begin_rows, row_length, next_row_by, rows_all}
+use Rattle.passes.proofs.RowLoops.{begin_rows, row_length, next_row_by}
 use Rattle.passes.proofs.Chroma.{chroma_across, same_pixel}
 use Rattle.passes.proofs.ntsc.rows.Goals as goal
 
 pub loop-y-init : goal.loop-y-init
 loop-y-init c = let p = c.requires in
     (p.fact_1.1, p.fact_1.2, p.fact_1.3, sym (zero-mul (samples_of c.args.width c.args.bleed)), begin_rows _ p.fact_2.area)
-
-pub row-samples-requires : goal.row-samples-requires
-row-samples-requires c = let l = c.loop-y.invariant in
-    let p = c.requires in
-    let e = sym (row_length l.4 c.loop-y-test.true) in
-    (p.fact_1.0, l.0 ∙ e, l.1 ∙ e, l.2 ∙ e, p.fact_1.4 ∙ e, omega (arith, e, p.fact_2.wide))
 
 pub overflow_add-samples : goal.overflow_add-samples
 overflow_add-samples c = let o = c.loop-y in
@@ -40,11 +34,4 @@ loop-y-preserved c = let o = c.loop-y in
       next_row_by l.4 (λ x p. mark_clamped (pixel a.strength (chroma_by sums 0 part a.bleed x) (chroma_by sums 1 part a.bleed x) p)) _ t
           (λ x p q. ap mark_clamped (same_pixel a.strength p (chroma_across l.4 t sums 0 a.bleed x) (chroma_across l.4 t sums 1 a.bleed x)))
           c.row-samples.ensures.0,
-    )
-
-pub returns : goal.returns
-returns c = let l = c.loop-y in
-    let a = c.args in (
-      rows_all l.invariant.4 c.loop-y-test.false,
-      l.invariant.3 ∙ ap (λ (m : ℕ). m * samples_of a.width a.bleed) (omega arith),
     )

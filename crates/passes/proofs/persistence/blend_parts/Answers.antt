@@ -1,6 +1,6 @@
 -- `passes::persistence::blend_parts` meets its contract: part by part. Assumes nothing.
 use Rattle.std.proofs.Common.{◌≡◌, ℕ, ◌+◌, List, subst, arith}
-use Rattle.num.specs.Laws.Rewrite.{Rewritten, none, all, further, further_long}
+use Rattle.num.specs.Laws.Rewrite.{Rewritten, none, all, further}
 use Rattle.passes.proofs.persistence.blend_parts.Goals as goal
 
 as_many : {i j : ℕ} {f : ℕ → ℕ → ℕ} {xs ys : List ℕ} → i ≡ j → Rewritten i f xs ys → Rewritten j f xs ys
@@ -8,11 +8,6 @@ as_many {f = f} {xs = xs} {ys = ys} e t = subst (λ (k : ℕ). Rewritten k f xs 
 
 pub loop-at-init : goal.loop-at-init
 loop-at-init c = none _ _
-
-pub blend_part-requires : goal.blend_part-requires
-blend_part-requires c = let l = c.loop-at in
-    let long = further_long (l.at + c.min-count.result) l.invariant (omega arith) in
-    (omega (arith, long), omega (arith, long), omega arith)
 
 -- the part was a whole one
 pub loop-at-preserved : goal.loop-at-preserved

@@ -2,14 +2,11 @@
 use Rattle.std.proofs.Common.{◌*◌, ◌++◌, length, drop, sym, ap, ◌∙◌, arith, take_all}
 use Rattle.passes.specs.Plain.Persistence.{copies, refilled}
 use Rattle.passes.specs.Laws.Persistence.{length-copies}
-use Rattle.passes.proofs.Places.{none, place-length, more, all, copies-place}
+use Rattle.passes.proofs.Places.{none, more, all, copies-place}
 use Rattle.passes.proofs.persistence.refill.Goals as goal
 
 pub loop-j-init : goal.loop-j-init
 loop-j-init c = none _ _ _ _ c.requires (omega (arith, length-copies c.args.depth c.args.frame.now))
-
-pub copy-requires : goal.copy-requires
-copy-requires c = place-length c.loop-j.invariant c.loop-j-test.true
 
 pub loop-j-preserved : goal.loop-j-preserved
 loop-j-preserved c = let inv = c.loop-j.invariant in

@@ -2,7 +2,7 @@
 use Rattle.std.proofs.Common.{arith, le-leb}
 use borrow.Author.Tests.{lt-leb}
 use Rattle.passes.specs.Plain.Persistence.{resized}
-use Rattle.passes.proofs.Places.{place_in, growing, before_in, growing_more, grown_all}
+use Rattle.passes.proofs.Places.{growing, growing_more, grown_all}
 use Rattle.passes.proofs.persistence.resize.Goals as goal
 
 pub returns-then-to-from : goal.returns-then-to-from
@@ -11,11 +11,6 @@ returns-then-to-from c = let a = c.args in rw (le-leb a.to a.from c.if-to-from.t
 
 pub loop-j-init : goal.loop-j-init
 loop-j-init c = let p = c.requires in growing _ _ _ _ p.0 (omega arith) p.1
-
-pub repeat-requires : goal.repeat-requires
-repeat-requires c = let g = c.loop-j.invariant in
-    let l = c.loop-j-test.true in
-    (before_in _ _ _ _ g l, omega (arith, place_in g.written l, g.written.kept))
 
 pub loop-j-preserved : goal.loop-j-preserved
 loop-j-preserved c = growing_more _ _ _ _ c.loop-j.invariant c.loop-j-test.true c.repeat.ensures

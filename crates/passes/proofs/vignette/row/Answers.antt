@@ -12,9 +12,6 @@ loop-x-preserved c = let x = c.loop-x.x in
     let near : nearer (length c.args.row.now) x ≡ x = omega arith in
     more c.loop-x.invariant 0 (omega arith) (cc)
 
-pub loop-x-2-init : goal.loop-x-2-init
-loop-x-2-init c = let all : c.loop-x.x ≡ length c.args.line.now = omega arith in rw all at c.loop-x.invariant
-
 pub loop-x-2-preserved : goal.loop-x-2-preserved
 loop-x-2-preserved c = let x = c.loop-x-2.x in
     let near : nearer (length c.args.row.now) x ≡ length c.loop-x-2.row - x = omega arith in

@@ -8,9 +8,6 @@ use Rattle.passes.proofs.vignette.squares.Goals as goal
 pub loop-x-init : goal.loop-x-init
 loop-x-init c = none _ _
 
-pub offset_squared-requires : goal.offset_squared-requires
-offset_squared-requires c = (omega arith, omega arith)
-
 pub loop-x-preserved : goal.loop-x-preserved
 loop-x-preserved c = more c.loop-x.invariant nan (omega arith)
     (ap (λ (z : Float). z ⊕ c.args.yy) c.offset_squared.ensures)
