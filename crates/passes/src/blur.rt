@@ -44,7 +44,7 @@ fn offset_weight(radius: usize, k: usize) -> f32
     weight(radius, radius.abs_diff(k))
 }
 
-// The weights of four offsets, one after another.
+// The weights of four offsets, one after another. Named, and no array, since the definitions of specs/Private.antt name them.
 #[derive(Clone, Copy, Debug, PartialEq)]
 struct Four {
     a: f32,
@@ -253,6 +253,7 @@ fn accumulate(acc: &mut [f32], src: &[f32], radius: usize) -> usize
     acc.fill(0.0);
     let mut samples = 0usize;
     let mut k = 0usize;
+    // No `for`: a step takes four offsets or one.
     while k < 2 * radius + 1 {
         let taken = add_offsets(acc, src, radius, k);
         k += taken.offsets;
@@ -412,6 +413,7 @@ pub fn accumulate_rows(
     acc.fill(0.0);
     let mut samples = 0usize;
     let mut k = 0usize;
+    // No `for`: a step takes four offsets or one.
     while k < 2 * radius + 1 {
         let taken = add_rows(acc, plane, height, radius, y, k);
         k += taken.offsets;
@@ -433,8 +435,8 @@ pub fn weight_line(n: usize, radius: usize) -> [f32; 1024]
     ensures { Begins 1024 n (Blur.weight_sum n radius) result }
 {
     let mut out = line::<1024>();
-    for x in 0..n {
-        out[x] = weight_sum(n, radius, x);
+    for (x, sum) in out[..n].iter_mut().enumerate() {
+        *sum = weight_sum(n, radius, x);
     }
     out
 }

@@ -59,7 +59,8 @@ fn tone(c: Rgb, brightness: f32, contrast: f32, saturation: f32) -> u32
     marks::unit(d.map(|x| luminance + (x - luminance) * saturation))
 }
 
-// At gamma 1.0, by a loop of its own: it reads no table, so that it becomes vector code.
+// At gamma 1.0, by a loop of its own: it reads no table, so that it becomes vector code. Out of line, so that its code does
+// not hang on what else the chain's long function holds.
 #[inline(never)]
 fn by_share(frame: &mut [u32], brightness: f32, contrast: f32, saturation: f32)
     ensures { frame.new ≡ every_unit (λ i. ColorCorrection.colour ColorCorrection.share brightness contrast saturation) frame.old }
@@ -69,6 +70,7 @@ fn by_share(frame: &mut [u32], brightness: f32, contrast: f32, saturation: f32)
     }
 }
 
+// The same by a curve, out of line for the same reason.
 #[inline(never)]
 fn by_curve(frame: &mut [u32], curve: &[f32], brightness: f32, contrast: f32, saturation: f32)
     requires { 256 ≤ length curve.now }

@@ -62,7 +62,8 @@ fn shade(column: u16, dim: f32, factor: f32, p: u32) -> u32
     pixel::pack_nearest(pixel::scaled(phosphor(column, dim, pixel::unpack(p)), factor))
 }
 
-// One row of the frame. A column is below 1024, and its remainder in 16 bits is quicker than in 64.
+// One row of the frame. A column is below 1024, and its remainder in 16 bits is quicker than in 64. Out of
+// line, so that its code does not hang on what else the chain's long function holds.
 #[inline(never)]
 fn row(row: &mut [u32], y: usize, width: usize, height: usize, strength: f32)
     requires { (y < height) × (height ≤ 1024) × (width ≤ 1024) × (length row.old ≡ width) }

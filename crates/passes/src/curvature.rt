@@ -48,7 +48,7 @@ fn bend(copy: &[u32], width: usize, height: usize, amount: f32, nx: f32, ny: f32
     place(copy, width, height, nx * distortion, ny * distortion)
 }
 
-// The words at these places are those of row y.
+// The words at these places are those of row y. Out of line, so that its code does not hang on what else the chain's long function holds.
 #[inline(never)]
 fn places(line: &mut [u32], copy: &[u32], y: usize, width: usize, height: usize, amount: f32)
     requires { (y < height) × (length line.old ≡ width) × Frame width height copy.now }
@@ -69,6 +69,7 @@ fn word(copy: &[u32], place: u32) -> u32
     if at < copy.len() { copy[at] } else { 0 }
 }
 
+// Places become the words there, out of line for the same reason.
 #[inline(never)]
 fn words(line: &mut [u32], copy: &[u32])
     ensures { line.new ≡ every (λ x p. slice_index copy.now p) line.old }

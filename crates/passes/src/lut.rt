@@ -113,6 +113,7 @@ fn picked(reds: &[u32], greens: &[u32], blues: &[u32], p: u32) -> u32
     red.wrapping_add(green).wrapping_add(blue)
 }
 
+// Out of line, where its addresses stay in registers: within the chain's long function it took a fifth longer.
 #[inline(never)]
 fn by_greys(frame: &mut [u32], reds: &[u32], greens: &[u32], blues: &[u32])
     requires { (256 ≡ length reds.now) × (256 ≡ length greens.now) × (256 ≡ length blues.now) }
@@ -125,7 +126,8 @@ fn by_greys(frame: &mut [u32], reds: &[u32], greens: &[u32], blues: &[u32])
 }
 
 // Presets 3, 4 and 5, which mix channels. Each is an instance of its own, where the preset is a number: so the loop has its own
-// treatment alone and becomes vector code. As one loop that is handed the preset it did not, and took seven times as long.
+// treatment alone and becomes vector code. As one loop that is handed the preset it did not, and took seven times as long. Out of line,
+// as `by_greys` is.
 #[inline(never)]
 fn by_mixing<const PRESET: u8>(frame: &mut [u32], strength: f32)
     ensures { frame.new ≡ every_unit (λ i. Lut.colour PRESET strength) frame.old }

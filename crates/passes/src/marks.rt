@@ -44,7 +44,8 @@ pub fn unit(c: Rgb) -> u32
     marked(pixel::pack_unit(c), c, 1.0)
 }
 
-// Clears the marks of a frame, and returns their sum: at most 255 for each word, which 32 bits hold.
+// Clears the marks of a frame, and returns their sum: at most 255 for each word, which 32 bits hold. Out of line,
+// so that its code does not hang on what else the chain's long function holds.
 #[inline(never)]
 pub fn collect(frame: &mut [u32]) -> u32
     requires { length frame.old ≤ 1048576 }

@@ -17,6 +17,7 @@ pub fn position(n: usize, k: usize) -> f32
     k as u16 as f32 / last(n) as u16 as f32 * 2.0 - 1.0
 }
 
+// The library's, under the name that others know.
 pub fn copy(to: &mut [u32], from: &[u32])
     requires { length to.old ≡ length from.now }
     ensures { to.new ≡ from.now }

@@ -79,6 +79,7 @@ fn row(row: &mut [u32], line: &[f32])
     requires { (0 < length row.old) × (length line.now ≡ length row.old / 2 + 1) }
     ensures { row.new ≡ every (λ x. Pixel.dim (slice_index_or line.now (min x (length row.old - x)) nan)) row.old }
 {
+    // By index, since the line is read forwards, and then backwards.
     for x in 0..line.len() {
         row[x] = pixel::dim(row[x], line[x]);
     }

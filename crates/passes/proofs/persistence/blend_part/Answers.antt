@@ -1,19 +1,14 @@
 -- `passes::persistence::blend_part` meets its contract: three channels of the mix at each place are the mix. Assumes nothing.
-use Rattle.std.proofs.Common.{◌≡◌, ℕ, ◌≤◌, List, ◌++◌, length, take, drop, ap, ◌∙◌, zero-add, arith}
+use Rattle.std.proofs.Common.{ℕ, ◌++◌, length, drop, ap, ◌∙◌}
 use lib.Ieee.{Float}
-use Rattle.num.specs.Rewrite.{fill}
-use Rattle.num.specs.Laws.Rewrite.{none, part, rewrite-at}
+use Rattle.num.specs.Laws.Rewrite.{rewrite-at}
 use Rattle.passes.specs.Private.{Begins, mark_clamped, blended_word, mixed_channel}
 use Rattle.passes.proofs.Mixes.{whole}
-use Rattle.passes.proofs.Offsets.{begun}
+use Rattle.passes.proofs.Offsets.{begins}
 use Rattle.passes.proofs.persistence.blend_part.Goals as goal
 use Rattle.passes.proofs.persistence.blend_part.Lts as lts
 use Rattle.passes.proofs.persistence.blend_part.Reads as reads
 use Rattle.passes.proofs.persistence.blend_part.Tie as tie
-
--- a line whose front was lent and came back filled
-begins : {f : ℕ → Float} {new : List Float} (line : List Float) (n : ℕ) → length line ≡ 64 → n ≤ 64 → new ≡ fill f (take n line) → Begins 64 n f (new ++ drop n line)
-begins line n e l h = begun e l (omega arith) (part n _ _ (none _ _) (omega arith) (λ x v l. rw zero-add) h)
 
 -- ---- the way back from one line to the one before, and to the start
 abbrev start : lts.After-mix_line tie.the-claims reads.Pre reads.Post → lts.Start tie.the-claims reads.Pre reads.Post
