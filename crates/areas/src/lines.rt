@@ -20,9 +20,5 @@ pub(crate) fn clear(line: &mut [u64], from: usize, to: usize)
     requires { (from ≤ to) × (to ≤ length line.old) }
     ensures { Changed from to (λ x v. 0) line.old line.new }
 {
-    let mut x = from;
-    while x < to {
-        line[x] = 0;
-        x += 1;
-    }
+    line[from..to].fill(0);
 }
