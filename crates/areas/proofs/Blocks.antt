@@ -1,6 +1,6 @@
 -- The sums of columns, row after row, and the running sums of them, column after column. Assumes nothing.
 use Prim.Native.Nat.{ℕ, suc, ◌+◌, ◌*◌, ◌-◌, ◌/◌, ◌%◌, ◌≤◌, ◌<◌}
-use mathlib.Core.Path.{◌≡◌, refl, sym, ap, ap₂, subst, ◌∙◌}
+use mathlib.Core.Path.{◌≡◌, refl, sym, ap, ap₂, ◌∙◌}
 use mathlib.Core.List.{List}
 use native.Mathlib.Nat.{suc-mul, mul-le-mul, mul-le-mul_right}
 use native.Mathlib.Numerals.{add-one}
@@ -85,24 +85,18 @@ module _ (columns : List ℕ) (from : ℕ) where
   none c = sym (over-empty (λ s. unspread c (get_or columns s 0)) from from (omega arith))
 
   -- those before t are done
-  pub record Running (to t i red green blue : ℕ) (sums : List ℕ) : Type 0 where
-    pub along : from ≤ t
-    pub within : t ≤ to
-    pub place : i ≡ 3 * t
+  pub record Running (t red green blue : ℕ) (sums : List ℕ) : Type 0 where
     pub reds : red ≡ runs 0 t
     pub greens : green ≡ runs 1 t
     pub blues : blue ≡ runs 2 t
     pub few-red : red ≤ t * 4194304
     pub few-green : green ≤ t * 2097152
     pub few-blue : blue ≤ t * 2097152
-    pub line : Line 3075 (3 * from) (i + 3) (running_at columns from) sums
+    pub line : Line 3075 (3 * from) (3 * t + 3) (running_at columns from) sums
 
-  pub none_run : (to : ℕ) (sums : List ℕ) → from ≤ to → to ≤ 1024 → length sums ≡ 3075
-      → Running to from (3 * from) 0 0 0 (set (set (set sums (3 * from) 0) (3 * from + 1) 0) (3 * from + 2) 0)
-  none_run to sums l m e = record {
-    along = omega arith;
-    within = l;
-    place = refl;
+  pub none_run : (sums : List ℕ) → from ≤ 1024 → length sums ≡ 3075
+      → Running from 0 0 0 (set (set (set sums (3 * from) 0) (3 * from + 1) 0) (3 * from + 2) 0)
+  none_run sums l e = record {
     reds = none 0;
     greens = none 1;
     blues = none 2;
@@ -115,35 +109,31 @@ module _ (columns : List ℕ) (from : ℕ) where
         (none 2 ∙ running_is from (3 * from + 2) 2 (omega arith) (omega arith));
   }
 
-module _ {columns : List ℕ} {from to t i red green blue : ℕ} {sums : List ℕ} (r : Running columns from to t i red green blue sums) where
-  pub next_column : t < to → to ≤ 1024 → get_or columns t 0 ≤ 18446744073709551615
-      → Running columns from to (t + 1) (i + 3) (red + get_or columns t 0 / 4398046511104) (green + get_or columns t 0 / 2097152 % 2097152)
+module _ {columns : List ℕ} {from t red green blue : ℕ} {sums : List ℕ} (r : Running columns from t red green blue sums) where
+  pub next_column : from ≤ t → t < 1024 → get_or columns t 0 ≤ 18446744073709551615
+      → Running columns from (t + 1) (red + get_or columns t 0 / 4398046511104) (green + get_or columns t 0 / 2097152 % 2097152)
       (blue + get_or columns t 0 % 2097152)
-      (set (set (set sums (i + 3) (red + get_or columns t 0 / 4398046511104)) (i + 3 + 1) (green + get_or columns t 0 / 2097152 % 2097152)) (i + 3 + 2)
+      (set (set (set sums (3 * t + 3) (red + get_or columns t 0 / 4398046511104)) (3 * t + 3 + 1) (green + get_or columns t 0 / 2097152 % 2097152)) (3 * t + 3 + 2)
       (blue + get_or columns t 0 % 2097152))
   unfolding unspread
   next_column l m h =
       let reds : red + get_or columns t 0 / 4398046511104 ≡ runs columns from 0 (t + 1) =
-      omega (arith, r.reds, over_more (λ s. unspread 0 (get_or columns s 0)) from t r.along) in
+      omega (arith, r.reds, over_more (λ s. unspread 0 (get_or columns s 0)) from t l) in
       let greens : green + get_or columns t 0 / 2097152 % 2097152 ≡ runs columns from 1 (t + 1) =
-      omega (arith, r.greens, over_more (λ s. unspread 1 (get_or columns s 0)) from t r.along) in
+      omega (arith, r.greens, over_more (λ s. unspread 1 (get_or columns s 0)) from t l) in
       let blues : blue + get_or columns t 0 % 2097152 ≡ runs columns from 2 (t + 1) =
-      omega (arith, r.blues, over_more (λ s. unspread 2 (get_or columns s 0)) from t r.along) in
+      omega (arith, r.blues, over_more (λ s. unspread 2 (get_or columns s 0)) from t l) in
+      let last : 3 * t + 3 + 3 ≡ 3 * (t + 1) + 3 = omega arith in
       record {
-        along = omega (arith, r.along);
-        within = omega arith;
-        place = omega (arith, r.place);
         reds = reds;
         greens = greens;
         blues = blues;
         few-red = omega (arith, r.few-red);
         few-green = omega (arith, r.few-green);
         few-blue = omega (arith, r.few-blue);
-        line = three r.line (omega (arith, r.place))
-            (reds ∙ running_is columns from (t + 1) (i + 3) 0 (omega (arith, r.place)) (omega arith))
-            (greens ∙ running_is columns from (t + 1) (i + 3 + 1) 1 (omega (arith, r.place)) (omega arith))
-            (blues ∙ running_is columns from (t + 1) (i + 3 + 2) 2 (omega (arith, r.place)) (omega arith));
+        line = rw (← last)
+            (three r.line (omega arith)
+            (reds ∙ running_is columns from (t + 1) (3 * t + 3) 0 (omega arith) (omega arith))
+            (greens ∙ running_is columns from (t + 1) (3 * t + 3 + 1) 1 (omega arith) (omega arith))
+            (blues ∙ running_is columns from (t + 1) (3 * t + 3 + 2) 2 (omega arith) (omega arith)));
       }
-
-  pub ran : to ≤ t → Line 3075 (3 * from) (3 * to + 3) (running_at columns from) sums
-  ran l = subst (λ (k : ℕ). Line 3075 (3 * from) k (running_at columns from) sums) (omega (arith, r.place, r.within)) r.line

@@ -68,7 +68,7 @@ pub(crate) fn running(columns: &[u64], from: usize, to: usize, sums: &mut [u64])
     requires { (from ≤ to) × (to ≤ 1024) × (length columns.now ≡ 1024) × (length sums.old ≡ 3075) }
     ensures { Line 3075 (3 * from) (3 * to + 3) (running_at columns.now from) sums.new }
 {
-    let mut i = 3 * from;
+    let i = 3 * from;
     sums[i] = 0;
     sums[i + 1] = 0;
     sums[i + 2] = 0;
@@ -80,7 +80,7 @@ pub(crate) fn running(columns: &[u64], from: usize, to: usize, sums: &mut [u64])
         red += column / 4398046511104;
         green += column / 2097152 % 2097152;
         blue += column % 2097152;
-        i += 3;
+        let i = 3 * t + 3;
         sums[i] = red;
         sums[i + 1] = green;
         sums[i + 2] = blue;
