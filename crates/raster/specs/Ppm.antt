@@ -44,6 +44,10 @@ pixels_cut = 8
 abbrev pub left_over : ℕ
 left_over = 9
 
+-- more bytes than were read, of a file that is read up to a limit: `parse_of` never gives it
+abbrev pub unread : ℕ
+unread = 10
+
 -- the number of a reason
 abbrev pub number_of : NotAFrame → ℕ
 number_of Not.Empty = empty
@@ -55,6 +59,7 @@ number_of Not.EmptyPicture = empty_picture
 number_of Not.TooLarge = too_large
 number_of Not.PixelsCut = pixels_cut
 number_of Not.LeftOver = left_over
+number_of Not.Unread = unread
 
 -- ## Bytes
 

@@ -1,13 +1,13 @@
 // A whole file that should be one frame as binary PPM (netpbm's P6), read: its size and where its pixels start, or why it is refused.
 ghost use Rattle.std.specs.Prelude.{◌≡◌, ◌≤◌, length, false};
 ghost use Rattle.raster.specs.Ppm.{is_white, ends_line, is_digit, in_gap, in_comment, grow, value_of, gap_of, digits_of, number_in, is_p6};
-ghost use Rattle.raster.specs.Ppm.{header_in, number_of, parsed, parse_of};
+ghost use Rattle.raster.specs.Ppm.{header_in, parsed, parse_of};
 ghost use Rattle.raster.specs.Private.{number_step, header_step};
 
-// Why bytes are no frame, each reason with its number.
+// Why bytes are no frame. specs/Ppm.antt counts the reasons from 1 on.
 #[derive(Clone, Copy, Debug, PartialEq, Eq)]
 pub enum NotAFrame {
-    Empty = 1, // no byte at all
+    Empty, // no byte at all
     OtherFormat, // not binary PPM: it does not begin with `P6`
     HeaderCut, // the bytes end inside the header
     BadHeader, // no gap where one must be, or no digit, or no white byte after the maximum
@@ -16,14 +16,7 @@ pub enum NotAFrame {
     TooLarge, // a side above 1024, or more pixels than are taken
     PixelsCut, // fewer bytes than the pixels have
     LeftOver, // and more
-}
-
-impl NotAFrame {
-    pub fn number(self) -> u8
-        ensures { result ≡ number_of self }
-    {
-        self as u8
-    }
+    Unread, // more bytes than were read, of a file that is read up to a limit: `parse` never gives it
 }
 
 // A frame's size, and where its pixels start.
