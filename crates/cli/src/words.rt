@@ -100,9 +100,7 @@ pub fn no_frame(fd: i32, why: NotAFrame) {
             io::write_all(fd, b"cut off: fewer pixels than its header says\n")
         }
         NotAFrame::LeftOver => io::write_all(fd, b"bytes left over after the last pixel\n"),
-        NotAFrame::Unread => {
-            io::write_all(fd, b"more bytes than a frame of 61440 pixels has\n")
-        }
+        NotAFrame::Unread => { io::write_all(fd, b"more bytes than a frame of 61440 pixels has\n") }
     };
 }
 

@@ -1,4 +1,4 @@
-// Frames: read, looked at, and shown. The curve.
+// Frames: read, looked at, and shown.
 ghost use Rattle.io.specs.Counts.{IsPrefixLen};
 
 use crate::says;
@@ -43,7 +43,13 @@ fn picture(rt: HostRuntime, i: usize, shown: Shown, tell: bool, file: &[u8]) -> 
 }
 
 // Writes the picture, or says why there is none.
-fn write(rt: HostRuntime, i: usize, outcome: Result<Shown, Unshown>, tell: bool, file: &[u8]) -> bool {
+fn write(
+    rt: HostRuntime,
+    i: usize,
+    outcome: Result<Shown, Unshown>,
+    tell: bool,
+    file: &[u8],
+) -> bool {
     match outcome {
         Ok(shown) => picture(rt, i, shown, tell, file),
         Err(Unshown::NoFrame(why)) => {
@@ -111,20 +117,4 @@ pub fn play(
         ints,
         curve,
     )
-}
-
-// The curve in the file that argument i names. Where it holds none, it is said why.
-pub fn curve(rt: HostRuntime, i: usize) -> Option<[f32; 256]> {
-    let mut file = io::buffer();
-    let named = input::named(rt, i, &mut file);
-    let n = named.length;
-    match frames::curve::load(&file[..n]) {
-        Ok(words) => Some(words),
-        Err(why) => {
-            if named.ok {
-                says::no_curve(rt, i, why);
-            }
-            None
-        }
-    }
 }

@@ -125,7 +125,7 @@ fn lend(rt: HostRuntime, station: Station, first: usize, count: usize, tell: boo
         run(rt, station, first, count, tell, &none);
         return;
     }
-    if let Some(curve) = files::curve(rt, named) {
+    if let Some(curve) = input::curve(rt, named) {
         run(rt, station, first, count, tell, &curve);
     }
 }

@@ -2,7 +2,6 @@
 use cli::says::{name, text};
 use cli::stream::STDERR_FILENO;
 use cli::words;
-use frames::curve::NoCurve;
 use raster::ppm::NotAFrame;
 
 // The card, which argument i gives.
@@ -15,12 +14,6 @@ pub fn card(rt: HostRuntime, i: usize, card: &[u8], number: u8) {
 pub fn no_frame(rt: HostRuntime, i: usize, why: NotAFrame) {
     name(rt, STDERR_FILENO, i);
     words::no_frame(STDERR_FILENO, why);
-}
-
-// A file that holds no curve.
-pub fn no_curve(rt: HostRuntime, i: usize, why: NoCurve) {
-    name(rt, STDERR_FILENO, i);
-    words::no_curve(STDERR_FILENO, why);
 }
 
 // A frame that the station refused. No station that a card opens refuses a frame with all that is lent here, but by 16 where no curve is named.

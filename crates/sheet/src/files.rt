@@ -1,4 +1,4 @@
-// Files that arguments name: sheets, events, curves.
+// Files that arguments name: sheets, events.
 ghost use Rattle.std.specs.Prelude.{◌<◌};
 ghost use Rattle.io.specs.Counts.{IsPrefixLen};
 
@@ -31,20 +31,4 @@ pub fn count(sheet: &[u8]) -> u32
         return 0;
     };
     n
-}
-
-// The curve in the file that argument i names. Where it holds none, it is said why.
-pub fn curve(rt: HostRuntime, i: usize) -> Option<[f32; 256]> {
-    let mut file = io::buffer();
-    let named = input::named(rt, i, &mut file);
-    let n = named.length;
-    match frames::curve::load(&file[..n]) {
-        Ok(words) => Some(words),
-        Err(why) => {
-            if named.ok {
-                says::no_curve(rt, i, why);
-            }
-            None
-        }
-    }
 }

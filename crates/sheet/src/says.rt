@@ -4,19 +4,12 @@ use cli::output::end_at;
 use cli::says::{name, text};
 use cli::stream::STDERR_FILENO;
 use cli::words;
-use frames::curve::NoCurve;
 use std::io::Error;
 
 // The card, which argument i gives.
 pub fn card(rt: HostRuntime, i: usize, card: &[u8], number: u8) {
     name(rt, STDERR_FILENO, i);
     let _ = words::refused(rt, STDERR_FILENO, card, number);
-}
-
-// A file that holds no curve.
-pub fn no_curve(rt: HostRuntime, i: usize, why: NoCurve) {
-    name(rt, STDERR_FILENO, i);
-    words::no_curve(STDERR_FILENO, why);
 }
 
 pub fn too_long(rt: HostRuntime, i: usize) {
