@@ -83,22 +83,10 @@ fn begin(rest: &mut [u32], power: &mut [u32], xs: &[f32])
     requires { (length rest.old ≡ length xs.now) × (length power.old ≡ length xs.now) }
     ensures { AllReadied xs.now rest.new power.new }
 {
-    let mut i = 0;
-    while i < xs.len() {
-        let v = ready(xs[i]);
+    for (i, x) in xs.iter().enumerate() {
+        let v = ready(*x);
         rest[i] = v.digits;
         power[i] = v.power;
-        i += 1;
-    }
-}
-
-fn clear(line: &mut [u32])
-    ensures { line.new ≡ fill (λ i. 0) line.old }
-{
-    let mut i = 0;
-    while i < line.len() {
-        line[i] = 0;
-        i += 1;
     }
 }
 
@@ -134,19 +122,14 @@ fn digits(rest: &mut [u32], twice: &mut [u32], place: u32)
     requires { AllDigits (4 * place) rest.old twice.old }
     ensures { MoreDigits place rest.old twice.old rest.new twice.new }
 {
-    let mut i = 0;
-    while i < rest.len() {
-        let first = turn(
-            Found {
-                rest: rest[i],
-                twice: twice[i],
-            },
-            place + place,
-        );
-        let second = turn(first, place);
-        rest[i] = second.rest;
-        twice[i] = second.twice;
-        i += 1;
+    for (i, left) in rest.iter_mut().enumerate() {
+        let found = Found {
+            rest: *left,
+            twice: twice[i],
+        };
+        let found = turn(turn(found, place + place), place);
+        *left = found.rest;
+        twice[i] = found.twice;
     }
 }
 
@@ -156,12 +139,10 @@ fn whole_roots(rest: &mut [u32], twice: &mut [u32])
     requires { Wholes rest.old twice.old }
     ensures { WholeRoots rest.old twice.new }
 {
-    clear(twice);
+    twice.fill(0);
     let mut place = 0x400_0000u32;
-    let mut left = 13u32;
-    while 0 < left {
-        left -= 1;
-        place = place / 4;
+    for _pass in 0..13u32 {
+        place /= 4;
         digits(rest, twice, place);
     }
 }
@@ -180,10 +161,8 @@ fn finish(xs: &mut [f32], twice: &[u32], power: &[u32])
     requires { AllAnswer xs.old twice.now power.now }
     ensures { xs.new ≡ every (λ i. root_of) xs.old }
 {
-    let mut i = 0;
-    while i < xs.len() {
-        xs[i] = put(xs[i], twice[i], power[i]);
-        i += 1;
+    for (i, x) in xs.iter_mut().enumerate() {
+        *x = put(*x, twice[i], power[i]);
     }
 }
 
@@ -224,7 +203,8 @@ fn part_end(at: usize, n: usize) -> usize
     if n - at < 132 { n } else { at + 132 }
 }
 
-// The root of each value: 0 for a zero, for one below 0 and for one that is not finite.
+// The root of each value: 0 for a zero, for one below 0 and for one that is not finite. (Of a loop over `chunks_mut` a proof knows
+// nothing of what was written.)
 pub fn roots(xs: &mut [f32])
     ensures { xs.new ≡ every (λ i. root_of) xs.old }
 {
