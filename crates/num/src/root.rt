@@ -2,8 +2,8 @@
 // of two, the digits are scaled by their leading zeros, their whole root is found digit by digit, and the two are put together
 // again. The roots of many values are found side by side, two digits of each in a pass over all: a digit waits for the one
 // before it, and the values do not wait for one another. There is no table, and no product, quotient or remainder of two
-// variables: `oracle/products` searches for them. Definition: specs/Root.antt; that it is the nearest value:
-// specs/NearestRoot.antt.
+// variables: `oracle/products` searches for them. It lets no function of std by but `len`, so the loops go by a number and not by
+// `iter_mut`, and zeros are not written by `fill`. Definition: specs/Root.antt; that it is the nearest value: specs/NearestRoot.antt.
 ghost use Rattle.std.specs.Prelude.{◌≡◌, false, ◌+◌, ◌-◌, ◌*◌, ◌/◌, ◌^◌, ◌≤◌, ◌<◌, length};
 ghost use Rattle.std.specs.Float.{binary32};
 ghost use Rattle.std.specs.Float.Ieee.{of_bits};
@@ -83,10 +83,18 @@ fn begin(rest: &mut [u32], power: &mut [u32], xs: &[f32])
     requires { (length rest.old ≡ length xs.now) × (length power.old ≡ length xs.now) }
     ensures { AllReadied xs.now rest.new power.new }
 {
-    for (i, x) in xs.iter().enumerate() {
-        let v = ready(*x);
+    for i in 0..xs.len() {
+        let v = ready(xs[i]);
         rest[i] = v.digits;
         power[i] = v.power;
+    }
+}
+
+fn clear(line: &mut [u32])
+    ensures { line.new ≡ fill (λ i. 0) line.old }
+{
+    for i in 0..line.len() {
+        line[i] = 0;
     }
 }
 
@@ -122,13 +130,13 @@ fn digits(rest: &mut [u32], twice: &mut [u32], place: u32)
     requires { AllDigits (4 * place) rest.old twice.old }
     ensures { MoreDigits place rest.old twice.old rest.new twice.new }
 {
-    for (i, left) in rest.iter_mut().enumerate() {
+    for i in 0..rest.len() {
         let found = Found {
-            rest: *left,
+            rest: rest[i],
             twice: twice[i],
         };
         let found = turn(turn(found, place + place), place);
-        *left = found.rest;
+        rest[i] = found.rest;
         twice[i] = found.twice;
     }
 }
@@ -139,7 +147,7 @@ fn whole_roots(rest: &mut [u32], twice: &mut [u32])
     requires { Wholes rest.old twice.old }
     ensures { WholeRoots rest.old twice.new }
 {
-    twice.fill(0);
+    clear(twice);
     let mut place = 0x400_0000u32;
     for _pass in 0..13u32 {
         place /= 4;
@@ -161,8 +169,8 @@ fn finish(xs: &mut [f32], twice: &[u32], power: &[u32])
     requires { AllAnswer xs.old twice.now power.now }
     ensures { xs.new ≡ every (λ i. root_of) xs.old }
 {
-    for (i, x) in xs.iter_mut().enumerate() {
-        *x = put(*x, twice[i], power[i]);
+    for i in 0..xs.len() {
+        xs[i] = put(xs[i], twice[i], power[i]);
     }
 }
 
@@ -203,8 +211,7 @@ fn part_end(at: usize, n: usize) -> usize
     if n - at < 132 { n } else { at + 132 }
 }
 
-// The root of each value: 0 for a zero, for one below 0 and for one that is not finite. (Of a loop over `chunks_mut` a proof knows
-// nothing of what was written.)
+// The root of each value: 0 for a zero, for one below 0 and for one that is not finite.
 pub fn roots(xs: &mut [f32])
     ensures { xs.new ≡ every (λ i. root_of) xs.old }
 {

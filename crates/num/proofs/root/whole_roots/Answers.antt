@@ -1,6 +1,7 @@
 -- `num::root::whole_roots` meets its contract: each turn has two digits of every root more, and after the last the place is 1. Assumes nothing.
 use mathlib.Core.Path.{◌≡◌, refl, sym, ap, ◌∙◌, subst}
-use Rattle.std.proofs.Common.{rules}
+use Rattle.num.specs.Rewrite.{fill}
+use Rattle.num.specs.Laws.Rewrite.{get_d_fill, length-rewrite}
 use Prim.Native.Nat.{ℕ, zero, suc, ◌+◌, ◌-◌, ◌*◌, ◌/◌, ◌^◌, ◌≤◌, ◌<◌}
 use native.Mathlib.Numerals.{sub-one}
 use native.Mathlib.Nat.{pow-succ'}
@@ -17,11 +18,12 @@ use Rattle.num.proofs.root.whole_roots.Goals as goal
 none : (m : ℕ) → m < 2 ^ 25 → Digits (m * 2 ^ 25) m 0 (2 ^ 26)
 none m h = record { sum = omega arith; below = omega arith; room = omega arith; even = refl }
 
-starts : (ms twice zeros : List ℕ) → Wholes ms twice → length zeros ≡ length twice → ((k : ℕ) → k < length zeros → get_or zeros k 0 ≡ 0) → Found ms (2 ^ 26) ms zeros
-starts ms twice zeros w e z = record {
+starts : (ms twice : List ℕ) → Wholes ms twice → Found ms (2 ^ 26) ms (fill (λ i. 0) twice)
+starts ms twice w = record {
   first = refl;
-  second = e ∙ w.0;
-  digits = λ k l. subst (λ (t : ℕ). Digits (get_or ms k 0 * 2 ^ 25) (get_or ms k 0) t (2 ^ 26)) (sym (z k (omega (arith, e, w.0)))) (none (get_or ms k 0) (w.1 k l));
+  second = length-rewrite (length twice) (λ i x. 0) twice ∙ w.0;
+  digits = λ k l.
+      subst (λ (t : ℕ). Digits (get_or ms k 0 * 2 ^ 25) (get_or ms k 0) t (2 ^ 26)) (sym (get_d_fill (λ i. 0) twice k 0 (omega (arith, w.0)))) (none (get_or ms k 0) (w.1 k l));
 }
 
 quarter : (l : ℕ) → 0 < l → 4 ^ l ≡ 4 * 4 ^ (l - 1)
@@ -56,7 +58,7 @@ ends ms rest twice place left z e f =
     (f.second, λ k l. last (subst (Digits (get_or ms k 0 * 2 ^ 25) (get_or rest k 0) (get_or twice k 0)) one (f.digits k l)))
 
 pub loop-pass-init : goal.loop-pass-init
-loop-pass-init c = (refl, starts c.args.rest.now c.args.twice.now c.fill.new.self c.requires c.fill.ensures.len (λ k l. search rules))
+loop-pass-init c = (refl, subst (Found c.args.rest.now (2 ^ 26) c.args.rest.now) (sym c.clear.ensures) (starts c.args.rest.now c.args.twice.now c.requires))
 
 pub digits-requires : goal.digits-requires
 digits-requires c = let v = c.loop-pass in asks (13 - v._pass) (omega arith) v.invariant.0 v.invariant.1
