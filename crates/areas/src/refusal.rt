@@ -16,7 +16,7 @@ fn bad_area(a: Area, width: usize, height: usize) -> bool
     width < a.left + a.wide || height < a.top + a.high
 }
 
-// Whether one of the rectangles does.
+// Whether one of the rectangles does. (With `any` over the range the proof did not close.)
 #[tactic(auto, using(crate::proofs::OneOf::none_more), unfolding(crate::specs::Areas::bad_areas))]
 fn bad_areas(areas: &[u16], width: usize, height: usize) -> bool
     ensures { result ≡ bad_areas width height areas.now }
