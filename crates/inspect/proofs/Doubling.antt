@@ -10,7 +10,7 @@ use native.Mathlib.Nat.{add-mul, mul-one, mul_assoc, mul_comm, mul_right_comm, m
 use native.Mathlib.Nat.{le_of_eq, le_of_lt, le-add_right, lt_of_le_of_lt, lt_of_lt_of_le, lt_of_not-le, not-le_of_lt, lt_irrefl, le-div_iff_mul-le, div-lt_iff_lt-mul}
 use native.Mathlib.Numerals.{add-one}
 use native.Mathlib.Omega.{arith}
-use borrow.Author.Tests.{ltb-true, ltb-false, le-leb, lt-leb, eq-eqb, ne_eqb}
+use borrow.Author.Tests.{ltb-true, ltb-false, le-leb, lt-leb, ne_eqb}
 use lib.Arith.{digits_lt, digits_div, digits_mod}
 use lib.Dec.{T, is_le, compare_is_eq, leb, ltb, eqb, le→leb, leb→le, eqb→eq, eqb_refl, lit<}
 use lib.Ieee.{Float, binary32, size, nearest, units, round, of_bits}
@@ -19,9 +19,7 @@ use lib.Ieee.Digits.{size-lt, size-le}
 use lib.Ieee.Exact.{HasValue, units_val}
 use lib.Ieee.Fits.{nearest-le, round_is, round-fits}
 use lib.Ieee.Nearest.{closest, closest_same, nearest-ge}
-use lib.ListN.{length, get_or, drop, drop_of_length-le}
 use lib.Pow.{pow-add, pow_pos, pow_mono}
-use lib.Seq.{drop-cons}
 use Rattle.inspect.specs.Decimal.{number, Digits}
 use Rattle.inspect.specs.Private.{Times, Drawn}
 use Rattle.inspect.specs.Laws.Digits.{number-below}

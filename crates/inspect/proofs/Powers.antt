@@ -1,7 +1,7 @@
 -- Powers beside a number: what one turn of a loop takes of them, how large they get, and how those of 2, 5 and 10 fit together. Assumes nothing.
 use Prim.Native.Nat.{ℕ, zero, suc, ◌+◌, ◌-◌, ◌*◌, ◌/◌, ◌%◌, ◌^◌, ◌≤◌, ◌<◌}
 use mathlib.Core.Path.{◌≡◌, refl, sym, ap, ◌∙◌, subst}
-use native.Mathlib.Nat.{pow-zero, pow-suc, one-le-pow, mul_assoc, mul_comm, mul_right_comm, mul-one, le-mul_of_pos_right, lt_of_le_of_lt, le_of_eq}
+use native.Mathlib.Nat.{pow-suc, mul_assoc, mul_right_comm, mul-one, lt_of_le_of_lt, le_of_eq}
 use native.Mathlib.Nat.{eq_of_mul-eq-mul_right, mul-le-mul, le_of_lt, pow-le-pow_right}
 use native.Mathlib.Omega.{arith}
 use lib.Arith.{digits_mod}

@@ -1,6 +1,6 @@
 -- `inspect::decimal::scale` meets its contract: each turn makes one factor of the power. Assumes nothing.
-use Prim.Native.Nat.{ℕ, ◌+◌, ◌*◌, ◌^◌, ◌<◌}
-use mathlib.Core.Path.{◌≡◌, refl, sym, ap, ◌∙◌, subst}
+use Prim.Native.Nat.{ℕ, ◌*◌, ◌^◌}
+use mathlib.Core.Path.{◌≡◌, sym, ap, ◌∙◌}
 use native.Mathlib.Nat.{add-zero, pow-zero, mul-one}
 use native.Mathlib.Omega.{arith}
 use Rattle.inspect.specs.Decimal.{number}

@@ -1,12 +1,8 @@
 -- `inspect::decimal::times` meets its contract: digit after digit, with the carry that is left. Assumes nothing.
-use Prim.Native.Nat.{◌+◌, ◌*◌, ◌<◌}
 use mathlib.Core.Path.{◌∙◌, sym}
-use lib.ListN.{get_or}
 use native.Mathlib.Omega.{arith}
 use Rattle.inspect.proofs.Digits.{none, little, turn, done}
 use Rattle.inspect.proofs.decimal.times.Goals as goal
-use Rattle.inspect.proofs.decimal.times.Lts as lts
-use Rattle.inspect.proofs.decimal.times.Reads as reads
 
 pub loop-digit-init : goal.loop-digit-init
 loop-digit-init c = none _ _ _ c.requires.0 c.requires.2

@@ -11,19 +11,19 @@ use Rattle.inspect.proofs.difference.record_difference.Reads as reads
 use Rattle.inspect.proofs.difference.record_difference.Tie as tie
 
 -- past the first test, the kinds are the same
-same : (c : lts.Else1 tie.the-claims reads.Pre reads.Post) → let a = c.args in eqb (kind_of a.a.pass) (kind_of a.b.pass) ≡ true
+same : (c : lts.Else1 tie.the-claims reads.Pre reads.Post) → let a = c.args in eqb (kind_of a.a.now.pass) (kind_of a.b.now.pass) ≡ true
 same c = eq-eqb _ _ (sym c.kind_of.ensures ∙ c.if-kind_of.false ∙ c.kind_of-2.ensures)
 
 pub returns-then-kind_of : goal.returns-then-kind_of
 unfolding record_difference
 returns-then-kind_of c = simp (ne_eqb _ _ (λ e. c.if-kind_of.true (c.kind_of.ensures ∙ e ∙ sym c.kind_of-2.ensures)))
 
-pub returns-then-on-other : goal.returns-then-on-other
+pub returns-then-a-b : goal.returns-then-a-b
 unfolding record_difference
-returns-then-on-other c = let a = c.args in
-    simp (same c.before, not-true (same_switch a.a.on a.b.on) c.if-on-other.true)
+returns-then-a-b c = let a = c.args in
+    simp (same c.before, not-true (same_switch a.a.now.on a.b.now.on) c.if-a-b.true)
 
-pub returns : goal.returns
+pub returns-else-a-b : goal.returns-else-a-b
 unfolding record_difference
-returns c = let a = c.args in
-    simp (same c.before.before, not-false (same_switch a.a.on a.b.on) c.if-on-other.false) c.settings_difference.ensures
+returns-else-a-b c = let a = c.args in
+    simp (same c.before.before.before.before, not-false (same_switch a.a.now.on a.b.now.on) c.if-a-b.false) c.settings_difference.ensures

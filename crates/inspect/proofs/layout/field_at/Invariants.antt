@@ -1,5 +1,4 @@
 -- `inspect::layout::field_at` meets its contract: record by record, until one holds the bit. Assumes nothing.
-use Prim.Native.Nat.{◌-◌}
 use Rattle.inspect.proofs.Walking.{Walked}
 use Rattle.inspect.proofs.layout.field_at.Given as goal
 
