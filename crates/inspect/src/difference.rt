@@ -50,9 +50,10 @@ fn settings_difference(i: usize, p: Pass, q: Pass) -> Option<Difference>
 fn record_difference(i: usize, a: &Record, b: &Record) -> Option<Difference>
     ensures { result ≡ record_difference i a.now b.now }
 {
+    let switched = a.on != b.on;
     if kind_of(a.pass) != kind_of(b.pass) {
         Some(Difference::Kind(i))
-    } else if a.on != b.on {
+    } else if switched {
         Some(Difference::Switch(i))
     } else {
         settings_difference(i, a.pass, b.pass)
