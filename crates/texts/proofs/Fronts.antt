@@ -37,9 +37,9 @@ module _ {such : ℕ → Bool} {bytes : List ℕ} {from i : ℕ} (t : Counted su
   unfolding front
   count-stops l e = (sym (t.count ∙ rw (at_front bytes i l, e) (omega arith)), t.within)
 
-  pub count-ends : length bytes ≤ i → (i ≡ from + front such (drop from bytes)) × (i ≤ length bytes)
+  pub count-ends : length bytes ≤ i → (length bytes ≡ from + front such (drop from bytes)) × (length bytes ≤ length bytes)
   unfolding front
-  count-ends l = (sym (t.count ∙ rw (drop_of_length-le bytes l) (omega arith)), t.within)
+  count-ends l = (sym (t.count ∙ rw (drop_of_length-le bytes l) (omega (arith, t.within))), omega arith)
 
 pub count_none : {such : ℕ → Bool} (bytes : List ℕ) (from : ℕ) → from ≤ length bytes → Counted such bytes from from
 count_none bytes from l = record { within = l; count = refl }

@@ -1,12 +1,7 @@
 -- `texts::words::stop` meets its contract: byte after byte. Assumes nothing.
-use Prim.Native.Nat.{◌-◌}
-use lib.ListN.{length}
 use Rattle.texts.specs.Words.{is_letter}
 use Rattle.texts.proofs.Fronts.{Counted}
 use Rattle.texts.proofs.words.stop.Given as goal
 
 abbrev pub invariant-loop-i : goal.invariant-loop-i
 invariant-loop-i l = Counted is_letter l.line l.at l.i
-
-abbrev pub decreases-loop-i : goal.decreases-loop-i
-decreases-loop-i l = length l.line - l.i
