@@ -34,12 +34,11 @@ fn digits_end(word: &[u8], from: usize) -> usize
     requires { from ≤ length word.now }
     ensures { (result ≡ from + front is_digit (drop from word.now)) × (result ≤ length word.now) }
 {
-    for i in from..word.len() {
-        if !is_digit(word[i]) {
-            return i;
-        }
-    }
-    word.len()
+    let rest = &word[from..];
+    from + rest
+        .iter()
+        .position(|b| !is_digit(*b))
+        .unwrap_or(rest.len())
 }
 
 // The number of up to seven digits.

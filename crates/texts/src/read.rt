@@ -112,24 +112,15 @@ fn line_end(text: &[u8], at: usize) -> usize
     requires { at ≤ length text.now }
     ensures { (result ≡ at + front (λ b. not (eqb b 10)) (drop at text.now)) × (result ≤ length text.now) }
 {
-    for i in at..text.len() {
-        if text[i] == b'\n' {
-            return i;
-        }
-    }
-    text.len()
+    let rest = &text[at..];
+    at + rest.iter().position(|b| *b == b'\n').unwrap_or(rest.len())
 }
 
 // How much of a line stands before its comment.
 fn comment(line: &[u8]) -> usize
     ensures { (result ≡ front in_text line.now) × (result ≤ length line.now) }
 {
-    for i in 0..line.len() {
-        if line[i] == b'#' {
-            return i;
-        }
-    }
-    line.len()
+    line.iter().position(|b| *b == b'#').unwrap_or(line.len())
 }
 
 // A line, with its comment, after those that are read.

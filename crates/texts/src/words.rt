@@ -20,12 +20,11 @@ fn skip(line: &[u8], at: usize) -> usize
     requires { at ≤ length line.now }
     ensures { (result ≡ at + front is_blank (drop at line.now)) × (result ≤ length line.now) }
 {
-    for i in at..line.len() {
-        if !is_blank(line[i]) {
-            return i;
-        }
-    }
-    line.len()
+    let rest = &line[at..];
+    at + rest
+        .iter()
+        .position(|b| !is_blank(*b))
+        .unwrap_or(rest.len())
 }
 
 // The first blank from `at` on, or the line's end.
@@ -33,12 +32,8 @@ fn stop(line: &[u8], at: usize) -> usize
     requires { at ≤ length line.now }
     ensures { (result ≡ at + front is_letter (drop at line.now)) × (result ≤ length line.now) }
 {
-    for i in at..line.len() {
-        if is_blank(line[i]) {
-            return i;
-        }
-    }
-    line.len()
+    let rest = &line[at..];
+    at + rest.iter().position(|b| is_blank(*b)).unwrap_or(rest.len())
 }
 
 // The next word from `at` on.
