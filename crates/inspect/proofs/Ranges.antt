@@ -18,10 +18,6 @@ outside low high c n = by (leb low c) (leb c high) refl refl
     by true false a b = rw (a, b)
     by false u a b = rw a
 
--- none of the three ranges
-pub no_digit : (c : ℕ) → (48 ≤ c → c ≤ 57 → ⊥) → (65 ≤ c → c ≤ 70 → ⊥) → (97 ≤ c → c ≤ 102 → ⊥) → 16 ≡ digit_of c
-no_digit c l m n = rw (outside 48 57 c l, outside 65 70 c m, outside 97 102 c n)
-
 -- a decimal digit, and what is none
 pub figure : (c : ℕ) → 48 ≤ c → c ≤ 57 → digit_of c ≡ c - 48
 figure c l m = rw (inside 48 57 c l m)

@@ -1,40 +1,18 @@
 -- Hexadecimal text read token by token. Assumes nothing.
 use Prim.Native.Nat.{ℕ, suc, ◌+◌, ◌*◌, ◌≤◌, ◌<◌}
-use native.Mathlib.Numerals.{add-one}
 use native.Mathlib.Omega.{arith}
 use mathlib.Core.Bool.{Bool, true, false, cond, ◌&&◌}
 use mathlib.Core.List.{List, [], ◌∷◌, ◌++◌, append_assoc, append-nil}
 use mathlib.Core.Path.{◌≡◌, refl, ap, sym, ◌∙◌}
-use borrow.Author.Tests.{eq-eqb, ne_eqb}
 use lib.Dec.{eqb}
 use lib.ListN.{length, drop, get_or, drop_of_length-le, length-append}
 use lib.Seq.{drop-cons, drop-drop}
 use Rattle.std.specs.Prelude.{Option, Some, None, option_map}
 use Rattle.num.specs.Laws.Bools.{false_true}
 use Rattle.inspect.specs.Hexadecimal.{Hex, digit_of, is_digit, space, before, hex_of, is_hex, bytes_of}
-use Rattle.inspect.specs.Private.{pair_of, token_of}
+use Rattle.inspect.specs.Private.{token_of}
 use Rattle.inspect.specs.declared.hexadecimal.Token.{Token}
 use Rattle.inspect.specs.declared.hexadecimal.Token.TheVariants.{Space, Pair}
-
--- ## What stands at a place
-
-spaced : (a : ℕ) (l : List ℕ) → a ≡ space → token_of (a ∷ l) ≡ Some Space
-spaced a [] e = rw (eq-eqb a space e)
-spaced a (b ∷ l) e = rw (eq-eqb a space e)
-
-module _ (text : List ℕ) (at : ℕ) (inside : at < length text) where
-  here : drop at text ≡ get_or text at 0 ∷ drop (suc at) text
-  here = drop-cons text at 0 inside
-
-  pub a_space : get_or text at 0 ≡ space → Some Space ≡ token_of (drop at text)
-  a_space e = sym (ap token_of here ∙ spaced _ (drop (suc at) text) e)
-
-  pub a_last : (get_or text at 0 ≡ space → ⊥) → length text ≤ suc at → None ≡ token_of (drop at text)
-  a_last n end = sym (ap token_of (here ∙ ap (λ (l : List ℕ). get_or text at 0 ∷ l) (drop_of_length-le text end)) ∙ rw (ne_eqb (get_or text at 0) space n))
-
-  pub a_pair : (get_or text at 0 ≡ space → ⊥) → suc at < length text → option_map Pair (pair_of (get_or text at 0) (get_or text (at + 1) 0)) ≡ token_of (drop at text)
-  a_pair n more =
-      rw add-one (sym (ap token_of (here ∙ ap (λ (l : List ℕ). get_or text at 0 ∷ l) (drop-cons text (suc at) 0 more)) ∙ rw (ne_eqb (get_or text at 0) space n)))
 
 -- ## What a token tells of the text
 

@@ -5,7 +5,7 @@ use mathlib.Core.List.{List, [], ◌∷◌}
 use mathlib.Core.Path.{◌≡◌, refl, sym, ap, ◌∙◌}
 use native.Mathlib.Numerals.{add-one, one-add}
 use native.Mathlib.Omega.{arith}
-use borrow.Author.Tests.{not-true, not-false, ltb-false}
+use borrow.Author.Tests.{ltb-false}
 use lib.ListN.{length, get_or, take, drop, length-drop}
 use lib.Dec.{ltb}
 use lib.Seq.{drop-cons, take_all}
@@ -15,16 +15,6 @@ use Rattle.texts.specs.Words.{front}
 
 pub at_front : (bytes : List ℕ) (i : ℕ) → i < length bytes → drop i bytes ≡ get_or bytes i 0 ∷ drop (i + 1) bytes
 at_front bytes i l = drop-cons bytes i 0 l ∙ ap (λ (k : ℕ). get_or bytes i 0 ∷ drop k bytes) (sym (add-one i))
-
--- the code's answer to a test, and the branch by it
-pub yes : {r a : Bool} → r ≡ a → not r ≡ false → a ≡ true
-yes {r} e h = sym e ∙ not-false r h
-
-pub no : {r a : Bool} → r ≡ a → not r ≡ true → a ≡ false
-no {r} e h = sym e ∙ not-true r h
-
-pub yet : {r a b : Bool} → r ≡ a → r ≡ b → not a ≡ not b
-yet e h = ap not (sym e ∙ h)
 
 front-le : (such : ℕ → Bool) (bytes : List ℕ) → front such bytes ≤ length bytes
 unfolding front

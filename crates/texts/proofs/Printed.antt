@@ -1,15 +1,13 @@
 -- What the texts are, case by case, and how long they can be. Assumes nothing.
 use Prim.Native.Nat.{ℕ, zero, suc, ◌+◌, ◌-◌, ◌/◌, ◌%◌, ◌≤◌, ◌<◌}
-use mathlib.Core.Bool.{Bool, true, false, cond, ◌&&◌}
+use mathlib.Core.Bool.{Bool, true, false, cond}
 use mathlib.Core.List.{List, [], ◌∷◌, ◌++◌}
 use mathlib.Core.Path.{◌≡◌, refl, ap, ap₂, ◌∙◌}
 use native.Mathlib.Nat.{not-suc-le-zero}
 use native.Mathlib.Numerals.{add-one}
 use native.Mathlib.Omega.{arith}
 use borrow.Author.Tests.{eq-eqb, ne_eqb, lt-ltb, le-ltb}
-use lib.Dec.{T, leb, leb→le}
 use lib.Ieee.{Float}
-use lib.Ieee.Fits.{and_l, and_r}
 use lib.ListN.{length, get_or, take, drop, drop_of_length-le}
 use lib.Seq.{drop-cons, take-append_seam}
 use Rattle.cards.specs.Alike.{chain_of}
@@ -22,7 +20,7 @@ use Rattle.inspect.specs.Decimal.{digits_of, point_of}
 use Rattle.inspect.specs.declared.decimal.Point.{Point}
 use Rattle.inspect.specs.declared.settings.Setting.{Setting}
 use Rattle.inspect.specs.declared.settings.Setting.TheVariants.{Real, Whole}
-use Rattle.texts.specs.Names.{Name, kind_names, kind_name, preset_names, preset_name, setting_names, setting_name}
+use Rattle.texts.specs.Names.{kind_name}
 use Rattle.std.specs.Prelude.{Option, Some, None, Ok, Err}
 use Rattle.num.specs.declared.refusal.Refusal.TheVariants.{BadStation, ShortCardBuffer}
 use Rattle.texts.specs.Print.{digit, down, pointed, sign_text, real_text, whole_text, count_text, value_text, label_text, setting_text, settings_text, switch_text}
@@ -81,36 +79,6 @@ first b xs ys e = rw e refl
 
 pub second : (b : Bool) (xs ys : List ℕ) → b ≡ false → ys ≡ cond b xs ys
 second b xs ys e = rw e refl
-
--- ## Names
-
--- none has more than n letters
-abbrev short : ℕ → List Name → Bool
-short n [] = true
-short n (name ∷ names) = leb (length name) n && short n names
-
-short_name : (n : ℕ) (names : List Name) → T (short n names) → (k : ℕ) → length (get_or names k []) ≤ n
-short_name n [] t k = omega arith
-short_name n (name ∷ names) t zero = leb→le (length name) n (and_l (leb (length name) n) (short n names) t)
-short_name n (name ∷ names) t (suc k) = short_name n names (and_r (leb (length name) n) (short n names) t) k
-
-abbrev shorts : ℕ → List (List Name) → Bool
-shorts n [] = true
-shorts n (names ∷ tables) = short n names && shorts n tables
-
-short-table : (n : ℕ) (tables : List (List Name)) → T (shorts n tables) → (k j : ℕ) → length (get_or (get_or tables k []) j []) ≤ n
-short-table n [] t k j = omega arith
-short-table n (names ∷ tables) t zero j = short_name n names (and_l (short n names) (shorts n tables) t) j
-short-table n (names ∷ tables) t (suc k) j = short-table n tables (and_r (short n names) (shorts n tables) t) k j
-
-pub kind_short : (k : ℕ) → length (kind_name k) ≤ 11
-kind_short k = short_name 11 kind_names tt k
-
-pub preset-short : (p : ℕ) → length (preset_name p) ≤ 13
-preset-short p = short_name 13 preset_names tt p
-
-pub setting_short : (k j : ℕ) → length (setting_name k j) ≤ 10
-setting_short k j = short-table 10 setting_names tt k j
 
 -- ## Values: an arm of the `match`
 

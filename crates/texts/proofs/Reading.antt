@@ -92,10 +92,6 @@ first-line [] l = absurd (omega (arith, l))
 first-line (b ∷ []) l = opened b [] (eqb b 10) refl
 first-line (b ∷ a ∷ bs) l = opened b (a ∷ bs) (eqb b 10) (ap (before b) (first-line (a ∷ bs) (omega arith)))
 
--- a count from place 0 on
-pub from_none : {i n k : ℕ} → (i ≡ 0 + n) × (i ≤ k) → (i ≡ n) × (i ≤ k)
-from_none e = (omega (arith, e.0), e.1)
-
 pub before_comment : (d : Draft) (line : List ℕ) (n : ℕ) → n ≡ front in_text line → with_line d (line_of (take n line)) ≡ with_line d (line_of (uncommented line))
 unfolding uncommented
 before_comment d line n e = ap (λ (k : ℕ). with_line d (line_of (take k line))) e

@@ -1,30 +1,19 @@
 -- The places of a number's word, and what its being a number says of them. Assumes nothing.
-use Prim.Native.Nat.{ℕ, zero, suc, ◌+◌, ◌-◌, ◌^◌, ◌≤◌}
+use Prim.Native.Nat.{ℕ, ◌+◌, ◌-◌, ◌^◌, ◌≤◌}
 use mathlib.Core.Bool.{Bool, true, false, ◌&&◌}
-use mathlib.Core.List.{List, [], ◌∷◌, ◌++◌}
+use mathlib.Core.List.{List, ◌++◌}
 use mathlib.Core.Path.{◌≡◌, refl, sym, ap, ◌∙◌}
 use native.Mathlib.Omega.{arith}
 use borrow.Author.Tests.{leb-true, eqb-true}
 use lib.Dec.{eqb, leb, ltb}
 use lib.Ieee.{Float, binary32, round}
-use lib.ListN.{length, get_or, drop, length-drop}
+use lib.ListN.{length, drop, length-drop}
 use lib.Seq.{length-take-le}
 use Rattle.std.specs.Prelude.{Some, None}
-use Rattle.num.specs.Laws.Bools.{both, false_true}
-use Rattle.texts.specs.Numbers.{is_digit, is_sign, worth, is_minus, start_of, behind_of, shape_of, is_number, is_plain, between, decimal_of, Ordered}
+use Rattle.num.specs.Laws.Bools.{both}
+use Rattle.texts.specs.Numbers.{is_digit, worth, is_minus, start_of, behind_of, shape_of, is_number, is_plain, between, decimal_of, Ordered}
 use Rattle.texts.specs.Words.{front}
 use Rattle.texts.specs.declared.numbers.Shape.{Shape}
-
--- a sign is a byte of the word
-pub signed : (word : List ℕ) → is_sign (get_or word 0 0) ≡ true → 1 ≤ length word
-signed [] e = false_true e
-signed (b ∷ word) e = omega arith
-
--- and so is a point
-pub pointed : (word : List ℕ) (point : ℕ) → get_or word point 0 ≡ 46 → point + 1 ≤ length word
-pointed [] point e = absurd (omega (arith, e))
-pointed (b ∷ word) zero e = omega arith
-pointed (b ∷ word) (suc point) e = omega (arith, pointed word point e)
 
 pub shaped : (word : List ℕ) (start point behind end : ℕ)
     → (start ≡ start_of word) × (start ≤ length word)

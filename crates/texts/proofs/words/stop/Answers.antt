@@ -1,5 +1,5 @@
 -- `texts::words::stop` meets its contract. Assumes nothing.
-use Rattle.std.proofs.Common.{rules, tests, ℕ, ◌-◌, not, length, take, drop, refl, sym, eqb}
+use Rattle.std.proofs.Common.{rules, tests, ℕ, ◌-◌, length, take, drop, refl}
 use Rattle.std.proofs.lemmas.Iterator.{YieldsList-from_slice}
 use Rattle.std.proofs.lemmas.Iterator.Search.{position_from_yields_List}
 use Rattle.texts.specs.Words.{is_blank, is_letter}
