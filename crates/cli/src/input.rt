@@ -6,7 +6,7 @@ ghost use Rattle.io.specs.Counts.{IsPrefixLen};
 use super::stream::STDERR_FILENO;
 use super::{reason, says, words};
 use inspect::hexadecimal;
-use inspect::hexadecimal::Decoded;
+use inspect::hexadecimal::DecodeError;
 use std::env::FillError;
 use std::fs::File;
 use std::io::{Error, ErrorKind, Read};
@@ -189,20 +189,19 @@ pub fn curve(rt: HostRuntime, i: usize) -> Option<[f32; 256]> {
 fn card_of(rt: HostRuntime, name: &[u8], out: &mut [u8; 4096]) -> Loaded
     ensures { IsPrefixLen result.length out.new }
 {
-    let decoded = hexadecimal::decode(name, out);
-    match decoded {
-        Decoded::Bytes(length) => Loaded {
+    match hexadecimal::decode(name, out) {
+        Ok(length) => Loaded {
             ok: true,
             length,
             more: false,
         },
-        Decoded::Text => file(
+        Err(DecodeError::NotHexadecimal) => file(
             rt,
             name,
             b": neither hexadecimal (two digits for each byte) nor a file that can be read",
             out,
         ),
-        Decoded::Long => {
+        Err(DecodeError::NoRoom) => {
             io::write_all(STDERR_FILENO, name);
             io::write_all(STDERR_FILENO, b": too long for a card\n");
             failed()
