@@ -18,6 +18,10 @@ pub some_more : (n : ℕ) (p : ℕ → Bool) → some (n + 1) p ≡ some n p || 
 unfolding some
 some_more n p = ap (λ (k : ℕ). some k p) (add-one n)
 
+-- nor does p hold of one number more
+pub none_more : (n : ℕ) (p : ℕ → Bool) → some n p ≡ false → p n ≡ false → some (n + 1) p ≡ false
+none_more n p e h = some_more n p ∙ rw (e, h) refl
+
 pub some_at : (n : ℕ) (p : ℕ → Bool) (k : ℕ) → k < n → p k ≡ true → some n p ≡ true
 unfolding some
 some_at zero p k l e = absurd (not-suc-le-zero l)

@@ -1,12 +1,11 @@
 -- The red, green and blue totals of rectangles of a picture, the number of words that they hold, and what is refused.
 -- Assumes nothing.
-use Rattle.std.specs.Prelude.{ℕ, zero, suc, ◌+◌, ◌*◌, ◌/◌, ◌%◌, Bool, false, not, ◌&&◌, ◌||◌, cond, List, leb, ltb, eqb, length, get_or}
-use Rattle.num.specs.Refusals.{bad_side, unless}
+use Rattle.std.specs.Prelude.{ℕ, zero, suc, ◌+◌, ◌*◌, ◌/◌, ◌%◌, Bool, false, not, ◌&&◌, ◌||◌, cond, List, leb, ltb, eqb, length, get_or, Result, Ok, Err}
+use Rattle.num.specs.Refusals.{bad_side, unless, number_of}
 use Rattle.num.specs.Rewrite.{rewrite}
 unfoldable pub use Rattle.num.specs.Sums.{sum}
 use Rattle.areas.specs.declared.area.Area.{Area}
-use Rattle.areas.specs.declared.Answer.{Answer}
-use Rattle.areas.specs.declared.Answer.TheVariants.{Read, Refused}
+use Rattle.num.specs.declared.refusal.Refusal.{Refusal}
 
 -- whether p holds of a number below n
 unfoldable pub some : ℕ → (ℕ → Bool) → Bool
@@ -73,6 +72,16 @@ refusal_of size w h areas room =
     cond (bad_side w || bad_side h) 8
     (cond (ltb size (h * w)) 9
     (cond (bad_list w h areas room) 19 0))
+
+-- the number of words read, or a refusal's number
+pub data Answer : Type 0 where
+  Read : ℕ → Answer
+  Refused : ℕ → Answer
+
+-- what the code answers, so
+abbrev pub answered : Result ℕ Refusal → Answer
+answered (Ok n) = Read n
+answered (Err k) = Refused (number_of k)
 
 -- the answer, and the result as it is left
 unfoldable pub judged : List ℕ → ℕ → ℕ → List ℕ → List ℕ → Answer × List ℕ

@@ -4,9 +4,7 @@ use Rattle.std.specs.Prelude.{ℕ, List, [], ◌∷◌, ◌++◌, refl, replicat
 use Rattle.num.specs.Cases.{Hold}
 use Rattle.num.specs.Refusals.{bad_side, unless}
 use Rattle.num.specs.Rewrite.{rewrite}
-use Rattle.areas.specs.Areas.{sum, some, holds, channel, total, words, totals_of, bad_area, bad_areas, bad_list, refusal_of, judged}
-use Rattle.areas.specs.declared.Answer.{Answer}
-use Rattle.areas.specs.declared.Answer.TheVariants.{Read, Refused}
+use Rattle.areas.specs.Areas.{sum, some, holds, channel, total, words, totals_of, bad_area, bad_areas, bad_list, refusal_of, Answer, Read, Refused, judged}
 
 -- two rows of three words; the top byte of a word is no channel
 abbrev picture : List ℕ

@@ -1,5 +1,5 @@
 // A rectangle of the list, and the places of a row that it has.
-ghost use Rattle.std.specs.Prelude.{◌≡◌, ◌+◌, ◌*◌, ◌<◌, ◌≤◌, min, max, length, get_or};
+ghost use Rattle.std.specs.Prelude.{◌≡◌, ◌+◌, ◌*◌, ◌<◌, ◌≤◌, length, get_or};
 ghost use Rattle.areas.specs.Areas.{area_at};
 ghost use Rattle.areas.specs.Private.{Listed, in_row, Inside, part_of};
 
@@ -15,7 +15,7 @@ fn field(areas: &[u16], i: usize) -> usize
     requires { i < length areas.now }
     ensures { (result ≡ get_or areas.now i 0) × (result ≤ 65535) }
 {
-    areas[i] as usize
+    usize::from(areas[i])
 }
 
 // Rectangle k.
@@ -24,30 +24,24 @@ pub(crate) fn area_at(areas: &[u16], k: usize) -> Area
     ensures { Listed (area_at areas.now k) result }
 {
     let i = 4 * k;
-    let left = field(areas, i);
-    let top = field(areas, i + 1);
-    let wide = field(areas, i + 2);
-    let high = field(areas, i + 3);
     Area {
-        left,
-        top,
-        wide,
-        high,
+        left: field(areas, i),
+        top: field(areas, i + 1),
+        wide: field(areas, i + 2),
+        high: field(areas, i + 3),
     }
 }
 
 // Whether the rectangle has row y.
+#[tactic(auto, unfolding(crate::specs::Private::in_row))]
 pub(crate) fn in_row(a: Area, y: usize) -> bool
     requires { a.top + a.high ≤ 1024 }
     ensures { result ≡ in_row a y }
 {
-    if y < a.top {
-        return false;
-    }
-    y < a.top + a.high
+    a.top <= y && y < a.top + a.high
 }
 
-// Places of a row, from one up to another.
+// Places of a row, from one up to another. Not a `Range<usize>`: several calls take one part, and a range is no `Copy`.
 #[derive(Clone, Copy)]
 pub(crate) struct Part {
     pub(crate) from: usize,
@@ -55,27 +49,17 @@ pub(crate) struct Part {
 }
 
 // Those that the rectangle has of row y: from 0 to 0 if it has not the row.
+#[tactic(auto, unfolding(crate::specs::Private::part_of))]
 pub(crate) fn part_of(a: Area, y: usize) -> Part
     requires { Inside 1024 1024 a }
     ensures { result ≡ part_of a y }
 {
-    if !in_row(a, y) {
-        return Part { from: 0, to: 0 };
+    if in_row(a, y) {
+        Part {
+            from: a.left,
+            to: a.left + a.wide,
+        }
+    } else {
+        Part { from: 0, to: 0 }
     }
-    Part {
-        from: a.left,
-        to: a.left + a.wide,
-    }
-}
-
-pub(crate) fn smaller(a: usize, b: usize) -> usize
-    ensures { result ≡ min a b }
-{
-    if a < b { a } else { b }
-}
-
-pub(crate) fn larger(a: usize, b: usize) -> usize
-    ensures { result ≡ max a b }
-{
-    if a < b { b } else { a }
 }

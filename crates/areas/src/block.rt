@@ -28,14 +28,10 @@ fn read(picture: &[u32], row: usize, from: usize, to: usize, columns: &mut [u64]
     requires { Readable picture.now row from to columns.old }
     ensures { WithRow picture.now row from to columns.old columns.new result }
 {
-    let mut words: u32 = 0;
-    let mut x = from;
-    while x < to {
-        columns[x] = columns[x] + spread(picture[row + x]);
-        words += 1;
-        x += 1;
+    for x in from..to {
+        columns[x] += spread(picture[row + x]);
     }
-    words
+    (to - from) as u32
 }
 
 // The sums of the columns from `from` to `to` over the band's rows, and how many words that were.
@@ -43,16 +39,10 @@ fn add_up(picture: &[u32], b: Band, from: usize, to: usize, columns: &mut [u64])
     requires { (InPicture picture.now b from to) × (length columns.old ≡ 1024) }
     ensures { Columns picture.now b from to columns.old columns.new result }
 {
-    let rows = b.rows;
-    let width = b.width;
     clear(columns, from, to);
     let mut words: u32 = 0;
-    let mut row = b.y * width;
-    let mut j = 0;
-    while j < rows {
-        words += read(picture, row, from, to, columns);
-        row += width;
-        j += 1;
+    for j in 0..b.rows {
+        words += read(picture, (b.y + j) * b.width, from, to, columns);
     }
     words
 }
@@ -78,23 +68,21 @@ pub(crate) fn running(columns: &[u64], from: usize, to: usize, sums: &mut [u64])
     requires { (from ≤ to) × (to ≤ 1024) × (length columns.now ≡ 1024) × (length sums.old ≡ 3075) }
     ensures { Line 3075 (3 * from) (3 * to + 3) (running_at columns.now from) sums.new }
 {
-    let mut i = 3 * from;
+    let i = 3 * from;
     sums[i] = 0;
     sums[i + 1] = 0;
     sums[i + 2] = 0;
     let mut red: u64 = 0;
     let mut green: u64 = 0;
     let mut blue: u64 = 0;
-    let mut t = from;
-    while t < to {
+    for t in from..to {
         let column = columns[t];
         red += column / 4398046511104;
         green += column / 2097152 % 2097152;
         blue += column % 2097152;
-        i += 3;
+        let i = 3 * t + 3;
         sums[i] = red;
         sums[i + 1] = green;
         sums[i + 2] = blue;
-        t += 1;
     }
 }

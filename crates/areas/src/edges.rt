@@ -3,7 +3,7 @@ ghost use Rattle.std.specs.Prelude.{◌≡◌, cond, ◌+◌, ◌<◌, ◌≤◌
 ghost use Rattle.areas.specs.Areas.{count, held};
 ghost use Rattle.areas.specs.Private.{Placed, Edge, Edges, Spans};
 
-use super::area::{Area, Part, area_at, larger, part_of, smaller};
+use super::area::{Area, Part, area_at, part_of};
 
 // The first row after y where the rectangle begins or ends; `last` where there is none.
 fn edge(a: Area, y: usize, last: usize) -> usize
@@ -11,25 +11,23 @@ fn edge(a: Area, y: usize, last: usize) -> usize
     ensures { Edge a y result }
 {
     if y < a.top {
-        return a.top;
+        a.top
+    } else if y < a.top + a.high {
+        a.top + a.high
+    } else {
+        last
     }
-    if y < a.top + a.high {
-        return a.top + a.high;
-    }
-    last
 }
 
 // The first row after y where one of the rectangles does; else the height.
+#[tactic(auto, using(crate::proofs::Search::no_edges, crate::proofs::Search::next_edge, crate::proofs::Search::placed_at))]
 pub(crate) fn band_end(areas: &[u16], y: usize, height: usize) -> usize
     requires { (Placed 1024 1024 areas.now) × (y < height) }
     ensures { Edges areas.now (count areas.now) y height result }
 {
-    let n = areas.len() / 4;
     let mut end = height;
-    let mut k = 0;
-    while k < n {
-        end = smaller(end, edge(area_at(areas, k), y, height));
-        k += 1;
+    for k in 0..areas.len() / 4 {
+        end = end.min(edge(area_at(areas, k), y, height));
     }
     end
 }
@@ -38,29 +36,24 @@ pub(crate) fn band_end(areas: &[u16], y: usize, height: usize) -> usize
 fn begin(p: Part, last: usize) -> usize
     ensures { result ≡ cond (ltb p.from p.to) p.from last }
 {
-    if p.from < p.to {
-        return p.from;
-    }
-    last
+    if p.from < p.to { p.from } else { last }
 }
 
 // From the first place of row y that a rectangle holds to where the last of its rectangles ends. Empty where none is held.
+#[tactic(auto, using(crate::proofs::Search::no_span, crate::proofs::Search::placed_at, crate::proofs::Search::placed_in))]
 pub(crate) fn span(areas: &[u16], y: usize, width: usize) -> Part
     requires { (Placed width 1024 areas.now) × (width ≤ 1024) }
     ensures { Spans (λ z. held areas.now z y) width result }
 {
-    let n = areas.len() / 4;
     let mut from = width;
-    let mut to = 0;
-    let mut k = 0;
-    while k < n {
+    let mut to: usize = 0;
+    for k in 0..areas.len() / 4 {
         let p = part_of(area_at(areas, k), y);
-        from = smaller(from, begin(p, width));
-        to = larger(to, p.to);
-        k += 1;
+        from = from.min(begin(p, width));
+        to = to.max(p.to);
     }
     Part {
-        from: smaller(from, to),
+        from: from.min(to),
         to,
     }
 }

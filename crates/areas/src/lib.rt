@@ -4,7 +4,7 @@
 #![tactic(auto)]
 
 ghost use Rattle.std.specs.Prelude.{◌≡◌};
-ghost use Rattle.areas.specs.Areas.{judged};
+ghost use Rattle.areas.specs.Areas.{answered, judged};
 
 mod area; // a rectangle of the list
 mod refusal; // what is refused
@@ -15,27 +15,20 @@ mod block; // the words of a band that are held: each is read once, at one place
 mod share; // what a band gives to each rectangle
 mod walk; // band after band
 
-// The number of words read, or a refusal's number.
-#[derive(Clone, Copy)]
-pub enum Answer {
-    Read(u32),
-    Refused(u8),
-}
+use num::refusal::Refusal;
 
-// Three totals for each rectangle of `areas` go to the front of `result`; the rest of it stays, and all of it where the
-// call is refused.
+// The number of words read. Three totals for each rectangle of `areas` go to the front of `res`; the rest of it stays, and all of
+// it where the call is refused.
+#[tactic(auto, unfolding(crate::specs::Areas::judged, num::specs::Refusals::unless))]
 pub fn totals(
     picture: &[u32],
     width: usize,
     height: usize,
     areas: &[u16],
     res: &mut [u64],
-) -> Answer
-    ensures { (result, res.new) ≡ judged picture.now width height areas.now res.old }
+) -> Result<u32, Refusal>
+    ensures { (answered result, res.new) ≡ judged picture.now width height areas.now res.old }
 {
-    let code = refusal::refusal(picture.len(), width, height, areas, res.len());
-    if code != 0 {
-        return Answer::Refused(code);
-    }
-    Answer::Read(walk::walk(picture, width, height, areas, res))
+    refusal::refusal(picture.len(), width, height, areas, res.len())?;
+    Ok(walk::walk(picture, width, height, areas, res))
 }

@@ -3,16 +3,10 @@
 ghost use Rattle.std.specs.Prelude.{◌≡◌, ◌≤◌, length};
 ghost use Rattle.areas.specs.Private.{Changed};
 
-pub(crate) fn place_line() -> [u64; 1024]
-    ensures { length result ≡ 1024 }
+pub(crate) fn line<const N: usize>() -> [u64; N]
+    ensures { length result ≡ N }
 {
-    [0u64; 1024]
-}
-
-pub(crate) fn sum_line() -> [u64; 3075]
-    ensures { length result ≡ 3075 }
-{
-    [0u64; 3075]
+    [0; N]
 }
 
 // The words from `from` to `to` are 0.
@@ -20,9 +14,5 @@ pub(crate) fn clear(line: &mut [u64], from: usize, to: usize)
     requires { (from ≤ to) × (to ≤ length line.old) }
     ensures { Changed from to (λ x v. 0) line.old line.new }
 {
-    let mut x = from;
-    while x < to {
-        line[x] = 0;
-        x += 1;
-    }
+    line[from..to].fill(0);
 }

@@ -4,7 +4,7 @@ ghost use Rattle.std.specs.Prelude.{◌≡◌, ◌≤◌, length};
 ghost use Rattle.areas.specs.Areas.{count, held};
 ghost use Rattle.areas.specs.Private.{Placed, Spans, Changed, most_from, Marked, Marks, Reaches, marked, First};
 
-use super::area::{Part, area_at, larger, part_of};
+use super::area::{Part, area_at, part_of};
 use super::lines::clear;
 
 // A mark is a place.
@@ -21,7 +21,7 @@ fn mark(p: Part, ends: &mut [u64])
 {
     let from = p.from;
     if from < p.to {
-        ends[from] = larger(place(ends[from]), p.to) as u64;
+        ends[from] = place(ends[from]).max(p.to) as u64;
     }
 }
 
@@ -30,11 +30,8 @@ fn mark_each(areas: &[u16], y: usize, ends: &mut [u64])
     requires { (Placed 1024 1024 areas.now) × (length ends.old ≡ 1024) }
     ensures { Marks areas.now (count areas.now) y ends.old ends.new }
 {
-    let n = areas.len() / 4;
-    let mut k = 0;
-    while k < n {
+    for k in 0..areas.len() / 4 {
         mark(part_of(area_at(areas, k), y), ends);
-        k += 1;
     }
 }
 
@@ -43,12 +40,10 @@ fn reach(ends: &mut [u64], from: usize, to: usize)
     requires { (from ≤ to) × (to ≤ length ends.old) }
     ensures { Changed from to (λ x v. most_from from ends.old x) ends.old ends.new }
 {
-    let mut far = 0;
-    let mut x = from;
-    while x < to {
-        far = larger(far, place(ends[x]));
+    let mut far: usize = 0;
+    for x in from..to {
+        far = far.max(place(ends[x]));
         ends[x] = far as u64;
-        x += 1;
     }
 }
 
@@ -67,13 +62,10 @@ pub(crate) fn run_start(ends: &[u64], x: usize, to: usize) -> usize
     requires { (x ≤ to) × (to ≤ length ends.now) }
     ensures { First (marked ends.now) x to result }
 {
-    let mut s = x;
-    while s < to {
-        let end = place(ends[s]);
-        if s < end {
+    for s in x..to {
+        if s < place(ends[s]) {
             return s;
         }
-        s += 1;
     }
     to
 }

@@ -3,7 +3,7 @@ ghost use Rattle.areas.specs.Private.{Ready, Lent, Banded, Framed, Walked};
 
 use super::block::{Band, add_runs, running};
 use super::edges::{band_end, span};
-use super::lines::{clear, place_line, sum_line};
+use super::lines::{clear, line};
 use super::marks::marks;
 use super::share::share;
 
@@ -40,9 +40,9 @@ pub(crate) fn walk(
     ensures { Walked picture.now width height areas.now res.old result res.new }
 {
     clear(res, 0, areas.len() / 4 * 3);
-    let mut ends = place_line();
-    let mut columns = place_line();
-    let mut sums = sum_line();
+    let mut ends = line::<1024>();
+    let mut columns = line::<1024>();
+    let mut sums = line::<3075>();
     let mut words: u32 = 0;
     let mut y = 0;
     while y < height {

@@ -1,7 +1,6 @@
 -- What the export of `areas` answers and leaves: 0, or 256 and the refusal's number; how many words were read; the totals. Assumes nothing.
 use Rattle.std.specs.Prelude.{ℕ, ◌+◌, List, [], ◌∷◌}
-use Rattle.areas.specs.declared.Answer.{Answer}
-use Rattle.areas.specs.declared.Answer.TheVariants.{Read, Refused}
+use Rattle.areas.specs.Areas.{Answer, Read, Refused}
 
 abbrev pub judged_number : Answer → ℕ
 judged_number (Read n) = 0

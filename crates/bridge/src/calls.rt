@@ -377,12 +377,11 @@ pub extern "C" fn hedgemallow_areas(
     ensures { (result, (read.new, res.new))
         ≡ judged_told read.old (judged picture.now width height areas.now res.old) }
 {
-    let answer = areas::totals(picture, width, height, areas, res);
-    match answer {
-        areas::Answer::Read(n) => {
+    match areas::totals(picture, width, height, areas, res) {
+        Ok(n) => {
             *read = [n];
             0
         }
-        areas::Answer::Refused(k) => refusal(k),
+        Err(k) => refusal(k.number()),
     }
 }

@@ -4,7 +4,7 @@ ghost use Rattle.std.specs.Prelude.{◌≤◌};
 use crate::names::text;
 use crate::{names, numbers, show};
 use cards::reader;
-use cards::station::{Answer, Pass, Record, Station, kind_of};
+use cards::station::{Answer, Pass, Record, Station, few, kind_of};
 use cli::names as called;
 use cli::output::end;
 use cli::stream::STDOUT_FILENO;
@@ -14,18 +14,22 @@ use std::io::Error;
 
 // The record at place i.
 fn record(station: Station, i: usize) -> Record {
-    let records = station.records;
-    if i < 12 { records[i] } else { records[11] }
+    if i < 12 {
+        station.records[i]
+    } else {
+        station.records[11]
+    }
 }
 
 fn kind(r: Record) -> u8 {
-    let pass = r.pass;
-    kind_of(pass)
+    kind_of(r.pass)
 }
 
 fn setting(r: Record, j: usize) {
-    let pass = r.pass;
-    show::value(kind_of(pass), setting_at(pass, j));
+    match setting_at(r.pass, j) {
+        Some(s) => show::value(kind(r), s),
+        None => text(b"none"),
+    }
 }
 
 // Place i, counted from 1.
@@ -85,27 +89,21 @@ fn settings(rt: HostRuntime, i: usize, j: usize, a: Station, b: Station) -> Resu
     end(rt, b"\n")
 }
 
-// The depth of the pass at place i, where it is persistence that is on.
-fn depth_at(station: Station, i: usize) -> usize
+// The depth of a pass that is persistence and on.
+fn depth(r: &Record) -> usize
     ensures { result ≤ 255 }
 {
-    let r = record(station, i);
-    let pass = r.pass;
-    if i < station.n && r.on {
-        if let Pass::Persistence { amount: _, depth } = pass {
-            return depth as usize;
-        }
+    match r.pass {
+        Pass::Persistence { depth, .. } if r.on => depth as usize,
+        _ => 0,
     }
-    0
 }
 
 // How many older frames a picture depends on: the depths of the persistence passes that are on, added up.
 fn mixed(station: Station) -> usize {
-    let mut depths: usize = 0;
-    let mut i: usize = 0;
-    while i < 12 {
-        depths += depth_at(station, i);
-        i += 1;
+    let mut depths = 0;
+    for r in &station.records[..few(station.n)] {
+        depths += depth(r);
     }
     depths
 }
@@ -113,23 +111,10 @@ fn mixed(station: Station) -> usize {
 // Whether a picture depends on the curve that is lent with its frame: colour is in the chain with a gamma other than 1. (Where it is off, the curve decides
 // a refusal still.)
 fn is_curved(station: Station) -> bool {
-    let n = station.n;
-    let mut i: usize = 0;
-    while i < 12 {
-        let r = record(station, i);
-        let pass = r.pass;
-        if i < n {
-            if let Pass::ColorCorrection {
-                brightness: _,
-                contrast: _,
-                saturation: _,
-                gamma,
-            } = pass
-            {
-                return gamma != 1.0;
-            }
+    for r in &station.records[..few(station.n)] {
+        if let Pass::ColorCorrection { gamma, .. } = r.pass {
+            return gamma != 1.0;
         }
-        i += 1;
     }
     false
 }
@@ -157,11 +142,11 @@ fn alike(rt: HostRuntime, station: Station) -> Result<(), Error> {
 
 fn opened(rt: HostRuntime, a: Station, b: Station) -> Result<(), Error> {
     match first_difference(a, b) {
-        Difference::Alike => alike(rt, a),
-        Difference::Length(i) => length(rt, i, a),
-        Difference::Kind(i) => kinds(rt, i, a, b),
-        Difference::Switch(i) => switches(rt, i, a, b),
-        Difference::Setting(i, j) => settings(rt, i, j, a, b),
+        None => alike(rt, a),
+        Some(Difference::Length(i)) => length(rt, i, a),
+        Some(Difference::Kind(i)) => kinds(rt, i, a, b),
+        Some(Difference::Switch(i)) => switches(rt, i, a, b),
+        Some(Difference::Setting(i, j)) => settings(rt, i, j, a, b),
     }
 }
 

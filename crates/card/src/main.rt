@@ -24,7 +24,7 @@ fn usage() {
 }
 
 // The card at place `at` among the arguments.
-fn one(rt: HostRuntime, at: usize, extent: Extent) {
+fn one(rt: HostRuntime, at: usize, extent: Option<Extent>) {
     let mut card = io::buffer();
     let loaded = input::card(rt, at, &mut card);
     if !loaded.ok {
@@ -35,7 +35,13 @@ fn one(rt: HostRuntime, at: usize, extent: Extent) {
 }
 
 // Both cards, and how they compare.
-fn both(rt: HostRuntime, at: usize, card: &[u8], other: &[u8], extent: Extent) -> Result<(), Error>
+fn both(
+    rt: HostRuntime,
+    at: usize,
+    card: &[u8],
+    other: &[u8],
+    extent: Option<Extent>,
+) -> Result<(), Error>
     requires { at ≤ 3 }
 {
     show::titled(rt, at, card, extent)?;
@@ -43,7 +49,7 @@ fn both(rt: HostRuntime, at: usize, card: &[u8], other: &[u8], extent: Extent) -
     compare::compared(rt, card, other)
 }
 
-fn two(rt: HostRuntime, at: usize, extent: Extent)
+fn two(rt: HostRuntime, at: usize, extent: Option<Extent>)
     requires { at ≤ 3 }
 {
     let mut card = io::buffer();
@@ -72,7 +78,7 @@ fn are_cards(rt: HostRuntime, at: usize, count: usize) -> bool
 }
 
 // The cards from place `at` on.
-fn shown(rt: HostRuntime, at: usize, count: usize, extent: Extent)
+fn shown(rt: HostRuntime, at: usize, count: usize, extent: Option<Extent>)
     requires { at ≤ 3 }
 {
     if count == at + 1 {
@@ -90,15 +96,15 @@ fn is_size(rt: HostRuntime, i: usize) -> bool {
 }
 
 // The size that argument i names; where it names none it is said why.
-fn size(rt: HostRuntime, i: usize) -> Extent {
+fn size(rt: HostRuntime, i: usize) -> Option<Extent> {
     let mut text = io::buffer();
     let given = input::argument(rt, i, &mut text);
     if !given.ok {
-        return Extent::NoSize;
+        return None;
     }
     let n = given.length;
     let extent = extent::parse(&text[..n]);
-    if let Extent::NoSize = extent {
+    if extent.is_none() {
         says::name(rt, STDERR_FILENO, i);
         says::text(b"no size: it is WIDTHxHEIGHT, each from 1 to 1024\n");
     }
@@ -108,7 +114,7 @@ fn size(rt: HostRuntime, i: usize) -> Extent {
 // The cards behind the size.
 fn sized(rt: HostRuntime, count: usize) {
     let extent = size(rt, 2);
-    if let Extent::Sides(_, _) = extent {
+    if extent.is_some() {
         shown(rt, 3, count, extent);
     }
 }
@@ -118,7 +124,7 @@ fn main(rt: HostRuntime) {
     if is_size(rt, 1) && are_cards(rt, 3, count) {
         sized(rt, count);
     } else if are_cards(rt, 1, count) {
-        shown(rt, 1, count, Extent::NoSize);
+        shown(rt, 1, count, None);
     } else {
         usage();
     }

@@ -24,9 +24,7 @@ fn zeros() -> [u8; 150]
 fn digits_down(digits: &[u8], i: usize, last: usize)
     requires { i < length digits.now }
 {
-    let mut at = i + 1;
-    while last < at {
-        at -= 1;
+    for at in (last..=i).rev() {
         byte(digits[at]);
     }
 }
@@ -36,14 +34,12 @@ fn highest(digits: &[u8], least: usize) -> usize
     requires { (length digits.now ≡ 150) × (least ≤ 149) }
     ensures { result ≤ 149 }
 {
-    let mut i: usize = 149;
-    while least < i {
+    for i in (least..150).rev() {
         if digits[i] != 0 {
             return i;
         }
-        i -= 1;
     }
-    i
+    least
 }
 
 // The digits, with the point before the last `places` of them.
@@ -64,8 +60,7 @@ pub fn exact(x: f32) {
     if point.negative {
         text(b"-");
     }
-    let places = point.places;
-    pointed(&digits, places);
+    pointed(&digits, point.places);
 }
 
 // A digit below sixteen, in capitals.

@@ -1,7 +1,7 @@
 // A card in words: its passes in order, how many samples their blurs take, and its normalised bytes; or why it is refused.
 use crate::names::text;
 use crate::{names, numbers};
-use cards::station::{Answer, Record, Station, kind_of};
+use cards::station::{Answer, Record, Station, few, kind_of};
 use cards::writer::Writing;
 use cards::{reader, writer};
 use chain::samples::{Sampling, samples};
@@ -22,65 +22,46 @@ pub fn value(kind: u8, s: Setting) {
                 names::preset(v);
             }
         }
-        Setting::Absent => text(b"none"),
-    }
-}
-
-fn is_there(s: Setting) -> bool {
-    match s {
-        Setting::Real(_) => true,
-        Setting::Whole(_) => true,
-        Setting::Absent => false,
     }
 }
 
 // The setting at place j of the pass of a record, if it has one.
-fn setting(r: Record, j: usize) {
-    let pass = r.pass;
-    let s = setting_at(pass, j);
-    if !is_there(s) {
-        return;
+fn setting(r: &Record, j: usize) {
+    if let Some(s) = setting_at(r.pass, j) {
+        if j == 0 {
+            text(b": ");
+        } else {
+            text(b", ");
+        }
+        let kind = kind_of(r.pass);
+        called::setting(STDOUT_FILENO, kind, j);
+        text(b" ");
+        value(kind, s);
     }
-    if j == 0 {
-        text(b": ");
-    } else {
-        text(b", ");
-    }
-    let kind = kind_of(pass);
-    called::setting(STDOUT_FILENO, kind, j);
-    text(b" ");
-    value(kind, s);
 }
 
 // A line for the pass at place i, counted from 1. No pass has more than four settings.
-fn record(rt: HostRuntime, r: Record, i: usize) -> Result<(), Error> {
+fn record(rt: HostRuntime, r: &Record, i: usize) -> Result<(), Error> {
     text(b"  ");
     numbers::whole(i);
     text(b"  ");
-    let pass = r.pass;
-    let on = r.on;
-    called::kind(STDOUT_FILENO, kind_of(pass));
+    called::kind(STDOUT_FILENO, kind_of(r.pass));
     text(b", ");
-    names::switch(on);
-    setting(r, 0);
-    setting(r, 1);
-    setting(r, 2);
-    setting(r, 3);
+    names::switch(r.on);
+    for j in 0..4 {
+        setting(r, j);
+    }
     end(rt, b"\n")
 }
 
 // A line for each pass of the chain.
 fn passes(rt: HostRuntime, station: Station) -> Result<(), Error> {
-    let n = station.n;
-    let records = station.records;
-    if n == 0 {
+    let chain = &station.records[..few(station.n)];
+    if chain.is_empty() {
         return end(rt, b"  no pass: the picture is the frame\n");
     }
-    for i in 0..12 {
-        if i < n {
-            let r = records[i];
-            record(rt, r, i + 1)?;
-        }
+    for (i, r) in chain.iter().enumerate() {
+        record(rt, r, i + 1)?;
     }
     Ok(())
 }
@@ -102,10 +83,10 @@ fn sampled(rt: HostRuntime, station: Station, width: usize, height: usize) -> Re
 }
 
 // The same for the size that is asked for, if one is.
-fn asked(rt: HostRuntime, station: Station, extent: Extent) -> Result<(), Error> {
+fn asked(rt: HostRuntime, station: Station, extent: Option<Extent>) -> Result<(), Error> {
     match extent {
-        Extent::Sides(width, height) => sampled(rt, station, width, height),
-        Extent::NoSize => Ok(()),
+        Some(Extent { width, height }) => sampled(rt, station, width, height),
+        None => Ok(()),
     }
 }
 
@@ -132,7 +113,7 @@ fn prefix(card: &[u8], n: usize) {
 }
 
 // A card that is accepted, in words. The samples are told of a frame of 256 by 240, and of the size that is asked for.
-fn accepted(rt: HostRuntime, station: Station, extent: Extent) -> Result<(), Error> {
+fn accepted(rt: HostRuntime, station: Station, extent: Option<Extent>) -> Result<(), Error> {
     passes(rt, station)?;
     sampled(rt, station, 256, 240)?;
     asked(rt, station, extent)?;
@@ -140,7 +121,7 @@ fn accepted(rt: HostRuntime, station: Station, extent: Extent) -> Result<(), Err
 }
 
 // The card in words, or why it is refused.
-fn described(rt: HostRuntime, card: &[u8], extent: Extent) -> Result<(), Error> {
+fn described(rt: HostRuntime, card: &[u8], extent: Option<Extent>) -> Result<(), Error> {
     let opened = reader::open(card);
     let answer = opened.answer;
     let station = opened.station;
@@ -154,7 +135,7 @@ fn described(rt: HostRuntime, card: &[u8], extent: Extent) -> Result<(), Error> 
 }
 
 // The card that argument i gave, below that argument.
-pub fn titled(rt: HostRuntime, i: usize, card: &[u8], extent: Extent) -> Result<(), Error> {
+pub fn titled(rt: HostRuntime, i: usize, card: &[u8], extent: Option<Extent>) -> Result<(), Error> {
     let mut name = io::buffer();
     let given = input::argument(rt, i, &mut name);
     let n = given.length;

@@ -1,12 +1,12 @@
-// Arguments, files, and cards that an argument gives. What cannot be read is said in one line on standard error.
+// Arguments, files, and cards and curves that an argument gives. What cannot be read is said in one line on standard error.
 // Arguments are read as bytes, into fixed buffers: they need not be text. A file's name is text for std, so one that is not UTF-8 cannot be opened.
 ghost use Rattle.std.specs.Prelude.{◌≡◌, IfOk};
 ghost use Rattle.io.specs.Counts.{IsPrefixLen};
 
-use super::reason;
 use super::stream::STDERR_FILENO;
+use super::{reason, says, words};
 use inspect::hexadecimal;
-use inspect::hexadecimal::Decoded;
+use inspect::hexadecimal::DecodeError;
 use std::env::FillError;
 use std::fs::File;
 use std::io::{Error, ErrorKind, Read};
@@ -167,25 +167,41 @@ pub fn named(rt: HostRuntime, i: usize, out: &mut [u8]) -> Loaded
     file(rt, &name[..n], b"", out)
 }
 
+// The curve in the file that argument i names. Where it holds none, it is said why.
+pub fn curve(rt: HostRuntime, i: usize) -> Option<[f32; 256]> {
+    let mut file = io::buffer();
+    let loaded = named(rt, i, &mut file);
+    let n = loaded.length;
+    match frames::curve::load(&file[..n]) {
+        Ok(words) => Some(words),
+        Err(why) => {
+            if loaded.ok {
+                says::name(rt, STDERR_FILENO, i);
+                words::no_curve(STDERR_FILENO, why);
+            }
+            None
+        }
+    }
+}
+
 // A card: the bytes of an argument that is hexadecimal, else those of the file that it names. No card has as many bytes as the buffer: one that has more is
 // refused by its first ones already.
 fn card_of(rt: HostRuntime, name: &[u8], out: &mut [u8; 4096]) -> Loaded
     ensures { IsPrefixLen result.length out.new }
 {
-    let decoded = hexadecimal::decode(name, out);
-    match decoded {
-        Decoded::Bytes(length) => Loaded {
+    match hexadecimal::decode(name, out) {
+        Ok(length) => Loaded {
             ok: true,
             length,
             more: false,
         },
-        Decoded::Text => file(
+        Err(DecodeError::NotHexadecimal) => file(
             rt,
             name,
             b": neither hexadecimal (two digits for each byte) nor a file that can be read",
             out,
         ),
-        Decoded::Long => {
+        Err(DecodeError::NoRoom) => {
             io::write_all(STDERR_FILENO, name);
             io::write_all(STDERR_FILENO, b": too long for a card\n");
             failed()

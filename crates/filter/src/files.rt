@@ -1,11 +1,10 @@
-// Frames: read, looked at, and shown. The curve.
+// Frames: read, looked at, and shown.
 ghost use Rattle.io.specs.Counts.{IsPrefixLen};
 
 use crate::says;
 use cards::station::Station;
 use cli::{input, output};
-use frames::Outcome;
-use frames::curve::Loaded;
+use frames::{Shown, Unshown};
 
 // How many bytes the frame that argument i names has, at the start of the buffer; 0 where it cannot be taken, and then it is said why.
 pub fn taken(rt: HostRuntime, i: usize, file: &mut [u8]) -> usize
@@ -16,10 +15,8 @@ pub fn taken(rt: HostRuntime, i: usize, file: &mut [u8]) -> usize
         return 0;
     }
     let n = loaded.length;
-    let more = loaded.more;
-    let k = frames::fault(&file[..n], more, 61440);
-    if k != 0 {
-        says::no_frame(rt, i, k);
+    if let Some(why) = frames::fault(&file[..n], loaded.more, 61440) {
+        says::no_frame(rt, i, why);
         return 0;
     }
     n
@@ -32,28 +29,34 @@ pub struct Turn {
     pub more: bool,
 }
 
-// Writes the picture; its frame reported these two numbers.
-fn picture(rt: HostRuntime, i: usize, clipped: u32, samples: u32, tell: bool, file: &[u8]) -> bool {
+// Writes the picture; its frame reported two numbers.
+fn picture(rt: HostRuntime, i: usize, shown: Shown, tell: bool, file: &[u8]) -> bool {
     let written = output::end(rt, file);
     if written.is_err() {
         output::told(written);
         return false;
     }
     if tell {
-        says::counts(rt, i, clipped, samples);
+        says::counts(rt, i, shown.clipped, shown.samples);
     }
     true
 }
 
 // Writes the picture, or says why there is none.
-fn write(rt: HostRuntime, i: usize, outcome: Outcome, tell: bool, file: &[u8]) -> bool {
+fn write(
+    rt: HostRuntime,
+    i: usize,
+    outcome: Result<Shown, Unshown>,
+    tell: bool,
+    file: &[u8],
+) -> bool {
     match outcome {
-        Outcome::Shown { clipped, samples } => picture(rt, i, clipped, samples, tell, file),
-        Outcome::NoFrame(k) => {
-            says::no_frame(rt, i, k);
+        Ok(shown) => picture(rt, i, shown, tell, file),
+        Err(Unshown::NoFrame(why)) => {
+            says::no_frame(rt, i, why);
             false
         }
-        Outcome::Refused(k) => {
+        Err(Unshown::Refused(k)) => {
             says::no_picture(rt, i, k);
             false
         }
@@ -74,11 +77,9 @@ pub fn show(
     curve: &[f32],
 ) -> Turn {
     let filtered = frames::filter(station, file, words, history, floats, ints, curve);
-    let outcome = filtered.outcome;
-    let after = filtered.station;
-    let more = write(rt, i, outcome, tell, file);
+    let more = write(rt, i, filtered.outcome, tell, file);
     Turn {
-        station: after,
+        station: filtered.station,
         more,
     }
 }
@@ -116,16 +117,4 @@ pub fn play(
         ints,
         curve,
     )
-}
-
-// The curve in the file that argument i names. Where it holds none, it is said why, and the fault is not 0.
-pub fn curve(rt: HostRuntime, i: usize) -> Loaded {
-    let mut file = io::buffer();
-    let named = input::named(rt, i, &mut file);
-    let n = named.length;
-    let loaded = frames::curve::load(&file[..n]);
-    if named.ok && loaded.fault != 0 {
-        says::no_curve(rt, i, loaded.fault);
-    }
-    loaded
 }

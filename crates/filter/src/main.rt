@@ -125,9 +125,7 @@ fn lend(rt: HostRuntime, station: Station, first: usize, count: usize, tell: boo
         run(rt, station, first, count, tell, &none);
         return;
     }
-    let loaded = files::curve(rt, named);
-    if loaded.fault == 0 {
-        let curve = loaded.words;
+    if let Some(curve) = input::curve(rt, named) {
         run(rt, station, first, count, tell, &curve);
     }
 }

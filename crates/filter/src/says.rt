@@ -2,6 +2,7 @@
 use cli::says::{name, text};
 use cli::stream::STDERR_FILENO;
 use cli::words;
+use raster::ppm::NotAFrame;
 
 // The card, which argument i gives.
 pub fn card(rt: HostRuntime, i: usize, card: &[u8], number: u8) {
@@ -9,16 +10,10 @@ pub fn card(rt: HostRuntime, i: usize, card: &[u8], number: u8) {
     let _ = words::refused(rt, STDERR_FILENO, card, number);
 }
 
-// A file that is no frame, by the numbers of raster::ppm, and 10 of frames::fault.
-pub fn no_frame(rt: HostRuntime, i: usize, number: u8) {
+// A file that is no frame.
+pub fn no_frame(rt: HostRuntime, i: usize, why: NotAFrame) {
     name(rt, STDERR_FILENO, i);
-    words::no_frame(STDERR_FILENO, number);
-}
-
-// A file that holds no curve, by the numbers of frames::curve.
-pub fn no_curve(rt: HostRuntime, i: usize, number: u8) {
-    name(rt, STDERR_FILENO, i);
-    words::no_curve(STDERR_FILENO, number);
+    words::no_frame(STDERR_FILENO, why);
 }
 
 // A frame that the station refused. No station that a card opens refuses a frame with all that is lent here, but by 16 where no curve is named.

@@ -7,14 +7,13 @@ use lib.ListN.{length, drop}
 use Rattle.num.specs.Refusals.{unless}
 use Rattle.num.specs.Laws.Refusals.{accepts}
 use Rattle.raster.specs.Pixels.{unpacked}
-use Rattle.raster.specs.Ppm.{parse_of}
-use Rattle.raster.specs.declared.ppm.Parsed.{Parsed}
+use Rattle.raster.specs.Ppm.{Parsed, parse_of}
 use Rattle.chain.specs.Calls as Calls
 use Rattle.chain.specs.Calls.{Framed, stops, refusing_frame, shown_by, frame_reply_by}
 use Rattle.cards.specs.declared.station.Station.{Station}
 use Rattle.frames.specs.Frames.{Result, result, outcome_of, shown, among, replied, by_parsed, filtered_of}
 use Rattle.frames.specs.Claims.{UnshownKeeps}
-use Rattle.frames.specs.declared.Outcome.TheVariants.{Shown, Refused}
+use Rattle.frames.specs.Outcome.{Shown, Refused}
 
 length-unpacked : (n : ℕ) (bytes : List ℕ) → length (unpacked n bytes) ≡ n
 unfolding unpacked

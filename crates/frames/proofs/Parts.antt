@@ -1,33 +1,33 @@
 -- A file taken apart into its header and its pixels, and a framebuffer of which a frame is lent its words. Assumes nothing.
 use Prim.Native.Nat.{ℕ, zero, suc, ◌-◌, ◌*◌, ◌≤◌}
 use mathlib.Core.Path.{◌≡◌, refl, sym, ap, ◌∙◌, subst}
-use mathlib.Core.Bool.{Bool, true, false}
+use Rattle.std.specs.Prelude.{Err}
 use mathlib.Core.List.{List, ◌++◌, append-nil}
 use native.Mathlib.Nat.{mul-le-mul}
 use native.Mathlib.Omega.{arith}
-use borrow.Author.Tests.{ne_eqb}
 use lib.Ieee.{Float}
 use lib.ListN.{length, take, drop, length-drop, take-append-drop, drop_of_length-le}
 use lib.Seq.{length-take-le, take_all}
 use Rattle.num.specs.Refusals.{unless}
 use Rattle.num.specs.Laws.Refusals.{refuses, accepts}
 use Rattle.raster.specs.Claims.{Whole}
-use Rattle.raster.specs.Ppm.{parse_of}
+use Rattle.raster.specs.Ppm.{Parsed, number_of as reason_of, parse_of}
 use Rattle.raster.specs.Pixels.{unpacked, packed_bytes}
-use Rattle.raster.specs.declared.ppm.Parsed.{Parsed}
+use Rattle.raster.specs.declared.ppm.NotAFrame.{NotAFrame}
+use Rattle.raster.proofs.Taken.{taken-whole}
 use Rattle.chain.specs.Answers.{reported_frame, Applies}
 use Rattle.chain.specs.Laws.Answers.{stay}
 use Rattle.chain.specs.Calls.{Framed, float_room, stops, frame_reply}
 use Rattle.chain.specs.declared.pipeline.Applied.{Applied}
 use Rattle.cards.specs.declared.station.Station.{Station}
-use Rattle.frames.specs.Frames.{Result, result, shown, among, replied, shows_of, by_parsed, filtered_of, number_of, outcome_of, fault_of, Filters}
-use Rattle.frames.specs.declared.Outcome.{Outcome}
-use Rattle.frames.specs.declared.Outcome.TheVariants.{NoFrame, Refused}
+use Rattle.frames.specs.Frames.{Result, result, shown, among, replied, shows_of, by_parsed, filtered_of, outcome_of, Filters, Room}
+use Rattle.frames.specs.Outcome.{Refused, Answer, outcome}
+use Rattle.frames.specs.declared.Unshown.TheVariants as No
 use Rattle.frames.specs.declared.Filtered.{Filtered}
 
 -- ## Show
 
-abbrev filtered : Outcome → Station → Filtered
+abbrev filtered : Answer → Station → Filtered
 filtered o s = record { outcome = o; station = s }
 
 module _ (w h : ℕ) (s : Station) (pixels words past : List ℕ) (floats : List Float) (ints : List ℕ) (curve : List Float) (k : ℕ)
@@ -43,9 +43,9 @@ module _ (w h : ℕ) (s : Station) (pixels words past : List ℕ) (floats : List
 
   -- the station refuses the frame
   pub unshown : (k ≡ 0 → ⊥)
-      → Filters (shows_of w h s pixels words past (length floats) (length ints) curve) (filtered (Refused k) s) pixels words past floats floats ints ints
+      → Filters (shows_of w h s pixels words past (length floats) (length ints) curve) (filtered (Err (No.Refused k)) s) pixels words past floats floats ints ints
   unshown some =
-      subst (λ (x : Result). Filters x (filtered (Refused k) s) pixels words past floats floats ints ints) (refuses k refused taken number some)
+      subst (λ (x : Result). Filters x (filtered (Err (No.Refused k)) s) pixels words past floats floats ints ints) (refuses k refused taken number some)
       (record {
         outcome = refl;
         station = refl;
@@ -57,9 +57,9 @@ module _ (w h : ℕ) (s : Station) (pixels words past : List ℕ) (floats : List
       })
 
   -- the call on the frame's words left r, and they were packed into all the bytes that were lent
-  pub shows : (given : List ℕ) (r : Applied) (o : Outcome) (pixels' words' past' : List ℕ) (floats' : List Float) (ints' : List ℕ) → k ≡ 0
+  pub shows : (given : List ℕ) (r : Applied) (o : Answer) (pixels' words' past' : List ℕ) (floats' : List Float) (ints' : List ℕ) → k ≡ 0
       → given ≡ unpacked (length words) pixels → Applies w h s given past floats ints curve r words' past' floats' ints'
-      → o ≡ outcome_of (reported_frame r.answer) → pixels' ≡ packed_bytes words' ++ drop (3 * length words') pixels → length pixels ≤ 3 * length words'
+      → outcome o ≡ outcome_of (reported_frame r.answer) → pixels' ≡ packed_bytes words' ++ drop (3 * length words') pixels → length pixels ≤ 3 * length words'
       → Filters (shows_of w h s pixels words past (length floats) (length ints) curve) (filtered o r.station) pixels' words' past' floats floats' ints ints'
   shows given r o pixels' words' past' floats' ints' none e a told packed fits =
       let whole : pixels' ≡ packed_bytes words' =
@@ -88,12 +88,12 @@ module _ (s : Station) (file words past : List ℕ) (floats : List Float) (ints 
   by-parsed p e = ap (λ (q : Parsed). by_parsed q s file words past (length floats) (length ints) curve) e
 
   -- no frame: nothing changes
-  pub no_frame : (p : Parsed) (k number : ℕ) → p ≡ parse_of (length words) file → p ≡ Parsed.Refused k → number ≡ number_of p
-      → Filters done (filtered (NoFrame number) s) file words past floats floats ints ints
-  no_frame p k number e is n =
-      subst (λ (x : Result). Filters x (filtered (NoFrame number) s) file words past floats floats ints ints) (by-parsed (Parsed.Refused k) (sym is ∙ e))
+  pub no_frame : (k : NotAFrame) → Parsed.Refused (reason_of k) ≡ parse_of (length words) file
+      → Filters done (filtered (Err (No.NoFrame k)) s) file words past floats floats ints ints
+  no_frame k e =
+      subst (λ (x : Result). Filters x (filtered (Err (No.NoFrame k)) s) file words past floats floats ints ints) (by-parsed (Parsed.Refused (reason_of k)) e)
       (record {
-        outcome = ap NoFrame (n ∙ ap number_of is);
+        outcome = refl;
         station = refl;
         file = refl;
         words = refl;
@@ -115,13 +115,13 @@ module _ (s : Station) (file words past : List ℕ) (floats : List Float) (ints 
         ap (λ (xs : List ℕ). take start file ++ (pixels' ++ xs)) (drop_of_length-le (drop start file) {i = length file - start} (simp length-drop (omega arith)))
         ∙ ap (λ (xs : List ℕ). take start file ++ xs) (append-nil pixels')
 
-    pub shown_in : (p : Parsed) (pixels : List ℕ) (r : Filtered) (past' : List ℕ) (floats' : List Float) (ints' : List ℕ)
-        → p ≡ parse_of (length words) file → p ≡ Parsed.Frame w h start → pixels ≡ drop start file
+    pub shown_in : (pixels : List ℕ) (r : Filtered) (past' : List ℕ) (floats' : List Float) (ints' : List ℕ)
+        → Parsed.Frame w h start ≡ parse_of (length words) file → pixels ≡ drop start file
         → Filters (shows_of w h s pixels (take (h * w) words) past (length floats) (length ints) curve) r pixels' words' past' floats floats' ints ints'
         → Filters done r file' buffer' past' floats floats' ints ints'
     unfolding unless
-    shown_in p pixels r past' floats' ints' e is part g =
-        subst (λ (x : Result). Filters x r file' buffer' past' floats floats' ints ints') (by-parsed (Parsed.Frame w h start) (sym is ∙ e))
+    shown_in pixels r past' floats' ints' e part g =
+        subst (λ (x : Result). Filters x r file' buffer' past' floats floats' ints ints') (by-parsed (Parsed.Frame w h start) e)
         (go (stops s w h (h * w) (length past) (length floats) (length ints) curve) (rw part at g))
       where
         taken : Result
@@ -149,35 +149,21 @@ module _ (s : Station) (file words past : List ℕ) (floats : List Float) (ints 
           ints_stay = g.ints_stay;
         }
 
--- the count of a frame that is taken
-pub few : (most : ℕ) (file : List ℕ) (w h start : ℕ) → Whole most file w h start → h * w ≤ 1048576
-few most file w h start t = mul-le-mul t.small-height t.small_width
+-- ## A frame that is taken
 
--- what is lent to a frame that is taken: of the framebuffer its words, of the file all that follows the header
-module _ (words file : List ℕ) {w h start : ℕ} (t : Whole (length words) file w h start) where
+module _ (words file : List ℕ) {w h start : ℕ} (e : Parsed.Frame w h start ≡ parse_of (length words) file) where
+  pub whole : Whole (length words) file w h start
+  whole = taken-whole (length words) file w h start (sym e)
+
+  pub few : h * w ≤ 1048576
+  few = mul-le-mul whole.small-height whole.small_width
+
+  -- what is lent to it: of the framebuffer its words, of the file all that follows the header
   pub lent : length (take (h * w) words) ≡ h * w
-  lent = length-take-le (h * w) words t.few
+  lent = length-take-le (h * w) words whole.few
 
   pub pixels : take (length file - start) (drop start file) ≡ drop start file
   pixels = take_all (length file - start) (drop start file) (simp length-drop (omega arith))
 
-  pub pixels_room : length (take (length file - start) (drop start file)) ≡ 3 * (h * w)
-  pixels_room = ap length pixels ∙ simp length-drop (omega (arith, t.ends))
-
--- ## Fault: k was told of the first bytes, which is the definition's n
-
-module _ (more : Bool) (k n : ℕ) (told : k ≡ n) where
-  pub fault_all : more ≡ false → k ≡ fault_of more n
-  fault_all e = rw e told
-
-  pub fault_left : more ≡ true → k ≡ 0 → 9 ≡ fault_of more n
-  fault_left e z = rw (e, ← told, z) refl
-
-  pub fault_header : more ≡ true → k ≡ 3 → 10 ≡ fault_of more n
-  fault_header e z = rw (e, ← told, z) refl
-
-  pub fault_pixels : more ≡ true → k ≡ 8 → 10 ≡ fault_of more n
-  fault_pixels e z = rw (e, ← told, z) refl
-
-  pub fault_other : more ≡ true → (k ≡ 0 → ⊥) → (k ≡ 3 → ⊥) → (k ≡ 8 → ⊥) → k ≡ fault_of more n
-  fault_other e a b c = rw (e, ← told, ne_eqb k 0 a, ne_eqb k 3 b, ne_eqb k 8 c) refl
+  pub room : Room (h * w) (take (h * w) words) (take (length file - start) (drop start file))
+  room = record { words_room = lent; pixels_room = ap length pixels ∙ simp length-drop (omega (arith, whole.ends)) }

@@ -1,8 +1,9 @@
 -- A rectangle in words, LEFT,TOP,WIDTH,HEIGHT: what every byte string is read as, byte after byte. Assumes nothing.
-use Rattle.std.specs.Prelude.{ℕ, ◌+◌, ◌-◌, ◌*◌, Bool, true, false, ◌&&◌, ◌||◌, cond, List, [], ◌∷◌, eqb, ltb}
+use Rattle.std.specs.Prelude.{ℕ, ◌+◌, ◌-◌, ◌*◌, Bool, true, false, ◌&&◌, ◌||◌, cond, List, [], ◌∷◌, eqb, ltb, Result, Ok, Err}
 use Rattle.raster.specs.Ppm.{is_digit}
-use Rattle.frames.specs.declared.area.Named.{Named}
-use Rattle.frames.specs.declared.area.Named.TheVariants.{Area, Fault}
+use Rattle.frames.specs.declared.area.Named as code
+use Rattle.frames.specs.declared.area.NotAnArea.{NotAnArea}
+use Rattle.frames.specs.declared.area.NotAnArea.TheVariants.{NotFour, TooLarge}
 use Rattle.frames.specs.declared.area.Reading.{Reading}
 
 -- One digit more. A value above 65535 stays: it is still above 65535, and so refused.
@@ -55,6 +56,20 @@ read_of r (b ∷ text) = read_of (step_of r b) text
 
 unfoldable pub is_large : Reading → Bool
 is_large r = ltb 65535 r.first || (ltb 65535 r.second || (ltb 65535 r.third || ltb 65535 r.value))
+
+-- left, top, width and height; or a fault: 1, not four numbers with a comma between two, or 2, a number above 65535
+pub data Named : Type 0 where
+  Area : ℕ → ℕ → ℕ → ℕ → Named
+  Fault : ℕ → Named
+
+abbrev pub number_of : NotAnArea → ℕ
+number_of NotFour = 1
+number_of TooLarge = 2
+
+-- what the code answers, so
+abbrev pub named : Result code.Named NotAnArea → Named
+named (Ok a) = Area a.left a.top a.width a.height
+named (Err k) = Fault (number_of k)
 
 -- four numbers, the last of which has a digit; none of them above 65535
 unfoldable pub named_by : Reading → Named

@@ -1,9 +1,7 @@
 -- Worked cases of rectangles in words: what stands there, and what it is read as. Assumes nothing.
 use Rattle.std.specs.Prelude.{List, [], ◌∷◌, refl}
 use Rattle.num.specs.Cases.{Hold}
-use Rattle.frames.specs.Area.{step_of, read_of, is_large, named_by, named_of}
-use Rattle.frames.specs.declared.area.Named.{Named}
-use Rattle.frames.specs.declared.area.Named.TheVariants.{Area, Fault}
+use Rattle.frames.specs.Area.{step_of, read_of, is_large, Named, Area, Fault, named_by, named_of}
 
 -- `8,0,16,240`, `0,0,0,65535`, `00,1,2,0009`; `0,0,0,65536`, `99999999,0,0,0`; nothing, `1,2,3`, `1,2,3,`, `1,,2,3`, `1,2,3,4,5`, ` 1,2,3,4`, `1,2,3,-4`
 abbrev pub named : List (Named × Named)

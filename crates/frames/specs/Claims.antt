@@ -2,7 +2,7 @@
 use Rattle.std.specs.Prelude.{ℕ, ◌≡◌, List, Float}
 use Rattle.cards.specs.declared.station.Station.{Station}
 use Rattle.frames.specs.Frames.{Result, result, filtered_of}
-use Rattle.frames.specs.declared.Outcome.TheVariants.{Shown}
+use Rattle.frames.specs.Outcome.{Shown}
 
 -- a file that shows no picture is left as it was, and so are the station and all else that is lent
 abbrev pub UnshownKeeps : Type 0

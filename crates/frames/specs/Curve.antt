@@ -1,13 +1,15 @@
 -- A file that holds a curve: 256 numbers as binary32, the low byte first. Assumes nothing.
-use Rattle.std.specs.Prelude.{ℕ, ◌+◌, ◌*◌, not, cond, List, eqb, Float, length, replicate}
+use Rattle.std.specs.Prelude.{ℕ, ◌+◌, ◌*◌, not, cond, List, eqb, Float, length, replicate, Result, Ok, Err}
 use Rattle.std.specs.Float.{nan, binary32}
 use Rattle.std.specs.Float.Ieee.{of_bits}
 use Rattle.std.specs.Float.Ieee.Scale.{finite}
 use Rattle.num.specs.Const.{c0_0}
+use Rattle.num.specs.Refusals.{unless}
 use Rattle.num.specs.Rewrite.{fill}
 use Rattle.passes.specs.ColorCorrection.{good_curve}
 use Rattle.raster.specs.Pixels.{byte_at}
-use Rattle.frames.specs.declared.curve.Loaded.{Loaded}
+use Rattle.frames.specs.declared.curve.NoCurve.{NoCurve}
+use Rattle.frames.specs.declared.curve.NoCurve.TheVariants.{OtherLength, Outside}
 
 -- the bit pattern of the four bytes from i on
 abbrev pub pattern_at : List ℕ → ℕ → ℕ
@@ -30,6 +32,20 @@ curve_in file = fill (word_at file) empty
 unfoldable pub curve_fault : List ℕ → ℕ
 curve_fault file = cond (not (eqb (length file) 1024)) 1 (cond (not (good_curve (curve_in file))) 2 0)
 
--- with the words of the file; zeros where it has another length
+abbrev pub number_of : NoCurve → ℕ
+number_of OtherLength = 1
+number_of Outside = 2
+
+-- a curve, or a fault's number
+pub data Loaded : Type 0 where
+  Curve : List Float → Loaded
+  Fault : ℕ → Loaded
+
+-- what the code answers, so
+abbrev pub loaded : Result (List Float) NoCurve → Loaded
+loaded (Ok words) = Curve words
+loaded (Err k) = Fault (number_of k)
+
+-- the words of the file, where it has no fault
 unfoldable pub loaded_of : List ℕ → Loaded
-loaded_of file = record { fault = curve_fault file; words = cond (eqb (length file) 1024) (curve_in file) empty }
+loaded_of file = unless (curve_fault file) Fault (Curve (curve_in file))

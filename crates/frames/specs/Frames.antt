@@ -2,13 +2,11 @@
 use Rattle.std.specs.Prelude.{ℕ, ◌*◌, ◌≡◌, Bool, cond, ◌||◌, List, ◌++◌, Float, length, get_or, take, drop, eqb}
 use Rattle.num.specs.Refusals.{unless}
 use Rattle.raster.specs.Pixels.{unpacked, packed_bytes}
-use Rattle.raster.specs.Ppm.{header_cut, pixels_cut, left_over, parse_of}
-use Rattle.raster.specs.declared.ppm.Parsed.{Parsed}
+use Rattle.raster.specs.Ppm.{header_cut, pixels_cut, left_over, unread, Parsed, parse_of}
 use Rattle.cards.specs.Answers.{Report, refusal, acceptance}
 use Rattle.chain.specs.Calls.{Framed, float_room, stops, frame_reply}
 use Rattle.cards.specs.declared.station.Station.{Station}
-use Rattle.frames.specs.declared.Outcome.{Outcome}
-use Rattle.frames.specs.declared.Outcome.TheVariants.{Shown, NoFrame, Refused}
+use Rattle.frames.specs.Outcome.{Outcome, Shown, NoFrame, Refused, outcome as told}
 use Rattle.frames.specs.declared.Filtered.{Filtered}
 
 -- what a frame's answer is, in the code's words: acceptance reports two numbers, how many channels were clipped and how many samples were taken
@@ -21,11 +19,8 @@ abbrev pub number_of : Parsed → ℕ
 number_of (Parsed.Frame w h start) = 0
 number_of (Parsed.Refused k) = k
 
--- the file has more bytes than were read, and they end inside the header or the pixels
-abbrev pub unread : ℕ
-unread = 10
-
--- why a file is no frame, 0 for none: k is told of its first bytes, and `more` says whether there are others
+-- why a file is no frame, 0 for none: k is told of its first bytes, and `more` says whether there are others. Where there are, bytes that end inside the
+-- header or the pixels are not all that the file has.
 abbrev pub fault_of : Bool → ℕ → ℕ
 fault_of more k = cond more (cond (eqb k 0) left_over (cond (eqb k header_cut || eqb k pixels_cut) unread k)) k
 
@@ -94,7 +89,7 @@ filtered_of s file words past floats ints curve = by_parsed (parse_of (length wo
 
 -- the scratch words that stay are those past the free ones
 pub record Filters (x : Result) (r : Filtered) (file' words' past' : List ℕ) (floats floats' : List Float) (ints ints' : List ℕ) : Type 0 where
-  pub outcome : r.outcome ≡ x.outcome
+  pub outcome : told r.outcome ≡ x.outcome
   pub station : r.station ≡ x.station
   pub file : file' ≡ x.file
   pub words : words' ≡ x.words

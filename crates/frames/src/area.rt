@@ -1,19 +1,22 @@
 // A rectangle in words: LEFT,TOP,WIDTH,HEIGHT, four decimal numbers of at most 65535.
 ghost use Rattle.std.specs.Prelude.{◌≡◌, ◌≤◌};
-ghost use Rattle.frames.specs.Area.{grow, with_digit, next_number, broken, step_of, unread, read_of, is_large, named_of, begins_of};
+ghost use Rattle.frames.specs.Area.{grow, with_digit, next_number, broken, step_of, unread, read_of, is_large, named, named_of, begins_of};
 
 use raster::ppm::is_digit;
 
 // Why the words are no rectangle.
-const NOT_FOUR: u8 = 1; // not four numbers with a comma between two
+#[derive(Clone, Copy, Debug, PartialEq, Eq)]
+pub enum NotAnArea {
+    NotFour, // not four numbers with a comma between two
+    TooLarge, // a number above 65535
+}
 
-const TOO_LARGE: u8 = 2; // a number above 65535
-
-// Left, top, width and height; or a fault by its number.
 #[derive(Clone, Copy)]
-pub enum Named {
-    Area(u16, u16, u16, u16),
-    Fault(u8),
+pub struct Named {
+    pub left: u16,
+    pub top: u16,
+    pub width: u16,
+    pub height: u16,
 }
 
 // What was read: the number that stands now, the three before it, how many commas there were, and whether that number has a
@@ -30,34 +33,27 @@ struct Reading {
 
 // One digit more. A value above 65535 stays, so that no sum overflows; it is still above 65535.
 fn grown(v: u32, d: u8) -> u32
-    requires { (v ≤ 655359) × (d ≤ 9) }
-    ensures { (result ≡ grow v d) × (result ≤ 655359) }
+    requires { d ≤ 9 }
+    ensures { result ≡ grow v d }
 {
-    if 65535 < v {
-        return v;
-    }
-    v * 10 + d as u32
+    if 65535 < v { v } else { v * 10 + d as u32 }
 }
 
-fn with_digit(r: Reading, d: u8) -> Reading
-    requires { (r.value ≤ 655359) × (d ≤ 9) }
-    ensures { (result ≡ with_digit r d) × (result.value ≤ 655359) }
+fn digit_read(r: Reading, d: u8) -> Reading
+    requires { d ≤ 9 }
+    ensures { result ≡ with_digit r d }
 {
-    let value = grown(r.value, d);
     Reading {
-        first: r.first,
-        second: r.second,
-        third: r.third,
-        value,
-        commas: r.commas,
+        value: grown(r.value, d),
         digit: true,
+        ..r
     }
 }
 
 // After a comma.
-fn next_number(r: Reading) -> Reading
+fn comma_read(r: Reading) -> Reading
     requires { r.commas ≤ 2 }
-    ensures { (result ≡ next_number r) × (result.value ≤ 655359) }
+    ensures { result ≡ next_number r }
 {
     Reading {
         first: r.second,
@@ -69,38 +65,18 @@ fn next_number(r: Reading) -> Reading
     }
 }
 
-fn spoilt(r: Reading) -> Reading
-    requires { r.value ≤ 655359 }
-    ensures { (result ≡ broken r) × (result.value ≤ 655359) }
-{
-    Reading {
-        first: r.first,
-        second: r.second,
-        third: r.third,
-        value: r.value,
-        commas: 4,
-        digit: r.digit,
-    }
-}
-
 // One byte more.
+#[tactic(auto, unfolding(crate::specs::Area::step_of))]
 fn step(r: Reading, b: u8) -> Reading
-    requires { r.value ≤ 655359 }
-    ensures { (result ≡ step_of r b) × (result.value ≤ 655359) }
+    ensures { result ≡ step_of r b }
 {
     if is_digit(b) {
-        return with_digit(r, b - b'0');
+        digit_read(r, b - b'0')
+    } else if b == b',' && r.digit && r.commas < 3 {
+        comma_read(r)
+    } else {
+        Reading { commas: 4, ..r }
     }
-    if b != b',' {
-        return spoilt(r);
-    }
-    if !r.digit {
-        return spoilt(r);
-    }
-    if 2 < r.commas {
-        return spoilt(r);
-    }
-    next_number(r)
 }
 
 fn read(text: &[u8]) -> Reading
@@ -114,57 +90,43 @@ fn read(text: &[u8]) -> Reading
         commas: 0,
         digit: false,
     };
-    let mut i = 0;
-    while i < text.len() {
-        r = step(r, text[i]);
-        i += 1;
+    for b in text {
+        r = step(r, *b);
     }
     r
 }
 
+#[tactic(auto, unfolding(crate::specs::Area::is_large))]
 fn is_large(r: Reading) -> bool
     ensures { result ≡ is_large r }
 {
-    if 65535 < r.first {
-        return true;
-    }
-    if 65535 < r.second {
-        return true;
-    }
-    if 65535 < r.third {
-        return true;
-    }
-    65535 < r.value
+    65535 < r.first || 65535 < r.second || 65535 < r.third || 65535 < r.value
 }
 
 // The rectangle that the words name.
-pub fn parse(text: &[u8]) -> Named
-    ensures { result ≡ named_of text.now }
+#[tactic(auto, unfolding(crate::specs::Area::named_of, crate::specs::Area::named_by))]
+pub fn parse(text: &[u8]) -> Result<Named, NotAnArea>
+    ensures { named result ≡ named_of text.now }
 {
     let r = read(text);
-    if r.commas != 3 {
-        return Named::Fault(NOT_FOUR);
-    }
-    if !r.digit {
-        return Named::Fault(NOT_FOUR);
+    if r.commas != 3 || !r.digit {
+        return Err(NotAnArea::NotFour);
     }
     if is_large(r) {
-        return Named::Fault(TOO_LARGE);
+        return Err(NotAnArea::TooLarge);
     }
-    Named::Area(
-        r.first as u16,
-        r.second as u16,
-        r.third as u16,
-        r.value as u16,
-    )
+    Ok(Named {
+        left: r.first as u16,
+        top: r.second as u16,
+        width: r.third as u16,
+        height: r.value as u16,
+    })
 }
 
 // Whether the words are meant for a rectangle and not for a file: they begin with a digit.
+#[tactic(auto, unfolding(crate::specs::Area::begins_of))]
 pub fn begins(text: &[u8]) -> bool
     ensures { result ≡ begins_of text.now }
 {
-    if text.len() == 0 {
-        return false;
-    }
-    is_digit(text[0])
+    !text.is_empty() && is_digit(text[0])
 }

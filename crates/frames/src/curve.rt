@@ -1,16 +1,16 @@
 // A file that holds a curve: 256 numbers as binary32, the low byte first.
 ghost use Rattle.std.specs.Prelude.{◌≡◌, ◌+◌, ◌*◌, ◌<◌, ◌≤◌, length};
 ghost use Rattle.num.specs.Rewrite.{fill};
-ghost use Rattle.frames.specs.Curve.{pattern_at, real_of, word_at, empty, loaded_of};
+ghost use Rattle.frames.specs.Curve.{pattern_at, real_of, word_at, empty, loaded, loaded_of};
 
 use passes::color_correction::is_good_curve;
 use raster::pixels::at;
 
-// What a file holds: a curve, where the fault is 0.
-#[derive(Clone, Copy)]
-pub struct Loaded {
-    pub fault: u8,
-    pub words: [f32; 256],
+// Why a file holds no curve.
+#[derive(Clone, Copy, Debug, PartialEq, Eq)]
+pub enum NoCurve {
+    OtherLength, // another length than 1,024 bytes
+    Outside, // a word that is not in 0..1
 }
 
 // The bit pattern of the four bytes from i on.
@@ -40,10 +40,8 @@ fn decode(words: &mut [f32], file: &[u8])
     requires { 4 * length words.old ≤ length file.now }
     ensures { words.new ≡ fill (word_at file.now) words.old }
 {
-    let mut k = 0;
-    while k < words.len() {
-        words[k] = real(pattern(file, 4 * k));
-        k += 1;
+    for (k, word) in words.iter_mut().enumerate() {
+        *word = real(pattern(file, 4 * k));
     }
 }
 
@@ -54,17 +52,18 @@ fn room() -> [f32; 256]
     [0.0; 256]
 }
 
-// Loads the curve that a file holds. A file of another length than 1,024 bytes has fault 1, one with a word that is not in 0..1 fault 2.
-pub fn load(file: &[u8]) -> Loaded
-    ensures { result ≡ loaded_of file.now }
+// The curve that a file holds.
+#[tactic(auto, unfolding(crate::specs::Curve::loaded_of, crate::specs::Curve::curve_fault, crate::specs::Curve::curve_in, num::specs::Refusals::unless))]
+pub fn load(file: &[u8]) -> Result<[f32; 256], NoCurve>
+    ensures { loaded result ≡ loaded_of file.now }
 {
-    let mut words = room();
     if file.len() != 1024 {
-        return Loaded { fault: 1, words };
+        return Err(NoCurve::OtherLength);
     }
+    let mut words = room();
     decode(&mut words, file);
     if !is_good_curve(&words) {
-        return Loaded { fault: 2, words };
+        return Err(NoCurve::Outside);
     }
-    Loaded { fault: 0, words }
+    Ok(words)
 }

@@ -1,30 +1,35 @@
 // The totals of rectangles of the frame that a file holds as binary PPM.
 ghost use Rattle.std.specs.Prelude.{◌≡◌, ◌*◌};
 ghost use Rattle.frames.specs.Frames.{Room};
-ghost use Rattle.frames.specs.Judge.{judged_of, measured_of, in_file};
+ghost use Rattle.frames.specs.Judge.{judged, measured_of, in_file};
+ghost use Rattle.frames.specs.declared.judge.NoTotals.TheVariants as No;
 
-use super::number;
-use areas::Answer;
-use raster::ppm::Parsed;
+use num::refusal::Refusal;
+use raster::ppm::{Frame, NotAFrame};
 use raster::{pixels, ppm};
 
-// What became of a file.
-#[derive(Clone, Copy)]
-pub enum Judged {
-    // The totals are there; how many words were read.
-    Read(u32),
-    // It is no frame that can be taken, by the number of raster::ppm.
-    NoFrame(u8),
-    // The rectangles are refused, by the number of the papers' tables.
-    Refused(u8),
+// Why there are no totals.
+#[derive(Clone, Copy, Debug, PartialEq, Eq)]
+pub enum NoTotals {
+    // The file is no frame that can be taken.
+    NoFrame(NotAFrame),
+    // The rectangles are refused.
+    Refused(Refusal),
 }
 
-fn told(answer: Answer) -> Judged
-    ensures { result ≡ judged_of answer }
-{
-    match answer {
-        Answer::Read(n) => Judged::Read(n),
-        Answer::Refused(k) => Judged::Refused(k),
+impl From<NotAFrame> for NoTotals {
+    ghost from_gives = { λ k e. e ≡ No.NoFrame k };
+
+    fn from(k: NotAFrame) -> NoTotals {
+        NoTotals::NoFrame(k)
+    }
+}
+
+impl From<Refusal> for NoTotals {
+    ghost from_gives = { λ k e. e ≡ No.Refused k };
+
+    fn from(k: Refusal) -> NoTotals {
+        NoTotals::Refused(k)
     }
 }
 
@@ -36,23 +41,29 @@ fn measure(
     words: &mut [u32],
     areas: &[u16],
     res: &mut [u64],
-) -> Judged
+) -> Result<u32, NoTotals>
     requires { Room (height * width) words.old pixels.now }
-    ensures { (result, words.new, res.new) ≡ measured_of width height pixels.now areas.now res.old }
+    ensures { (judged result, words.new, res.new) ≡ measured_of width height pixels.now areas.now res.old }
 {
     pixels::unpack(words, pixels);
-    told(areas::totals(words, width, height, areas, res))
+    Ok(areas::totals(words, width, height, areas, res)?)
 }
 
-// Three totals for each rectangle, at the front of the result. A frame may have as many pixels as there are words; the first
-// of them are the frame's then.
-pub fn totals(file: &[u8], words: &mut [u32], areas: &[u16], res: &mut [u64]) -> Judged
-    ensures { (result, words.new, res.new) ≡ in_file words.old file.now areas.now res.old }
+// How many words were read. Three totals for each rectangle, at the front of the result. A frame may have as many pixels as there
+// are words; the first of them are the frame's then.
+pub fn totals(
+    file: &[u8],
+    words: &mut [u32],
+    areas: &[u16],
+    res: &mut [u64],
+) -> Result<u32, NoTotals>
+    ensures { (judged result, words.new, res.new) ≡ in_file words.old file.now areas.now res.old }
 {
-    let r = ppm::parse(file, words.len());
-    let Parsed::Frame(width, height, start) = r else {
-        return Judged::NoFrame(number(r));
-    };
+    let Frame {
+        width,
+        height,
+        start,
+    } = ppm::parse(file, words.len())?;
     let count = height * width;
     measure(
         &file[start..],

@@ -4,6 +4,7 @@
 ghost use Rattle.std.specs.Prelude.{◌≡◌, ◌*◌, length};
 ghost use Rattle.raster.specs.Ppm.{parse_of};
 ghost use Rattle.chain.specs.Answers.{reported_frame};
+ghost use Rattle.frames.specs.Outcome.{outcome, fault_number};
 ghost use Rattle.frames.specs.Frames.{Room, Filters, shows_of, filtered_of, outcome_of, number_of, fault_of};
 
 pub mod area; // a rectangle in words
@@ -14,32 +15,38 @@ use cards::station::Station;
 use chain::pipeline;
 use chain::pipeline::FrameAnswer;
 use chain::refusals::stops;
-use raster::ppm::Parsed;
+use raster::ppm::{Frame, NotAFrame};
 use raster::{pixels, ppm};
 
-// What became of a file.
+// The picture is in the file; so many channels were clipped, and so many samples taken.
 #[derive(Clone, Copy)]
-pub enum Outcome {
-    // It holds the picture; so many channels were clipped, and so many samples taken.
-    Shown { clipped: u32, samples: u32 },
-    // It is no frame that can be taken, by the number of raster::ppm.
-    NoFrame(u8),
+pub struct Shown {
+    pub clipped: u32,
+    pub samples: u32,
+}
+
+// Why there is no picture.
+#[derive(Clone, Copy, Debug, PartialEq, Eq)]
+pub enum Unshown {
+    // The file is no frame that can be taken.
+    NoFrame(NotAFrame),
     // The station refused the frame, by the number of the papers' tables.
     Refused(u8),
 }
 
+// What became of a file, and the station after it.
 #[derive(Clone, Copy)]
 pub struct Filtered {
-    pub outcome: Outcome,
+    pub outcome: Result<Shown, Unshown>,
     pub station: Station,
 }
 
-fn answered(answer: FrameAnswer) -> Outcome
-    ensures { result ≡ outcome_of (reported_frame answer) }
+fn answered(answer: FrameAnswer) -> Result<Shown, Unshown>
+    ensures { outcome result ≡ outcome_of (reported_frame answer) }
 {
     match answer {
-        FrameAnswer::Shown { clipped, samples } => Outcome::Shown { clipped, samples },
-        FrameAnswer::Refused(k) => Outcome::Refused(k),
+        FrameAnswer::Shown { clipped, samples } => Ok(Shown { clipped, samples }),
+        FrameAnswer::Refused(k) => Err(Unshown::Refused(k)),
     }
 }
 
@@ -72,46 +79,32 @@ fn show(
     );
     if refusal != 0 {
         return Filtered {
-            outcome: Outcome::Refused(refusal),
+            outcome: Err(Unshown::Refused(refusal)),
             station,
         };
     }
     pixels::unpack(words, pixels);
     let applied = pipeline::apply(station, words, width, height, history, floats, ints, curve);
     pixels::pack(pixels, words);
-    let answer = applied.answer;
-    let after = applied.station;
     Filtered {
-        outcome: answered(answer),
-        station: after,
+        outcome: answered(applied.answer),
+        station: applied.station,
     }
 }
 
-// The number of a refusal.
-pub(crate) fn number(r: Parsed) -> u8
-    ensures { result ≡ number_of r }
+// Why a file is no frame of at most `most` pixels, if it is none. `more` says that the file goes on past these bytes. Where they end
+// inside the header or the pixels it is then not cut off: it has more bytes than were read.
+pub fn fault(file: &[u8], more: bool, most: usize) -> Option<NotAFrame>
+    ensures { fault_number result ≡ fault_of more (number_of (parse_of most file.now)) }
 {
-    match r {
-        Parsed::Frame(_, _, _) => 0,
-        Parsed::Refused(k) => k,
-    }
-}
-
-// Why a file is no frame of at most `most` pixels, 0 where it is one. `more` says that the file goes on past these bytes. Where they end
-// inside the header or the pixels it is then not cut off: it has more bytes than were read (10).
-pub fn fault(file: &[u8], more: bool, most: usize) -> u8
-    ensures { result ≡ fault_of more (number_of (parse_of most file.now)) }
-{
-    let r = ppm::parse(file, most);
-    let k = number(r);
+    let fault = ppm::parse(file, most).err();
     if !more {
-        return k;
+        return fault;
     }
-    match k {
-        0 => 9,
-        3 => 10,
-        8 => 10,
-        _ => k,
+    match fault {
+        None => Some(NotAFrame::LeftOver),
+        Some(NotAFrame::HeaderCut | NotAFrame::PixelsCut) => Some(NotAFrame::Unread),
+        _ => fault,
     }
 }
 
@@ -129,13 +122,20 @@ pub fn filter(
         (length floats.old) (length ints.old) curve.now)
         result file.new words.new history.new floats.old floats.new ints.old ints.new }
 {
-    let r = ppm::parse(file, words.len());
-    let Parsed::Frame(width, height, start) = r else {
-        return Filtered {
-            outcome: Outcome::NoFrame(number(r)),
-            station,
-        };
+    let frame = match ppm::parse(file, words.len()) {
+        Ok(frame) => frame,
+        Err(k) => {
+            return Filtered {
+                outcome: Err(Unshown::NoFrame(k)),
+                station,
+            };
+        }
     };
+    let Frame {
+        width,
+        height,
+        start,
+    } = frame;
     let count = height * width;
     show(
         station,

@@ -3,14 +3,14 @@
 -- makes, because a sign and a size have one value. Assumes nothing.
 use Prim.Native.Nat.{ℕ, zero, suc, ◌+◌, ◌-◌, ◌*◌, ◌/◌, ◌%◌, ◌^◌, ◌≤◌, ◌<◌, compare, Ordering}
 use mathlib.Core.Path.{◌≡◌, refl, sym, ap, ◌∙◌, subst}
-use mathlib.Core.Bool.{Bool, true, false, cond}
+use mathlib.Core.Bool.{Bool, true, false, cond, ◌&&◌}
 use mathlib.Core.Logic.{◌⊎◌, inl, inr}
-use mathlib.Core.List.{List}
+use mathlib.Core.List.{List, [], ◌∷◌}
 use native.Mathlib.Nat.{add-mul, mul-one, mul_assoc, mul_comm, mul_right_comm, mul-pos, mul-le-mul, mul-le-mul_right, mul-lt-mul_of_pos_right, pow-suc, pow-succ', le_trans}
 use native.Mathlib.Nat.{le_of_eq, le_of_lt, le-add_right, lt_of_le_of_lt, lt_of_lt_of_le, lt_of_not-le, not-le_of_lt, lt_irrefl, le-div_iff_mul-le, div-lt_iff_lt-mul}
 use native.Mathlib.Numerals.{add-one}
 use native.Mathlib.Omega.{arith}
-use borrow.Author.Tests.{ltb-true, ltb-false, le-leb, lt-leb, eq-eqb, ne_eqb}
+use borrow.Author.Tests.{ltb-true, ltb-false, le-leb, lt-leb, ne_eqb}
 use lib.Arith.{digits_lt, digits_div, digits_mod}
 use lib.Dec.{T, is_le, compare_is_eq, leb, ltb, eqb, le→leb, leb→le, eqb→eq, eqb_refl, lit<}
 use lib.Ieee.{Float, binary32, size, nearest, units, round, of_bits}
@@ -19,42 +19,27 @@ use lib.Ieee.Digits.{size-lt, size-le}
 use lib.Ieee.Exact.{HasValue, units_val}
 use lib.Ieee.Fits.{nearest-le, round_is, round-fits}
 use lib.Ieee.Nearest.{closest, closest_same, nearest-ge}
-use lib.ListN.{length, get_or, drop, drop_of_length-le}
 use lib.Pow.{pow-add, pow_pos, pow_mono}
-use lib.Seq.{drop-cons}
 use Rattle.inspect.specs.Decimal.{number, Digits}
 use Rattle.inspect.specs.Private.{Times, Drawn}
 use Rattle.inspect.specs.Laws.Digits.{number-below}
 use Rattle.inspect.specs.Laws.Decimal.{unique}
 use Rattle.inspect.proofs.Values.{subnormal, normal}
 
--- ## All digits are 0
+-- ## A number is 0 where each digit is
 
--- while they are, the first i can be left out
-abbrev pub Blank : List ℕ → ℕ → Type 0
-Blank ds i = eqb (number ds) 0 ≡ eqb (number (drop i ds)) 0
+pub zero_none : eqb (number []) 0 ≡ true
+unfolding number
+zero_none = refl
 
-module _ (ds : List ℕ) (i : ℕ) (b : Blank ds i) where
-  front : i < length ds → number (drop i ds) ≡ get_or ds i 0 + 10 * number (drop (suc i) ds)
-  unfolding number
-  front l = ap number (drop-cons ds i 0 l)
-
-  pub blank_more : i < length ds → get_or ds i 0 ≡ 0 → Blank ds (i + 1)
-  blank_more l z = rw add-one (b ∙ ap (λ (n : ℕ). eqb n 0) (front l) ∙ tens (get_or ds i 0) (number (drop (suc i) ds)) z)
-    where
-      tens : (d n : ℕ) → d ≡ 0 → eqb (d + 10 * n) 0 ≡ eqb n 0
-      tens d zero z = eq-eqb (d + 10 * 0) 0 (omega arith) ∙ sym (eq-eqb 0 0 refl)
-      tens d (suc n) z = ne_eqb (d + 10 * suc n) 0 (λ e. omega arith) ∙ sym (ne_eqb (suc n) 0 (λ e. omega arith))
-
-  pub blank-not : i < length ds → (get_or ds i 0 ≡ 0 → ⊥) → false ≡ eqb (number ds) 0
-  blank-not l n = sym (b ∙ ap (λ (k : ℕ). eqb k 0) (front l) ∙ ne_eqb (get_or ds i 0 + 10 * number (drop (suc i) ds)) 0 (λ e. n (none (get_or ds i 0) (number (drop (suc i) ds)) e)))
-    where
-      none : (d n : ℕ) → d + 10 * n ≡ 0 → d ≡ 0
-      none d n e = omega arith
-
-  pub blank_all : length ds ≤ i → true ≡ eqb (number ds) 0
-  unfolding number
-  blank_all l = sym (b ∙ ap (λ (xs : List ℕ). eqb (number xs) 0) (drop_of_length-le ds {i = i} l) ∙ eq-eqb 0 0 refl)
+pub zero_step : (d : ℕ) (ds : List ℕ) → eqb (number (d ∷ ds)) 0 ≡ (eqb d 0 && eqb (number ds) 0)
+unfolding number
+zero_step d ds = go d (number ds)
+  where
+    go : (d n : ℕ) → eqb (d + 10 * n) 0 ≡ (eqb d 0 && eqb n 0)
+    go zero zero = refl
+    go zero (suc n) = ne_eqb (0 + 10 * suc n) 0 (λ e. omega arith) ∙ sym (ne_eqb (suc n) 0 (λ e. omega arith))
+    go (suc d) n = ne_eqb (suc d + 10 * n) 0 (λ e. omega arith) ∙ ap (λ (b : Bool). b && eqb n 0) (sym (ne_eqb (suc d) 0 (λ e. omega arith)))
 
 -- ## Drawing bits
 

@@ -1,37 +1,23 @@
 -- Powers beside a number: what one turn of a loop takes of them, how large they get, and how those of 2, 5 and 10 fit together. Assumes nothing.
 use Prim.Native.Nat.{ℕ, zero, suc, ◌+◌, ◌-◌, ◌*◌, ◌/◌, ◌%◌, ◌^◌, ◌≤◌, ◌<◌}
 use mathlib.Core.Path.{◌≡◌, refl, sym, ap, ◌∙◌, subst}
-use native.Mathlib.Nat.{pow-zero, pow-suc, one-le-pow, mul_assoc, mul_comm, mul_right_comm, mul-one, le-mul_of_pos_right, lt_of_le_of_lt}
+use native.Mathlib.Nat.{pow-suc, mul_assoc, mul_right_comm, mul-one, lt_of_le_of_lt, le_of_eq}
 use native.Mathlib.Nat.{eq_of_mul-eq-mul_right, mul-le-mul, le_of_lt, pow-le-pow_right}
 use native.Mathlib.Omega.{arith}
 use lib.Arith.{digits_mod}
 use lib.Dec.{lit<}
+use native.Mathlib.Numerals.{add-one}
 use lib.Pow.{pow-add}
 use Rattle.inspect.specs.Laws.Digits.{ten, fives_room}
 
--- a turn that multiplies takes one factor of the power
-once_more : (n by left : ℕ) → n * by ^ suc left ≡ n * by * by ^ left
-once_more n by left = ap (λ (k : ℕ). n * k) (pow-suc by left ∙ mul_comm (by ^ left) by) ∙ sym (mul_assoc n by (by ^ left))
-
-factor : (n by left t : ℕ) → 0 < left → n * by ^ left ≡ t → n * by * by ^ (left - 1) ≡ t
-factor n by zero t l e = absurd (omega arith)
-factor n by (suc left) t l e =
-    let back : suc left - 1 ≡ left = omega arith in
-    ap (λ (k : ℕ). n * by * by ^ k) back ∙ sym (once_more n by left) ∙ e
-
-pub once : (n m by left t : ℕ) → 0 < left → n * by ^ left ≡ t → m ≡ n * by + 0 → m * by ^ (left - 1) ≡ t
-once n m by left t l e new =
-    let same : m ≡ n * by = omega arith in
-    ap (λ (k : ℕ). k * by ^ (left - 1)) same ∙ factor n by left t l e
+-- a turn that multiplies takes one factor more
+pub more : (n by i : ℕ) → n * by ^ i * by ≡ n * by ^ (i + 1)
+more n by i = mul_assoc n (by ^ i) by ∙ ap (λ (k : ℕ). n * k) (sym (pow-suc by i)) ∙ ap (λ (k : ℕ). n * by ^ k) (sym (add-one i))
 
 -- while factors are left, there is room for the next
-pub room : (n by left t p : ℕ) → 0 < left → 2 ≤ by → n * by ^ left ≡ t → t < p → n * by + 0 < p
-room n by left t p l b e h =
-    let below : n * by < p = lt_of_le_of_lt (le-mul_of_pos_right (n * by) (one-le-pow (left - 1) by (omega arith))) (subst (λ (k : ℕ). k < p) (sym (factor n by left t l e)) h) in
-    omega arith
-
-pub finished : (n by left t : ℕ) → left ≡ 0 → n * by ^ left ≡ t → n ≡ t
-finished n by left t none e = sym (mul-one n) ∙ ap (λ (k : ℕ). n * k) (sym (pow-zero by)) ∙ ap (λ (k : ℕ). n * by ^ k) (sym none) ∙ e
+pub room : (n by i all p : ℕ) → i < all → 2 ≤ by → n * by ^ all < p → n * by ^ i * by < p
+room n by i all p l b h =
+    subst (λ (k : ℕ). k < p) (sym (more n by i)) (lt_of_le_of_lt (mul-le-mul (le_of_eq refl) (pow-le-pow_right (omega arith) (omega arith))) h)
 
 -- one factor of a power, last
 pub one_out : (n p : ℕ) → n * 2 ^ suc p ≡ n * 2 ^ p * 2

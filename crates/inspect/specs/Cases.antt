@@ -1,5 +1,5 @@
 -- Worked cases. Each list pairs what a definition gives with what it should give, and one proof by computation holds the whole list. Assumes nothing.
-use Rattle.std.specs.Prelude.{ℕ, ◌^◌, Bool, true, false, List, [], ◌∷◌, refl, Float, replicate}
+use Rattle.std.specs.Prelude.{ℕ, ◌^◌, Bool, true, false, List, [], ◌∷◌, Option, Some, None, Result, Ok, Err, refl, Float, replicate}
 use Rattle.std.specs.Float.{nan, binary32}
 use Rattle.std.specs.Float.Ieee.{of_bits, to_bits, round, lt, eq, neg}
 use Rattle.num.specs.Cases.{Hold}
@@ -21,17 +21,16 @@ use Rattle.inspect.specs.Hexadecimal.{digit_of, hex_of, decode_answer, decode_in
 use Rattle.inspect.specs.Layout.{widths_of, setting_in, end_of, in_record, field_from, field_of}
 use Rattle.inspect.specs.declared.decimal.Point.{Point}
 use Rattle.inspect.specs.declared.difference.Difference.{Difference}
-use Rattle.inspect.specs.declared.difference.Difference.TheVariants.{Alike, Length, Kind, Switch, Setting}
+use Rattle.inspect.specs.declared.difference.Difference.TheVariants.{Length, Kind, Switch, Setting}
 use Rattle.inspect.specs.declared.extent.Extent.{Extent}
-use Rattle.inspect.specs.declared.extent.Extent.TheVariants.{Sides, NoSize}
 use Rattle.inspect.specs.declared.layout.Field.{Field}
-use Rattle.inspect.specs.declared.hexadecimal.Decoded.{Decoded}
-use Rattle.inspect.specs.declared.hexadecimal.Decoded.TheVariants.{Bytes, Text, Long}
+use Rattle.inspect.specs.declared.hexadecimal.DecodeError.{DecodeError}
+use Rattle.inspect.specs.declared.hexadecimal.DecodeError.TheVariants.{NotHexadecimal, NoRoom}
 
 -- ## The first difference
 
 -- of the chains that two cards open
-abbrev pub between : List ℕ → List ℕ → Difference
+abbrev pub between : List ℕ → List ℕ → Option Difference
 between card other = difference_of (open_of card).station (open_of other).station
 
 -- a card of one pass: the second byte begins with its kind and its switch, and the bits of its one setting follow
@@ -39,13 +38,13 @@ abbrev single : (second third : ℕ) → List ℕ
 single second third = 0x11 ∷ second ∷ third ∷ 0 ∷ 0 ∷ 0 ∷ []
 
 -- Scanlines at 2.0 and at 1.0, at 0.5 and at 1.0; none and one pass; scanlines on and off; scanlines and vignette.
-abbrev pub of_cards : List (Difference × Difference)
+abbrev pub of_cards : List (Option Difference × Option Difference)
 of_cards =
-    (between (single 0xaa 0) (single 0xa9 0xfc), Alike)
-    ∷ (between (single 0xa9 0xf8) (single 0xa9 0xfc), Setting 0 0)
-    ∷ (between (0x10 ∷ []) (single 0xa9 0xfc), Length 0)
-    ∷ (between (single 0xa9 0xfc) (single 0xa1 0xfc), Switch 0)
-    ∷ (between (single 0xa9 0xfc) (single 0x99 0xfc), Kind 0)
+    (between (single 0xaa 0) (single 0xa9 0xfc), None)
+    ∷ (between (single 0xa9 0xf8) (single 0xa9 0xfc), Some (Setting 0 0))
+    ∷ (between (0x10 ∷ []) (single 0xa9 0xfc), Some (Length 0))
+    ∷ (between (single 0xa9 0xfc) (single 0xa1 0xfc), Some (Switch 0))
+    ∷ (between (single 0xa9 0xfc) (single 0x99 0xfc), Some (Kind 0))
     ∷ []
 
 pub of_cards_hold : Hold of_cards
@@ -61,18 +60,18 @@ abbrev glowing : ℕ → Record
 glowing radius = carded false (Bloom 128 c0_5 radius)
 
 -- of two chains, in stations as opened
-abbrev chains : List Record → List Record → Difference
+abbrev chains : List Record → List Record → Option Difference
 chains rs qs = difference_of (station_of rs) (station_of qs)
 
 -- The third setting of the first pass; one pass more; the first of two differences; 0 and -0, which differ in a bit; a NaN and itself.
-abbrev pub of_chains : List (Difference × Difference)
+abbrev pub of_chains : List (Option Difference × Option Difference)
 of_chains =
-    (chains (glowing 3 ∷ lines c1_0 ∷ []) (glowing 4 ∷ lines c1_0 ∷ []), Setting 0 2)
-    ∷ (chains (glowing 3 ∷ lines c1_0 ∷ []) (glowing 3 ∷ []), Length 1)
-    ∷ (chains (glowing 3 ∷ lines c1_0 ∷ []) (glowing 3 ∷ lines c0_5 ∷ []), Setting 1 0)
-    ∷ (chains (glowing 3 ∷ lines c1_0 ∷ []) (glowing 4 ∷ []), Setting 0 2)
-    ∷ (chains (lines c0_0 ∷ []) (lines (neg c0_0) ∷ []), Setting 0 0)
-    ∷ (chains (lines nan ∷ []) (lines nan ∷ []), Alike)
+    (chains (glowing 3 ∷ lines c1_0 ∷ []) (glowing 4 ∷ lines c1_0 ∷ []), Some (Setting 0 2))
+    ∷ (chains (glowing 3 ∷ lines c1_0 ∷ []) (glowing 3 ∷ []), Some (Length 1))
+    ∷ (chains (glowing 3 ∷ lines c1_0 ∷ []) (glowing 3 ∷ lines c0_5 ∷ []), Some (Setting 1 0))
+    ∷ (chains (glowing 3 ∷ lines c1_0 ∷ []) (glowing 4 ∷ []), Some (Setting 0 2))
+    ∷ (chains (lines c0_0 ∷ []) (lines (neg c0_0) ∷ []), Some (Setting 0 0))
+    ∷ (chains (lines nan ∷ []) (lines nan ∷ []), None)
     ∷ []
 
 pub of_chains_hold : Hold of_chains
@@ -102,7 +101,7 @@ pub digits_hold : Hold digits
 digits_hold = refl
 
 -- the answer, and what is left of a buffer of n sevens
-abbrev pub decoded : List ℕ → ℕ → Decoded × List ℕ
+abbrev pub decoded : List ℕ → ℕ → Result ℕ DecodeError × List ℕ
 decoded text n = (decode_answer text (replicate n 7), decode_into text (replicate n 7))
 
 -- `11 a9F800 00 00`: scanlines at 0.5
@@ -111,18 +110,18 @@ half = 49 ∷ 49 ∷ 32 ∷ 97 ∷ 57 ∷ 70 ∷ 56 ∷ 48 ∷ 48 ∷ 32 ∷ 48 
 
 -- The card, with room to spare, with just enough, and with a byte too little; nothing; two spaces; a pair between spaces; a
 -- lone digit; `1g`; `1 1`; a pair and a lone digit.
-abbrev pub texts : List ((Decoded × List ℕ) × (Decoded × List ℕ))
+abbrev pub texts : List ((Result ℕ DecodeError × List ℕ) × (Result ℕ DecodeError × List ℕ))
 texts =
-    (decoded half 8, (Bytes 6, 0x11 ∷ 0xa9 ∷ 0xf8 ∷ 0 ∷ 0 ∷ 0 ∷ 7 ∷ 7 ∷ []))
-    ∷ (decoded half 6, (Bytes 6, 0x11 ∷ 0xa9 ∷ 0xf8 ∷ 0 ∷ 0 ∷ 0 ∷ []))
-    ∷ (decoded half 5, (Long, replicate 5 7))
-    ∷ (decoded [] 2, (Bytes 0, replicate 2 7))
-    ∷ (decoded (32 ∷ 32 ∷ []) 2, (Bytes 0, replicate 2 7))
-    ∷ (decoded (32 ∷ 49 ∷ 49 ∷ 32 ∷ []) 2, (Bytes 1, 0x11 ∷ 7 ∷ []))
-    ∷ (decoded (49 ∷ []) 2, (Text, replicate 2 7))
-    ∷ (decoded (49 ∷ 103 ∷ []) 2, (Text, replicate 2 7))
-    ∷ (decoded (49 ∷ 32 ∷ 49 ∷ []) 2, (Text, replicate 2 7))
-    ∷ (decoded (49 ∷ 49 ∷ 49 ∷ []) 2, (Text, replicate 2 7))
+    (decoded half 8, (Ok 6, 0x11 ∷ 0xa9 ∷ 0xf8 ∷ 0 ∷ 0 ∷ 0 ∷ 7 ∷ 7 ∷ []))
+    ∷ (decoded half 6, (Ok 6, 0x11 ∷ 0xa9 ∷ 0xf8 ∷ 0 ∷ 0 ∷ 0 ∷ []))
+    ∷ (decoded half 5, (Err NoRoom, replicate 5 7))
+    ∷ (decoded [] 2, (Ok 0, replicate 2 7))
+    ∷ (decoded (32 ∷ 32 ∷ []) 2, (Ok 0, replicate 2 7))
+    ∷ (decoded (32 ∷ 49 ∷ 49 ∷ 32 ∷ []) 2, (Ok 1, 0x11 ∷ 7 ∷ []))
+    ∷ (decoded (49 ∷ []) 2, (Err NotHexadecimal, replicate 2 7))
+    ∷ (decoded (49 ∷ 103 ∷ []) 2, (Err NotHexadecimal, replicate 2 7))
+    ∷ (decoded (49 ∷ 32 ∷ 49 ∷ []) 2, (Err NotHexadecimal, replicate 2 7))
+    ∷ (decoded (49 ∷ 49 ∷ 49 ∷ []) 2, (Err NotHexadecimal, replicate 2 7))
     ∷ []
 
 pub texts_hold : Hold texts
@@ -179,27 +178,27 @@ nears_hold = refl
 
 -- `640x480`, `0640x00480`, `1x1024`; `1025x1`, `1x1025`, `0x1`, `1x0`, `640x`, `x480`, `640`, nothing, `1x2x3`, `x1x2`, ` 1x2`, `1x2 `, `1X2`, `Ax2`, `+1x2`,
 -- and 2 ^ 64 + 1 for the width
-abbrev pub sizes : List (Extent × Extent)
+abbrev pub sizes : List (Option Extent × Option Extent)
 sizes =
-    (extent_of (54 ∷ 52 ∷ 48 ∷ 120 ∷ 52 ∷ 56 ∷ 48 ∷ []), Sides 640 480)
-    ∷ (extent_of (48 ∷ 54 ∷ 52 ∷ 48 ∷ 120 ∷ 48 ∷ 48 ∷ 52 ∷ 56 ∷ 48 ∷ []), Sides 640 480)
-    ∷ (extent_of (49 ∷ 120 ∷ 49 ∷ 48 ∷ 50 ∷ 52 ∷ []), Sides 1 1024)
-    ∷ (extent_of (49 ∷ 48 ∷ 50 ∷ 53 ∷ 120 ∷ 49 ∷ []), NoSize)
-    ∷ (extent_of (49 ∷ 120 ∷ 49 ∷ 48 ∷ 50 ∷ 53 ∷ []), NoSize)
-    ∷ (extent_of (48 ∷ 120 ∷ 49 ∷ []), NoSize)
-    ∷ (extent_of (49 ∷ 120 ∷ 48 ∷ []), NoSize)
-    ∷ (extent_of (54 ∷ 52 ∷ 48 ∷ 120 ∷ []), NoSize)
-    ∷ (extent_of (120 ∷ 52 ∷ 56 ∷ 48 ∷ []), NoSize)
-    ∷ (extent_of (54 ∷ 52 ∷ 48 ∷ []), NoSize)
-    ∷ (extent_of [], NoSize)
-    ∷ (extent_of (49 ∷ 120 ∷ 50 ∷ 120 ∷ 51 ∷ []), NoSize)
-    ∷ (extent_of (120 ∷ 49 ∷ 120 ∷ 50 ∷ []), NoSize)
-    ∷ (extent_of (32 ∷ 49 ∷ 120 ∷ 50 ∷ []), NoSize)
-    ∷ (extent_of (49 ∷ 120 ∷ 50 ∷ 32 ∷ []), NoSize)
-    ∷ (extent_of (49 ∷ 88 ∷ 50 ∷ []), NoSize)
-    ∷ (extent_of (65 ∷ 120 ∷ 50 ∷ []), NoSize)
-    ∷ (extent_of (43 ∷ 49 ∷ 120 ∷ 50 ∷ []), NoSize)
-    ∷ (extent_of (49 ∷ 56 ∷ 52 ∷ 52 ∷ 54 ∷ 55 ∷ 52 ∷ 52 ∷ 48 ∷ 55 ∷ 51 ∷ 55 ∷ 48 ∷ 57 ∷ 53 ∷ 53 ∷ 49 ∷ 54 ∷ 49 ∷ 55 ∷ 120 ∷ 49 ∷ []), NoSize)
+    (extent_of (54 ∷ 52 ∷ 48 ∷ 120 ∷ 52 ∷ 56 ∷ 48 ∷ []), Some (record { width = 640; height = 480 }))
+    ∷ (extent_of (48 ∷ 54 ∷ 52 ∷ 48 ∷ 120 ∷ 48 ∷ 48 ∷ 52 ∷ 56 ∷ 48 ∷ []), Some (record { width = 640; height = 480 }))
+    ∷ (extent_of (49 ∷ 120 ∷ 49 ∷ 48 ∷ 50 ∷ 52 ∷ []), Some (record { width = 1; height = 1024 }))
+    ∷ (extent_of (49 ∷ 48 ∷ 50 ∷ 53 ∷ 120 ∷ 49 ∷ []), None)
+    ∷ (extent_of (49 ∷ 120 ∷ 49 ∷ 48 ∷ 50 ∷ 53 ∷ []), None)
+    ∷ (extent_of (48 ∷ 120 ∷ 49 ∷ []), None)
+    ∷ (extent_of (49 ∷ 120 ∷ 48 ∷ []), None)
+    ∷ (extent_of (54 ∷ 52 ∷ 48 ∷ 120 ∷ []), None)
+    ∷ (extent_of (120 ∷ 52 ∷ 56 ∷ 48 ∷ []), None)
+    ∷ (extent_of (54 ∷ 52 ∷ 48 ∷ []), None)
+    ∷ (extent_of [], None)
+    ∷ (extent_of (49 ∷ 120 ∷ 50 ∷ 120 ∷ 51 ∷ []), None)
+    ∷ (extent_of (120 ∷ 49 ∷ 120 ∷ 50 ∷ []), None)
+    ∷ (extent_of (32 ∷ 49 ∷ 120 ∷ 50 ∷ []), None)
+    ∷ (extent_of (49 ∷ 120 ∷ 50 ∷ 32 ∷ []), None)
+    ∷ (extent_of (49 ∷ 88 ∷ 50 ∷ []), None)
+    ∷ (extent_of (65 ∷ 120 ∷ 50 ∷ []), None)
+    ∷ (extent_of (43 ∷ 49 ∷ 120 ∷ 50 ∷ []), None)
+    ∷ (extent_of (49 ∷ 56 ∷ 52 ∷ 52 ∷ 54 ∷ 55 ∷ 52 ∷ 52 ∷ 48 ∷ 55 ∷ 51 ∷ 55 ∷ 48 ∷ 57 ∷ 53 ∷ 53 ∷ 49 ∷ 54 ∷ 49 ∷ 55 ∷ 120 ∷ 49 ∷ []), None)
     ∷ []
 
 pub sizes_hold : Hold sizes

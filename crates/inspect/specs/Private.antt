@@ -1,29 +1,45 @@
 -- What private functions promise one another; cited by no public contract. Assumes nothing.
-use Rattle.std.specs.Prelude.{ℕ, ◌+◌, ◌*◌, ◌%◌, ◌^◌, ◌<◌, ◌≤◌, cond, ◌&&◌, List, [], ◌∷◌, ◌≡◌, eqb, leb, length}
+use Rattle.std.specs.Prelude.{ℕ, ◌+◌, ◌*◌, ◌%◌, ◌^◌, ◌<◌, ◌≤◌, Bool, true, false, cond, ◌&&◌, List, [], ◌∷◌, ◌≡◌, eqb, leb, length}
 use Rattle.std.specs.Float.{binary32}
 use Rattle.std.specs.Float.Ieee.{of_bits}
 use Rattle.std.specs.Float.Ieee.Exact.{HasValue}
 use Rattle.inspect.specs.Decimal.{number, Digits}
-use Rattle.inspect.specs.Hexadecimal.{Hex, bytes, none, digit_of, is_digit, space}
+use Rattle.std.specs.Prelude.{Option, Some, None, option_map}
+use Rattle.inspect.specs.Hexadecimal.{Hex, digit_of, is_digit, space}
+use Rattle.inspect.specs.Difference.{same_setting}
+use Rattle.inspect.specs.declared.settings.Setting.{Setting}
+use Rattle.inspect.specs.declared.extent.Reading.{Reading}
+use Rattle.inspect.specs.declared.extent.Reading.TheVariants.{Width, Height}
 use Rattle.inspect.specs.declared.hexadecimal.Token.{Token}
-use Rattle.inspect.specs.declared.hexadecimal.Token.TheVariants.{Space, Pair, Other}
-use Rattle.inspect.specs.declared.hexadecimal.Counted.{Counted}
-use Rattle.inspect.specs.declared.hexadecimal.Counted.TheVariants.{Bytes, Text}
+use Rattle.inspect.specs.declared.hexadecimal.Token.TheVariants.{Space, Pair}
 
 -- ## Hexadecimal text
 
-abbrev pub pair_of : ℕ → ℕ → Token
-pair_of a b = cond (is_digit a && is_digit b) (Pair (digit_of a * 16 + digit_of b)) Other
+-- the value of a digit, if it is one
+abbrev pub value_of : ℕ → Option ℕ
+value_of c = cond (is_digit c) (Some (digit_of c)) None
+
+abbrev pub pair_of : ℕ → ℕ → Option ℕ
+pair_of a b = cond (is_digit a && is_digit b) (Some (digit_of a * 16 + digit_of b)) None
 
 -- what a text begins with
-abbrev pub token_of : List ℕ → Token
-token_of [] = Other
-token_of (a ∷ []) = cond (eqb a space) Space Other
-token_of (a ∷ b ∷ rest) = cond (eqb a space) Space (pair_of a b)
+abbrev pub token_of : List ℕ → Option Token
+token_of [] = None
+token_of (a ∷ []) = cond (eqb a space) (Some Space) None
+token_of (a ∷ b ∷ rest) = cond (eqb a space) (Some Space) (option_map Pair (pair_of a b))
 
-abbrev pub count_of : Hex → Counted
-count_of (bytes bs) = Bytes (length bs)
-count_of none = Text
+abbrev pub count_of : Hex → Option ℕ
+count_of (Some bs) = Some (length bs)
+count_of None = None
+
+-- ## The first difference
+
+-- whether two settings are the same, or neither is there
+abbrev pub same_place : Option Setting → Option Setting → Bool
+same_place (Some x) (Some y) = same_setting x y
+same_place (Some x) None = false
+same_place None (Some y) = false
+same_place None None = true
 
 -- ## Decimal digits
 
@@ -50,3 +66,10 @@ pub record Written (n places : ℕ) (ds : List ℕ) : Type 0 where
 -- n units are the size of the value whose pattern is b without its sign; a unit is the smallest positive value, 2 ^ -149
 abbrev pub Units : ℕ → ℕ → Type 0
 Units b n = (bits : ℕ) → bits % 2 ^ 31 ≡ b → HasValue (of_bits binary32 bits) (leb (2 ^ 31) bits) n (2 ^ 149)
+
+-- ## A size in words
+
+-- the number that is being read
+abbrev pub present : Reading → ℕ
+present (Width width) = width
+present (Height width height) = height

@@ -1,9 +1,9 @@
 -- The settings of a pass, in the card's order. Assumes nothing.
-use Rattle.std.specs.Prelude.{ℕ, List, [], ◌∷◌, get_or}
+use Rattle.std.specs.Prelude.{ℕ, List, [], ◌∷◌, Option, slice_get}
 use Rattle.cards.specs.declared.station.Pass.{Pass}
 use Rattle.cards.specs.declared.station.Pass.TheVariants.{Ntsc, Bloom, AutoGradient, Persistence, Lut, Curvature, ColorCorrection, Crt, Vignette, Scanlines}
 use Rattle.inspect.specs.declared.settings.Setting.{Setting}
-use Rattle.inspect.specs.declared.settings.Setting.TheVariants.{Real, Whole, Absent}
+use Rattle.inspect.specs.declared.settings.Setting.TheVariants.{Real, Whole}
 
 abbrev pub settings_of : Pass → List Setting
 settings_of (Ntsc strength bleed) = Real strength ∷ Whole bleed ∷ []
@@ -17,9 +17,6 @@ settings_of (Crt strength) = Real strength ∷ []
 settings_of (Vignette strength) = Real strength ∷ []
 settings_of (Scanlines strength) = Real strength ∷ []
 
--- the setting at place j, counted from 0
-abbrev pub placed : ℕ → List Setting → Setting
-placed j l = get_or l j Absent
-
-abbrev pub setting_of : Pass → ℕ → Setting
-setting_of p j = placed j (settings_of p)
+-- the setting at place j, counted from 0, if there is one
+abbrev pub setting_of : Pass → ℕ → Option Setting
+setting_of p j = slice_get (settings_of p) j

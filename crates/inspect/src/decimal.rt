@@ -12,12 +12,10 @@ pub(crate) fn times(digits: &mut [u8], by: u8, more: u8) -> u8
     ensures { Times by more digits.old result digits.new }
 {
     let mut carry = more;
-    let mut i: usize = 0;
-    while i < 150 {
-        let v = digits[i] * by + carry;
-        digits[i] = v % 10;
+    for digit in digits.iter_mut() {
+        let v = *digit * by + carry;
+        *digit = v % 10;
         carry = v / 10;
-        i += 1;
     }
     carry
 }
@@ -27,10 +25,8 @@ fn scale(digits: &mut [u8], by: u8, again: usize)
     requires { Digits digits.old × (2 ≤ by) × (by ≤ 5) × (number digits.old * by ^ again < 10 ^ 150) }
     ensures { Digits digits.new × (number digits.new ≡ number digits.old * by ^ again) }
 {
-    let mut left = again;
-    while 0 < left {
+    for _ in 0..again {
         times(digits, by, 0);
-        left -= 1;
     }
 }
 
@@ -40,11 +36,9 @@ fn spell(digits: &mut [u8], m: u32)
     ensures { Digits digits.new × (number digits.new ≡ m) }
 {
     let mut rest = m;
-    let mut i: usize = 0;
-    while i < 150 {
-        digits[i] = (rest % 10) as u8;
-        rest = rest / 10;
-        i += 1;
+    for digit in digits.iter_mut() {
+        *digit = (rest % 10) as u8;
+        rest /= 10;
     }
 }
 
@@ -59,16 +53,13 @@ struct Fraction {
 fn reduced(n: u32, p: usize) -> Fraction
     ensures { (result.p ≤ p) × (result.n ≤ n) × (result.n * 2 ^ p ≡ n * 2 ^ result.p) × (0 < result.p → result.n % 2 ≡ 1) }
 {
-    let mut m = n;
-    let mut q = p;
-    while 0 < q {
-        if m % 2 == 1 {
-            return Fraction { n: m, p: q };
-        }
-        m = m / 2;
-        q -= 1;
+    let mut n = n;
+    let mut p = p;
+    while 0 < p && n % 2 == 0 {
+        n /= 2;
+        p -= 1;
     }
-    Fraction { n: m, p: q }
+    Fraction { n, p }
 }
 
 // A finite pattern without its sign: m * 2^e units, a unit being the smallest positive value, 2^-149.
@@ -101,9 +92,8 @@ fn units(digits: &mut [u8], m: u32, e: usize) -> usize
         scale(digits, 2, e - 149);
         return 0;
     }
-    let f = reduced(m, 149 - e);
-    let p = f.p;
-    spell(digits, f.n);
+    let Fraction { n, p } = reduced(m, 149 - e);
+    spell(digits, n);
     scale(digits, 5, p);
     p
 }
@@ -131,8 +121,8 @@ pub fn exact(x: f32, digits: &mut [u8; 150]) -> Point
             places: 0,
         };
     }
-    let v = decode(b);
-    let places = units(digits, v.m, v.e);
+    let Parts { m, e } = decode(b);
+    let places = units(digits, m, e);
     Point {
         negative: 0x8000_0000 <= bits,
         places,

@@ -1,7 +1,7 @@
 // The field of a card that a bit lies in, by the card's layout: which pass it belongs to, and what of it. What the fields hold does not matter, but for
 // the kinds and the number of passes.
 ghost use Rattle.std.specs.Prelude.{◌≡◌, ◌+◌, ◌<◌, ◌≤◌, ◌^◌};
-ghost use Rattle.inspect.specs.Layout.{Narrow, nibble_at, widths_of, setting_in, end_of, in_record, field_of};
+ghost use Rattle.inspect.specs.Layout.{Narrow, wide, nibble_at, widths_of, setting_in, end_of, in_record, field_of};
 
 use cards::fields::{ByteRead, byte};
 
@@ -30,53 +30,29 @@ struct Widths {
     fourth: usize,
 }
 
-// By document 01's table.
+fn wide(first: usize, second: usize, third: usize, fourth: usize) -> Widths
+    ensures { result ≡ wide first second third fourth }
+{
+    Widths {
+        first,
+        second,
+        third,
+        fourth,
+    }
+}
+
+// By document 01's table. A card may have any four bits for a kind, so it stays a number here.
 fn bits_of(kind: u8) -> Widths
     ensures { (result ≡ widths_of kind) × Narrow result }
 {
     match kind {
-        1 => Widths {
-            first: 32,
-            second: 8,
-            third: 0,
-            fourth: 0,
-        },
-        2 => Widths {
-            first: 8,
-            second: 32,
-            third: 8,
-            fourth: 0,
-        },
-        3 => Widths {
-            first: 32,
-            second: 32,
-            third: 32,
-            fourth: 0,
-        },
-        4 => Widths {
-            first: 32,
-            second: 8,
-            third: 0,
-            fourth: 0,
-        },
-        5 => Widths {
-            first: 3,
-            second: 32,
-            third: 0,
-            fourth: 0,
-        },
-        7 => Widths {
-            first: 32,
-            second: 32,
-            third: 32,
-            fourth: 32,
-        },
-        _ => Widths {
-            first: 32,
-            second: 0,
-            third: 0,
-            fourth: 0,
-        },
+        1 => wide(32, 8, 0, 0),
+        2 => wide(8, 32, 8, 0),
+        3 => wide(32, 32, 32, 0),
+        4 => wide(32, 8, 0, 0),
+        5 => wide(3, 32, 0, 0),
+        7 => wide(32, 32, 32, 32),
+        _ => wide(32, 0, 0, 0),
     }
 }
 
@@ -86,15 +62,14 @@ fn setting_in(w: Widths, bit: usize) -> usize
     ensures { result ≡ setting_in w bit }
 {
     if bit < w.first {
-        return 0;
+        0
+    } else if bit < w.first + w.second {
+        1
+    } else if bit < w.first + w.second + w.third {
+        2
+    } else {
+        3
     }
-    if bit < w.first + w.second {
-        return 1;
-    }
-    if bit < w.first + w.second + w.third {
-        return 2;
-    }
-    3
 }
 
 // Four bits; 0 where the card ends before or inside them.
@@ -143,15 +118,13 @@ pub fn field_at(card: &[u8], at: usize) -> Field
     }
     let n = nibble(card, 4) as usize;
     let mut p = 8;
-    let mut i = 0;
-    while i < n {
+    for i in 0..n {
         let kind = nibble(card, p);
         let next = end(p, kind);
         if at < next {
             return in_record(i, kind, p, at);
         }
         p = next;
-        i += 1;
     }
     Field::Rest
 }

@@ -15,14 +15,7 @@ fn is_zero(digits: &[u8]) -> bool
     requires { length digits.now ≡ 150 }
     ensures { result ≡ eqb (number digits.now) 0 }
 {
-    let mut i: usize = 0;
-    while i < 150 {
-        if digits[i] != 0 {
-            return false;
-        }
-        i += 1;
-    }
-    true
+    digits.iter().all(|digit| *digit == 0)
 }
 
 // The leading bits of a number, k of them from behind the point.

@@ -1,44 +1,29 @@
 // The settings of a pass, one by one, in the card's order.
-ghost use Rattle.std.specs.Prelude.{◌≡◌, [], ◌∷◌};
-ghost use Rattle.inspect.specs.Settings.{setting_of, placed};
+ghost use Rattle.std.specs.Prelude.{◌≡◌, slice_get};
+ghost use Rattle.inspect.specs.Settings.{setting_of};
 
 use cards::station::Pass;
 
-// A binary32 number, a whole number, or none where the pass has no setting.
+// A binary32 number, or a whole number.
 #[derive(Clone, Copy)]
 pub enum Setting {
     Real(f32),
     Whole(u8),
-    Absent,
 }
 
-// The setting at place j of four.
-fn place(j: usize, a: Setting, b: Setting, c: Setting, d: Setting) -> Setting
-    ensures { result ≡ placed j (a ∷ b ∷ c ∷ d ∷ []) }
+fn place(settings: &[Setting], j: usize) -> Option<Setting>
+    ensures { result ≡ slice_get settings.now j }
 {
-    match j {
-        0 => a,
-        1 => b,
-        2 => c,
-        3 => d,
-        _ => Setting::Absent,
-    }
+    settings.get(j).copied()
 }
 
-// The setting at place j of a pass, counted from 0.
-pub fn setting_at(pass: Pass, j: usize) -> Setting
+// The setting at place j of a pass, counted from 0, if it has so many.
+pub fn setting_at(pass: Pass, j: usize) -> Option<Setting>
     ensures { result ≡ setting_of pass j }
 {
-    let none = Setting::Absent;
     match pass {
         Pass::Ntsc { strength, bleed } => {
-            place(
-                j,
-                Setting::Real(strength),
-                Setting::Whole(bleed),
-                none,
-                none,
-            )
+            place(&[Setting::Real(strength), Setting::Whole(bleed)], j)
         }
         Pass::Bloom {
             threshold,
@@ -46,11 +31,12 @@ pub fn setting_at(pass: Pass, j: usize) -> Setting
             radius,
         } => {
             place(
+                &[
+                    Setting::Whole(threshold),
+                    Setting::Real(strength),
+                    Setting::Whole(radius),
+                ],
                 j,
-                Setting::Whole(threshold),
-                Setting::Real(strength),
-                Setting::Whole(radius),
-                none,
             )
         }
         Pass::AutoGradient {
@@ -59,26 +45,21 @@ pub fn setting_at(pass: Pass, j: usize) -> Setting
             horizontal,
         } => {
             place(
+                &[
+                    Setting::Real(strength),
+                    Setting::Real(vertical),
+                    Setting::Real(horizontal),
+                ],
                 j,
-                Setting::Real(strength),
-                Setting::Real(vertical),
-                Setting::Real(horizontal),
-                none,
             )
         }
         Pass::Persistence { amount, depth } => {
-            place(j, Setting::Real(amount), Setting::Whole(depth), none, none)
+            place(&[Setting::Real(amount), Setting::Whole(depth)], j)
         }
         Pass::Lut { preset, strength } => {
-            place(
-                j,
-                Setting::Whole(preset),
-                Setting::Real(strength),
-                none,
-                none,
-            )
+            place(&[Setting::Whole(preset), Setting::Real(strength)], j)
         }
-        Pass::Curvature { amount } => { place(j, Setting::Real(amount), none, none, none) }
+        Pass::Curvature { amount } => place(&[Setting::Real(amount)], j),
         Pass::ColorCorrection {
             brightness,
             contrast,
@@ -86,15 +67,17 @@ pub fn setting_at(pass: Pass, j: usize) -> Setting
             gamma,
         } => {
             place(
+                &[
+                    Setting::Real(brightness),
+                    Setting::Real(contrast),
+                    Setting::Real(saturation),
+                    Setting::Real(gamma),
+                ],
                 j,
-                Setting::Real(brightness),
-                Setting::Real(contrast),
-                Setting::Real(saturation),
-                Setting::Real(gamma),
             )
         }
-        Pass::Crt { strength } => { place(j, Setting::Real(strength), none, none, none) }
-        Pass::Vignette { strength } => { place(j, Setting::Real(strength), none, none, none) }
-        Pass::Scanlines { strength } => { place(j, Setting::Real(strength), none, none, none) }
+        Pass::Crt { strength } => place(&[Setting::Real(strength)], j),
+        Pass::Vignette { strength } => place(&[Setting::Real(strength)], j),
+        Pass::Scanlines { strength } => place(&[Setting::Real(strength)], j),
     }
 }

@@ -2,8 +2,8 @@
 // of two, the digits are scaled by their leading zeros, their whole root is found digit by digit, and the two are put together
 // again. The roots of many values are found side by side, two digits of each in a pass over all: a digit waits for the one
 // before it, and the values do not wait for one another. There is no table, and no product, quotient or remainder of two
-// variables: `oracle/products` searches for them. Definition: specs/Root.antt; that it is the nearest value:
-// specs/NearestRoot.antt.
+// variables: `oracle/products` searches for them. It lets no function of std by but `len`, so the loops go by a number and not by
+// `iter_mut`, and zeros are not written by `fill`. Definition: specs/Root.antt; that it is the nearest value: specs/NearestRoot.antt.
 ghost use Rattle.std.specs.Prelude.{◌≡◌, false, ◌+◌, ◌-◌, ◌*◌, ◌/◌, ◌^◌, ◌≤◌, ◌<◌, length};
 ghost use Rattle.std.specs.Float.{binary32};
 ghost use Rattle.std.specs.Float.Ieee.{of_bits};
@@ -83,22 +83,18 @@ fn begin(rest: &mut [u32], power: &mut [u32], xs: &[f32])
     requires { (length rest.old ≡ length xs.now) × (length power.old ≡ length xs.now) }
     ensures { AllReadied xs.now rest.new power.new }
 {
-    let mut i = 0;
-    while i < xs.len() {
+    for i in 0..xs.len() {
         let v = ready(xs[i]);
         rest[i] = v.digits;
         power[i] = v.power;
-        i += 1;
     }
 }
 
 fn clear(line: &mut [u32])
     ensures { line.new ≡ fill (λ i. 0) line.old }
 {
-    let mut i = 0;
-    while i < line.len() {
+    for i in 0..line.len() {
         line[i] = 0;
-        i += 1;
     }
 }
 
@@ -134,19 +130,14 @@ fn digits(rest: &mut [u32], twice: &mut [u32], place: u32)
     requires { AllDigits (4 * place) rest.old twice.old }
     ensures { MoreDigits place rest.old twice.old rest.new twice.new }
 {
-    let mut i = 0;
-    while i < rest.len() {
-        let first = turn(
-            Found {
-                rest: rest[i],
-                twice: twice[i],
-            },
-            place + place,
-        );
-        let second = turn(first, place);
-        rest[i] = second.rest;
-        twice[i] = second.twice;
-        i += 1;
+    for i in 0..rest.len() {
+        let found = Found {
+            rest: rest[i],
+            twice: twice[i],
+        };
+        let found = turn(turn(found, place + place), place);
+        rest[i] = found.rest;
+        twice[i] = found.twice;
     }
 }
 
@@ -158,10 +149,8 @@ fn whole_roots(rest: &mut [u32], twice: &mut [u32])
 {
     clear(twice);
     let mut place = 0x400_0000u32;
-    let mut left = 13u32;
-    while 0 < left {
-        left -= 1;
-        place = place / 4;
+    for _pass in 0..13u32 {
+        place /= 4;
         digits(rest, twice, place);
     }
 }
@@ -180,10 +169,8 @@ fn finish(xs: &mut [f32], twice: &[u32], power: &[u32])
     requires { AllAnswer xs.old twice.now power.now }
     ensures { xs.new ≡ every (λ i. root_of) xs.old }
 {
-    let mut i = 0;
-    while i < xs.len() {
+    for i in 0..xs.len() {
         xs[i] = put(xs[i], twice[i], power[i]);
-        i += 1;
     }
 }
 

@@ -1,11 +1,11 @@
 -- The blur's offsets: which places take a sample, and the sums one offset further; local lines. Assumes nothing.
-use Rattle.std.proofs.Common.{◌≡◌, ℕ, zero, suc, ◌+◌, ◌-◌, ◌*◌, ◌<◌, ◌≤◌, Bool, true, false, ltb, leb, List, ◌++◌, length, take, drop, sym, refl, ap, ◌∙◌, add-zero, add-suc, add-one, arith, lit≤, length-take-le, get_or-drop, get_or-take, ltb-true}
+use Rattle.std.proofs.Common.{◌≡◌, ℕ, zero, suc, ◌+◌, ◌-◌, ◌*◌, ◌<◌, ◌≤◌, Bool, true, false, ltb, leb, List, ◌++◌, length, take, drop, sym, refl, ap, ◌∙◌, add-zero, zero-add, add-suc, add-one, arith, lit≤, length-take-le, get_or-drop, get_or-take, ltb-true}
 use native.Mathlib.Decide.{dec_lt}
 use lib.Ieee.{Float, nan}
 use Rattle.num.specs.Laws.Bools.{both}
 use Rattle.num.specs.F32.{◌⊕◌, ◌⊗◌}
 use Rattle.num.specs.Rewrite.{rewrite, every, fill}
-use Rattle.num.specs.Laws.Rewrite.{Rewritten, length-rewrite, rewrite_ext, rewrite_same, rewrite-stop}
+use Rattle.num.specs.Laws.Rewrite.{Rewritten, none, length-rewrite, rewrite_ext, rewrite_same, rewrite-stop}
 use Rattle.num.specs.Laws.Rewrite.{get_d_rewrite, get_d_fill, mid, part}
 use Rattle.passes.specs as Text
 use Rattle.passes.specs.Laws.Samples.{inside_yes, inside-left, inside_right}
@@ -182,12 +182,17 @@ pub front : (line : List Float) (n w : ℕ) → length line ≡ n → w ≤ n �
 front line n w e h = length-take-le w line (omega arith)
 
 -- n places that were filled by f
-pub begun : {places n x : ℕ} {f : ℕ → Float} {before line : List Float} → length before ≡ places → n ≤ places → n ≤ x → Rewritten x (λ k v. f k) before line
+begun : {places n x : ℕ} {f : ℕ → Float} {before line : List Float} → length before ≡ places → n ≤ places → n ≤ x → Rewritten x (λ k v. f k) before line
     → Begins places n f line
 begun {places} {n} {x} {f} {before} e l h t = record {
   long = t.kept ∙ e;
   value = λ k m. ap (λ (z : List Float). at z k) t.done ∙ get_d_rewrite x (λ k v. f k) before k nan (omega arith) (omega arith);
 }
+
+-- a line whose front was lent and came back filled
+pub begins : {places : ℕ} {f : ℕ → Float} {new : List Float} (line : List Float) (n : ℕ) → length line ≡ places → n ≤ places → new ≡ fill f (take n line)
+    → Begins places n f (new ++ drop n line)
+begins line n e l h = begun e l (omega arith) (part n _ _ (none _ _) (omega arith) (λ x v l. rw zero-add) h)
 
 -- its sums of weights, where they are lent
 pub weight-at : (line : List Float) (n radius x : ℕ) → Begins 1024 n (weight_sum n radius) line → x < n → at (take n line) x ≡ weight_sum n radius x

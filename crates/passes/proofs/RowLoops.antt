@@ -66,5 +66,26 @@ module _ {A : Type 0} where
     pub rows_all : h ≤ y → ys ≡ rewrite (length xs) (placed w f) xs
     rows_all l = all t.so_far (omega (arith, t.begins, t.so_far.kept, t.area, ap (λ (i : ℕ). i * w) (le_antisymm t.rows l)))
 
--- one row more, once the loop's row has come back
-pub ruleset row-loop = (row_done)
+-- The same where a loop counts the rows alone: row y begins at word y * w.
+module _ {A : Type 0} where
+  abbrev pub Rows : (w h y : ℕ) (f : ℕ → ℕ → A → A) (xs ys : List A) → Type 0
+  Rows w h y f xs ys = Rowed w h y (y * w) f xs ys
+
+  pub begin_rows : {w h : ℕ} {xs : List A} (f : ℕ → ℕ → A → A) → length xs ≡ h * w → Rows w h 0 f xs xs
+  begin_rows {w} {h} {xs} f s = subst (λ (k : ℕ). Rowed w h 0 k f xs xs) (sym (zero-mul w)) (no_rows f s)
+
+  pub next_row_by : {w h y : ℕ} {f : ℕ → ℕ → A → A} {xs ys : List A} → Rows w h y f xs ys → (g : ℕ → A → A) (new : List A) → y < h
+      → ((x : ℕ) (p : A) → x < w → g x p ≡ f x y p)
+      → new ≡ every g (take (y * w + w - y * w) (drop (y * w) ys))
+      → Rows w h (y + 1) f xs (take (y * w) ys ++ (new ++ drop (y * w + w - y * w) (drop (y * w) ys)))
+  next_row_by {w} {h} {y} {f} {xs} {ys} t g new l same e =
+      subst (λ (k : ℕ). Rowed w h (y + 1) k f xs (take (y * w) ys ++ (new ++ drop (y * w + w - y * w) (drop (y * w) ys))))
+      (sym (suc-mul y w) ∙ ap (λ (i : ℕ). i * w) (sym (add-one y))) (row_by t g new l same e)
+
+  pub next_row : {w h y : ℕ} {f : ℕ → ℕ → A → A} {xs ys : List A} → Rows w h y f xs ys → (new : List A) → y < h
+      → new ≡ every (λ x. f x y) (take (y * w + w - y * w) (drop (y * w) ys))
+      → Rows w h (y + 1) f xs (take (y * w) ys ++ (new ++ drop (y * w + w - y * w) (drop (y * w) ys)))
+  next_row {y = y} {f = f} t new l e = next_row_by t (λ x. f x y) new l (λ x p r. refl) e
+
+-- by these the check itself closes a loop by rows: it begins, each row comes back and fits, and all are done
+pub ruleset row_loop = (begin_rows, next_row, row_length, rows_all)

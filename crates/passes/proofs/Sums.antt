@@ -1,8 +1,14 @@
 -- A line in which each place sums its own terms, one term of every place at a turn. Assumes nothing.
-use Rattle.std.proofs.Common.{◌≡◌, ℕ, suc, ◌+◌, ◌<◌, ◌≤◌, List, length, sym, refl, ap, ◌∙◌, zero-le, add-one, arith}
+use Rattle.std.proofs.Common.{◌≡◌, ℕ, suc, ◌+◌, ◌<◌, ◌≤◌, List, [], ◌∷◌, length, replicate, sym, refl, ap, ◌∙◌, zero-le, add-one, arith}
 use lib.Ieee.{Float}
-use Rattle.num.specs.Rewrite.{every, fill}
+use Rattle.num.specs.Rewrite.{rewrite, every, fill}
 use Rattle.num.specs.Laws.Rewrite.{every_twice, length-rewrite, rewrite_ext}
+
+-- a line that the library's `fill` has filled
+pub filled : (v : Float) (xs : List Float) → replicate (length xs) v ≡ fill (λ i. v) xs
+unfolding rewrite
+filled v [] = refl
+filled v (x ∷ xs) = ap (λ (l : List Float). v ∷ l) (filled v xs)
 
 -- the invariant of the loop: of `most` terms each place x has the sum of the first k, which is `sums x k`
 pub record Summed (sums : ℕ → ℕ → Float) (most k : ℕ) (before acc : List Float) : Type 0 where

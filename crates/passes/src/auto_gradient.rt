@@ -22,13 +22,7 @@ fn add_luma(sum: f32, p: u32) -> f32
 fn total(frame: &[u32]) -> f32
     ensures { result ≡ fold AutoGradient.add_luma c0_0 frame.now }
 {
-    let mut sum = 0.0;
-    let mut i = 0;
-    while i < frame.len() {
-        sum = add_luma(sum, frame[i]);
-        i += 1;
-    }
-    sum
+    frame.iter().fold(0.0, |sum, p| add_luma(sum, *p))
 }
 
 // The strength, by the mean luma: a dark scene gets more.
@@ -62,10 +56,8 @@ fn falls(line: &mut [f32], horizontal: f32, a: f32)
     ensures { line.new ≡ fill (AutoGradient.fall (length line.old) horizontal a) line.old }
 {
     let w = line.len();
-    let mut x = 0;
-    while x < line.len() {
-        line[x] = fall(w, x, horizontal, a);
-        x += 1;
+    for (x, kept) in line.iter_mut().enumerate() {
+        *kept = fall(w, x, horizontal, a);
     }
 }
 
@@ -93,24 +85,23 @@ fn row(row: &mut [u32], kept: &[f32], t: f32)
     ensures { row.new
         ≡ every_clamped (λ x. AutoGradient.shade t (AutoGradient.brightness t (at kept.now x))) row.old }
 {
-    let mut x = 0usize;
-    while x < row.len() {
-        row[x] = shade(t, brightness(t, kept[x]), row[x]);
-        x += 1;
+    for (x, word) in row.iter_mut().enumerate() {
+        *word = shade(t, brightness(t, kept[x]), *word);
     }
 }
 
+#[tactic(auto, using(crate::proofs::RowLoops::row_loop))]
 fn rows(frame: &mut [u32], kept: &[f32], width: usize, height: usize, vertical: f32, a: f32)
     requires { Frame width height frame.old × (length kept.now ≡ width) }
     ensures { frame.new ≡ every_clamped (placed width (gradient_by height (at kept.now) vertical a)) frame.old }
 {
-    let mut y = 0;
-    let mut at = 0;
-    while y < height {
-        let end = at + width;
-        row(&mut frame[at..end], kept, warm(height, y, vertical, a));
-        at = end;
-        y += 1;
+    for y in 0..height {
+        let at = y * width;
+        row(
+            &mut frame[at..at + width],
+            kept,
+            warm(height, y, vertical, a),
+        );
     }
 }
 
@@ -127,7 +118,7 @@ pub fn apply(
     ensures { painted frame.new result ≡ AutoGradient.auto_gradient width height strength vertical horizontal frame.old }
 {
     let a = adaptive(strength, frame.len() as u32, total(frame));
-    let mut line = blur::line();
+    let mut line = blur::line::<1024>();
     falls(&mut line[..width], horizontal, a);
     rows(frame, &line[..width], width, height, vertical, a);
     marks::collect(frame)

@@ -34,10 +34,8 @@ fn bright_line(out: &mut [f32], row: &[u32], threshold: f32, which: usize)
     requires { length out.old ≡ length row.now }
     ensures { out.new ≡ fill (λ i. Bloom.bright_of threshold which (slice_index row.now i)) out.old }
 {
-    let mut i = 0usize;
-    while i < out.len() {
-        out[i] = pixel::channel(which, bright(pixel::unpack(row[i]), threshold));
-        i += 1;
+    for (i, sample) in out.iter_mut().enumerate() {
+        *sample = pixel::channel(which, bright(pixel::unpack(row[i]), threshold));
     }
 }
 
@@ -75,14 +73,19 @@ fn horizontal_row(
         ≡ sampled (length row.now) (λ x which. bright_by (at w.now) row.now threshold radius which x) out.old)
         × (result ≡ samples_of (length row.now) radius) }
 {
-    let mut samples = 0usize;
-    let mut which = 0usize;
-    let mut at = 0;
-    while which < 3 {
-        let end = at + row.len();
-        samples = blurred_line(&mut out[at..end], row, line, w, threshold, which, radius);
-        at = end;
-        which += 1;
+    let width = row.len();
+    let mut samples = 0;
+    for which in 0..3 {
+        let at = which * width;
+        samples = blurred_line(
+            &mut out[at..at + width],
+            row,
+            line,
+            w,
+            threshold,
+            which,
+            radius,
+        );
     }
     samples
 }
@@ -104,24 +107,18 @@ fn horizontal(
         (λ i y. horizontal_by (at w.now) width radius threshold frame.now (i / width) (i % width) y) planes.old)
         × (result ≡ height * samples_of width radius) }
 {
-    let mut samples = 0usize;
-    let mut y = 0;
-    let mut at = 0;
-    let mut from = 0;
-    while y < height {
-        let end = at + 3 * width;
-        let to = from + width;
+    let mut samples = 0;
+    for y in 0..height {
+        let from = y * width;
+        let at = y * (3 * width);
         samples += horizontal_row(
-            &mut planes[at..end],
-            &frame[from..to],
+            &mut planes[at..at + 3 * width],
+            &frame[from..from + width],
             line,
             w,
             threshold,
             radius,
         );
-        at = end;
-        from = to;
-        y += 1;
     }
     samples
 }
@@ -146,15 +143,13 @@ fn composite_row(row: &mut [u32], sums: &[f32], w: f32, strength: f32)
         (quotient (at sums.now (2 * length row.old + x)) w))) row.old }
 {
     let n = row.len();
-    let mut x = 0usize;
-    while x < row.len() {
+    for (x, word) in row.iter_mut().enumerate() {
         let glow = Rgb {
             r: blur::quotient(sums[x], w),
             g: blur::quotient(sums[n + x], w),
             b: blur::quotient(sums[2 * n + x], w),
         };
-        row[x] = composite(row[x], glow, strength);
-        x += 1;
+        *word = composite(*word, glow, strength);
     }
 }
 
@@ -174,16 +169,12 @@ fn composite_rows(
         ≡ every_clamped (placed width (Bloom.over height strength radius (stored planes.now width))) frame.old)
         × (result ≡ width * samples_of height radius) }
 {
-    let mut taken = 0usize;
-    let mut y = 0;
-    let mut at = 0;
-    while y < height {
-        let end = at + width;
+    let mut taken = 0;
+    for y in 0..height {
+        let at = y * width;
         taken += blur::accumulate_rows(sums, planes, height, radius, y);
         let w = blur::weight_sum(height, radius, y);
-        composite_row(&mut frame[at..end], sums, w, strength);
-        at = end;
-        y += 1;
+        composite_row(&mut frame[at..at + width], sums, w, strength);
     }
     width * taken
 }
@@ -206,8 +197,8 @@ pub fn apply(
 {
     let n = 3 * frame.len();
     let w = blur::weight_line(width, radius);
-    let mut line = blur::line();
-    let mut sums = blur::line3();
+    let mut line = blur::line::<1024>();
+    let mut sums = blur::line::<3072>();
     let across = horizontal(
         &mut scratch[..n],
         frame,

@@ -11,7 +11,7 @@ ghost use Rattle.passes.specs.Samples.{samples as samples_of, once};
 ghost use Rattle.passes.specs.Private.{at, cell, Begins, four_weights, four_added, line_onward, rows_onward, insides, blur_by};
 
 // What a pass counts: the channels that it clipped, and the samples that its blur took.
-#[derive(Clone, Copy)]
+#[derive(Clone, Copy, Debug, PartialEq)]
 pub struct Counts {
     pub clipped: u32,
     pub samples: u32,
@@ -25,24 +25,15 @@ fn weight(radius: usize, distance: usize) -> f32
     1.0 - distance as f32 / (radius as f32 + 1.0)
 }
 
-// a - b, or 0 where b is above a
-fn monus(a: usize, b: usize) -> usize
-    ensures { result ≡ a - b }
-{
-    if b <= a { a - b } else { 0 }
-}
-
 // Adds src[i] * w at each i. Returns how many samples it added.
 fn add_scaled(acc: &mut [f32], src: &[f32], w: f32) -> usize
     requires { length acc.old ≡ length src.now }
     ensures { (acc.new ≡ every (λ i v. v ⊕ at src.now i ⊗ w) acc.old) × (result ≡ length acc.old) }
 {
-    let mut i = 0usize;
-    while i < acc.len() {
-        acc[i] = acc[i] + src[i] * w;
-        i += 1;
+    for (i, sum) in acc.iter_mut().enumerate() {
+        *sum = *sum + src[i] * w;
     }
-    i
+    acc.len()
 }
 
 // The weight of offset k.
@@ -50,11 +41,11 @@ fn offset_weight(radius: usize, k: usize) -> f32
     requires { (radius ≤ 64) × (k ≤ 2 * radius) }
     ensures { result ≡ Blur.weight radius (Blur.distance radius k) }
 {
-    weight(radius, monus(radius, k) + monus(k, radius))
+    weight(radius, radius.abs_diff(k))
 }
 
-// The weights of four offsets, one after another.
-#[derive(Clone, Copy)]
+// The weights of four offsets, one after another. Named, and no array, since the definitions of specs/Private.antt name them.
+#[derive(Clone, Copy, Debug, PartialEq)]
 struct Four {
     a: f32,
     b: f32,
@@ -83,12 +74,10 @@ fn add_four(acc: &mut [f32], a: &[f32], b: &[f32], c: &[f32], d: &[f32], w: Four
         ≡ every (four_added a.now b.now c.now d.now w) acc.old)
         × (result ≡ 4 * length acc.old) }
 {
-    let mut i = 0usize;
-    while i < acc.len() {
-        acc[i] = acc[i] + a[i] * w.a + b[i] * w.b + c[i] * w.c + d[i] * w.d;
-        i += 1;
+    for (i, sum) in acc.iter_mut().enumerate() {
+        *sum = *sum + a[i] * w.a + b[i] * w.b + c[i] * w.c + d[i] * w.d;
     }
-    4 * i
+    4 * acc.len()
 }
 
 // Adds the samples at offset k of every place, those outside skipped. Returns how many it added.
@@ -98,8 +87,8 @@ fn add_offset(acc: &mut [f32], src: &[f32], radius: usize, k: usize) -> usize
         × (result ≡ length src.now - Blur.distance radius k) }
 {
     let n = src.len();
-    let to = monus(radius, k);
-    let from = monus(k, radius);
+    let to = radius.saturating_sub(k);
+    let from = k.saturating_sub(radius);
     let d = to + from;
     if d < n {
         let w = weight(radius, d);
@@ -112,7 +101,7 @@ fn add_offset(acc: &mut [f32], src: &[f32], radius: usize, k: usize) -> usize
 }
 
 // A place's sum, and how many samples were added to it.
-#[derive(Clone, Copy)]
+#[derive(Clone, Copy, Debug, PartialEq)]
 struct Sum {
     value: f32,
     samples: usize,
@@ -161,13 +150,11 @@ fn add_edge(part: &mut [f32], src: &[f32], radius: usize, start: usize, k: usize
     ensures { (part.new ≡ every (λ i. line_onward src.now radius k 4 (start + i)) part.old)
         × (result ≡ sum_of (length part.old) (λ i. insides (length src.now) radius k 4 (start + i))) }
 {
-    let mut samples = 0usize;
-    let mut i = 0usize;
-    while i < part.len() {
-        let sum = add_samples(part[i], src, radius, start + i, k, w);
-        part[i] = sum.value;
+    let mut samples = 0;
+    for (i, place) in part.iter_mut().enumerate() {
+        let sum = add_samples(*place, src, radius, start + i, k, w);
+        *place = sum.value;
         samples += sum.samples;
-        i += 1;
     }
     samples
 }
@@ -206,9 +193,9 @@ fn add_to_edge(acc: &mut [f32], src: &[f32], radius: usize, k: usize, w: Four) -
     ensures { (acc.new ≡ rewrite (length src.now - (k + 3 - radius)) (line_onward src.now radius k 4) acc.old)
         × (result ≡ sum_of (length src.now - (k + 3 - radius)) (insides (length src.now) radius k 4)) }
 {
-    let first = monus(radius, k + 3);
-    let to = monus(radius, k);
-    let end = src.len() - monus(k + 3, radius);
+    let first = radius.saturating_sub(k + 3);
+    let to = radius.saturating_sub(k);
+    let end = src.len() - (k + 3).saturating_sub(radius);
     let edge = add_edge(&mut acc[first..to], src, radius, first, k, w);
     edge + add_middle(&mut acc[to..end], src, radius, to, k, w)
 }
@@ -221,13 +208,13 @@ fn add_four_offsets(acc: &mut [f32], src: &[f32], radius: usize, k: usize) -> us
 {
     let w = four_weights(radius, k);
     let before = add_to_edge(acc, src, radius, k, w);
-    let end = src.len() - monus(k + 3, radius);
-    let last = src.len() - monus(k, radius);
+    let end = src.len() - (k + 3).saturating_sub(radius);
+    let last = src.len() - k.saturating_sub(radius);
     before + add_edge(&mut acc[end..last], src, radius, end, k, w)
 }
 
 // What a step of a loop over the offsets took: so many offsets, and so many samples at them.
-#[derive(Clone, Copy)]
+#[derive(Clone, Copy, Debug, PartialEq)]
 struct Taken {
     offsets: usize,
     samples: usize,
@@ -240,7 +227,7 @@ fn add_offsets(acc: &mut [f32], src: &[f32], radius: usize, k: usize) -> Taken
         × (acc.new ≡ every (line_onward src.now radius k result.offsets) acc.old)
         × (result.samples ≡ sum_of (length src.now) (insides (length src.now) radius k result.offsets)) }
 {
-    let outside = monus(radius, k) + monus(k + 3, radius);
+    let outside = radius.saturating_sub(k) + (k + 3).saturating_sub(radius);
     if k + 3 <= 2 * radius {
         if outside < src.len() {
             let samples = add_four_offsets(acc, src, radius, k);
@@ -257,26 +244,16 @@ fn add_offsets(acc: &mut [f32], src: &[f32], radius: usize, k: usize) -> Taken
     }
 }
 
-// 0.0 everywhere
-fn clear(acc: &mut [f32])
-    ensures { acc.new ≡ fill (λ i. c0_0) acc.old }
-{
-    let mut i = 0usize;
-    while i < acc.len() {
-        acc[i] = 0.0;
-        i += 1;
-    }
-}
-
 // The sums of the weighted samples of each place of a line. Returns how many samples were taken.
 fn accumulate(acc: &mut [f32], src: &[f32], radius: usize) -> usize
     requires { (length acc.old ≡ length src.now) × (radius ≤ 64) × (length src.now ≤ 1024) }
     ensures { (acc.new ≡ fill (Blur.weighted (at src.now) (length src.now) radius) acc.old)
         × (result ≡ samples_of (length src.now) radius) }
 {
-    clear(acc);
+    acc.fill(0.0);
     let mut samples = 0usize;
     let mut k = 0usize;
+    // No `for`: a step takes four offsets or one.
     while k < 2 * radius + 1 {
         let taken = add_offsets(acc, src, radius, k);
         k += taken.offsets;
@@ -303,11 +280,9 @@ pub fn weight_sum(n: usize, radius: usize, x: usize) -> f32
     requires { (radius ≤ 64) × (x < n) × (n ≤ 1024) }
     ensures { result ≡ Blur.weight_sum n radius x }
 {
-    let mut sum = 0.0f32;
-    let mut k = 0usize;
-    while k < 2 * radius + 1 {
+    let mut sum = 0.0;
+    for k in 0..2 * radius + 1 {
         sum = add_weight(sum, n, radius, x, k);
-        k += 1;
     }
     sum
 }
@@ -324,10 +299,8 @@ fn divide(sums: &mut [f32], w: &[f32])
     requires { length sums.old ≡ length w.now }
     ensures { sums.new ≡ every (λ i v. Blur.quotient v (at w.now i)) sums.old }
 {
-    let mut i = 0usize;
-    while i < sums.len() {
-        sums[i] = quotient(sums[i], w[i]);
-        i += 1;
+    for (i, sum) in sums.iter_mut().enumerate() {
+        *sum = quotient(*sum, w[i]);
     }
 }
 
@@ -437,9 +410,10 @@ pub fn accumulate_rows(
         ≡ fill (λ x. Blur.weighted (λ i. cell plane.now (length acc.old) x i) height radius y) acc.old)
         × (result ≡ sum_of (2 * radius + 1) (once height radius y)) }
 {
-    clear(acc);
+    acc.fill(0.0);
     let mut samples = 0usize;
     let mut k = 0usize;
+    // No `for`: a step takes four offsets or one.
     while k < 2 * radius + 1 {
         let taken = add_rows(acc, plane, height, radius, y, k);
         k += taken.offsets;
@@ -448,18 +422,11 @@ pub fn accumulate_rows(
     samples
 }
 
-// Room for a line of samples.
-pub fn line() -> [f32; 1024]
-    ensures { length result ≡ 1024 }
+// Room for a line of N samples.
+pub fn line<const N: usize>() -> [f32; N]
+    ensures { length result ≡ N }
 {
-    [0.0f32; 1024]
-}
-
-// Room for a line of three channels.
-pub fn line3() -> [f32; 3072]
-    ensures { length result ≡ 3072 }
-{
-    [0.0f32; 3072]
+    [0.0; N]
 }
 
 // The sums of the weights of each place of a line of n samples.
@@ -467,11 +434,9 @@ pub fn weight_line(n: usize, radius: usize) -> [f32; 1024]
     requires { (radius ≤ 64) × (n ≤ 1024) }
     ensures { Begins 1024 n (Blur.weight_sum n radius) result }
 {
-    let mut out = line();
-    let mut x = 0usize;
-    while x < n {
-        out[x] = weight_sum(n, radius, x);
-        x += 1;
+    let mut out = line::<1024>();
+    for (x, sum) in out[..n].iter_mut().enumerate() {
+        *sum = weight_sum(n, radius, x);
     }
     out
 }

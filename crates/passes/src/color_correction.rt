@@ -28,17 +28,7 @@ fn in_unit(x: f32) -> bool
 pub fn is_good_curve(curve: &[f32]) -> bool
     ensures { result ≡ Text.good_curve curve.now }
 {
-    if curve.len() < 256 {
-        return false;
-    }
-    let mut k = 0;
-    while k < 256 {
-        if !in_unit(curve[k]) {
-            return false;
-        }
-        k += 1;
-    }
-    true
+    curve.len() >= 256 && curve[..256].iter().all(|x| in_unit(*x))
 }
 
 // The channels of a word as the curve has them.
@@ -64,39 +54,31 @@ fn level(x: f32, brightness: f32, contrast: f32) -> f32
 fn tone(c: Rgb, brightness: f32, contrast: f32, saturation: f32) -> u32
     ensures { result ≡ mark_unit (toned brightness contrast saturation c) }
 {
-    let d = Rgb {
-        r: level(c.r, brightness, contrast),
-        g: level(c.g, brightness, contrast),
-        b: level(c.b, brightness, contrast),
-    };
+    let d = c.map(|x| level(x, brightness, contrast));
     let luminance = pixel::luma709(d);
-    marks::unit(Rgb {
-        r: luminance + (d.r - luminance) * saturation,
-        g: luminance + (d.g - luminance) * saturation,
-        b: luminance + (d.b - luminance) * saturation,
-    })
+    marks::unit(d.map(|x| luminance + (x - luminance) * saturation))
 }
 
-// At gamma 1.0, by a loop of its own: it reads no table, so that it becomes vector code.
+// At gamma 1.0, by a loop of its own: it reads no table, so that it becomes vector code. Out of line, so that its code does
+// not hang on what else the chain's long function holds.
+#[inline(never)]
 fn by_share(frame: &mut [u32], brightness: f32, contrast: f32, saturation: f32)
     ensures { frame.new ≡ every_unit (λ i. ColorCorrection.colour ColorCorrection.share brightness contrast saturation) frame.old }
 {
-    let mut i = 0;
-    while i < frame.len() {
-        frame[i] = tone(pixel::unit(frame[i]), brightness, contrast, saturation);
-        i += 1;
+    for word in frame.iter_mut() {
+        *word = tone(pixel::unit(*word), brightness, contrast, saturation);
     }
 }
 
+// The same by a curve, out of line for the same reason.
+#[inline(never)]
 fn by_curve(frame: &mut [u32], curve: &[f32], brightness: f32, contrast: f32, saturation: f32)
     requires { 256 ≤ length curve.now }
     ensures { frame.new ≡ every_unit (λ i. ColorCorrection.colour (ColorCorrection.power curve.now) brightness contrast saturation)
         frame.old }
 {
-    let mut i = 0;
-    while i < frame.len() {
-        frame[i] = tone(powers(curve, frame[i]), brightness, contrast, saturation);
-        i += 1;
+    for word in frame.iter_mut() {
+        *word = tone(powers(curve, *word), brightness, contrast, saturation);
     }
 }
 

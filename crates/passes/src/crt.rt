@@ -62,7 +62,9 @@ fn shade(column: u16, dim: f32, factor: f32, p: u32) -> u32
     pixel::pack_nearest(pixel::scaled(phosphor(column, dim, pixel::unpack(p)), factor))
 }
 
-// One row of the frame. A column is below 1024, and its remainder in 16 bits is quicker than in 64.
+// One row of the frame. A column is below 1024, and its remainder in 16 bits is quicker than in 64. Out of
+// line, so that its code does not hang on what else the chain's long function holds.
+#[inline(never)]
 fn row(row: &mut [u32], y: usize, width: usize, height: usize, strength: f32)
     requires { (y < height) × (height ≤ 1024) × (width ≤ 1024) × (length row.old ≡ width) }
     ensures { row.new ≡ every (λ x. Crt.word_at width height strength x y) row.old }
@@ -70,24 +72,19 @@ fn row(row: &mut [u32], y: usize, width: usize, height: usize, strength: f32)
     let dim = 1.0 - 0.035 * strength;
     let bright = beam(y % 3, strength);
     let ny = offset(height, y);
-    let mut x = 0;
-    while x < row.len() {
+    for (x, word) in row.iter_mut().enumerate() {
         let factor = bright * edge(strength, offset(width, x), ny);
-        row[x] = shade(x as u16 % 3, dim, factor, row[x]);
-        x += 1;
+        *word = shade(x as u16 % 3, dim, factor, *word);
     }
 }
 
+#[tactic(auto, using(crate::proofs::RowLoops::row_loop), unfolding(crate::specs::Crt::crt))]
 pub fn apply(frame: &mut [u32], width: usize, height: usize, strength: f32)
     requires { Frame width height frame.old }
     ensures { frame.new ≡ Crt.crt width height strength frame.old }
 {
-    let mut y = 0;
-    let mut at = 0;
-    while y < height {
-        let end = at + width;
-        row(&mut frame[at..end], y, width, height, strength);
-        at = end;
-        y += 1;
+    for y in 0..height {
+        let at = y * width;
+        row(&mut frame[at..at + width], y, width, height, strength);
     }
 }

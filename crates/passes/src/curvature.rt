@@ -48,17 +48,16 @@ fn bend(copy: &[u32], width: usize, height: usize, amount: f32, nx: f32, ny: f32
     place(copy, width, height, nx * distortion, ny * distortion)
 }
 
-// The words at these places are those of row y.
+// The words at these places are those of row y. Out of line, so that its code does not hang on what else the chain's long function holds.
+#[inline(never)]
 fn places(line: &mut [u32], copy: &[u32], y: usize, width: usize, height: usize, amount: f32)
     requires { (y < height) × (length line.old ≡ width) × Frame width height copy.now }
     ensures { every (λ x p. slice_index copy.now p) line.new
         ≡ every (λ x. Curvature.word_at width height amount copy.now x y) line.old }
 {
     let ny = rows::position(height, y);
-    let mut x = 0;
-    while x < line.len() {
-        line[x] = bend(copy, width, height, amount, rows::position(width, x), ny);
-        x += 1;
+    for (x, place) in line.iter_mut().enumerate() {
+        *place = bend(copy, width, height, amount, rows::position(width, x), ny);
     }
 }
 
@@ -70,13 +69,13 @@ fn word(copy: &[u32], place: u32) -> u32
     if at < copy.len() { copy[at] } else { 0 }
 }
 
+// Places become the words there, out of line for the same reason.
+#[inline(never)]
 fn words(line: &mut [u32], copy: &[u32])
     ensures { line.new ≡ every (λ x p. slice_index copy.now p) line.old }
 {
-    let mut x = 0;
-    while x < line.len() {
-        line[x] = word(copy, line[x]);
-        x += 1;
+    for place in line.iter_mut() {
+        *place = word(copy, *place);
     }
 }
 
@@ -88,17 +87,14 @@ fn row(row: &mut [u32], copy: &[u32], y: usize, width: usize, height: usize, amo
     words(row, copy);
 }
 
+#[tactic(auto, using(crate::proofs::RowLoops::row_loop))]
 fn rows(frame: &mut [u32], copy: &[u32], width: usize, height: usize, amount: f32)
     requires { Frame width height frame.old × Frame width height copy.now }
     ensures { frame.new ≡ Curvature.bent width height amount copy.now frame.old }
 {
-    let mut y = 0;
-    let mut at = 0;
-    while y < height {
-        let end = at + width;
-        row(&mut frame[at..end], copy, y, width, height, amount);
-        at = end;
-        y += 1;
+    for y in 0..height {
+        let at = y * width;
+        row(&mut frame[at..at + width], copy, y, width, height, amount);
     }
 }
 

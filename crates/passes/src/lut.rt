@@ -56,11 +56,7 @@ fn transform(preset: u8, c: Rgb) -> Rgb
                 b: luminance * 0.16,
             }
         }
-        _ => Rgb {
-            r: (c.r - 0.5) * 1.25 + 0.5,
-            g: (c.g - 0.5) * 1.25 + 0.5,
-            b: (c.b - 0.5) * 1.25 + 0.5,
-        },
+        _ => c.map(|x| (x - 0.5) * 1.25 + 0.5),
     }
 }
 
@@ -92,24 +88,15 @@ fn greys(table: &mut [u32], which: usize, preset: u8, strength: f32)
     requires { length table.old ≤ 256 }
     ensures { table.new ≡ fill (λ k. entry which (Lut.colour preset strength (k * 65793))) table.old }
 {
-    let mut k = 0;
-    while k < table.len() {
-        table[k] = entry(which, colour(k as u32 * 65793, preset, strength));
-        k += 1;
+    for (k, word) in table.iter_mut().enumerate() {
+        *word = entry(which, colour(k as u32 * 65793, preset, strength));
     }
-}
-
-// Room for a table.
-fn room() -> [u32; 256]
-    ensures { 256 ≡ length result }
-{
-    [0; 256]
 }
 
 fn table(which: usize, preset: u8, strength: f32) -> [u32; 256]
     ensures { Greys which preset strength result }
 {
-    let mut words = room();
+    let mut words = [0; 256];
     greys(&mut words, which, preset, strength);
     words
 }
@@ -123,52 +110,30 @@ fn picked(reds: &[u32], greens: &[u32], blues: &[u32], p: u32) -> u32
     let red = reds[(p / 65536 % 256) as usize];
     let green = greens[(p / 256 % 256) as usize];
     let blue = blues[(p % 256) as usize];
-    std::num::wrapping_add_u32(std::num::wrapping_add_u32(red, green), blue)
+    red.wrapping_add(green).wrapping_add(blue)
 }
 
+// Out of line, where its addresses stay in registers: within the chain's long function it took a fifth longer.
+#[inline(never)]
 fn by_greys(frame: &mut [u32], reds: &[u32], greens: &[u32], blues: &[u32])
     requires { (256 ≡ length reds.now) × (256 ≡ length greens.now) × (256 ≡ length blues.now) }
     ensures { frame.new ≡ every (λ i. picked (λ k. slice_index reds.now k) (λ k. slice_index greens.now k)
         (λ k. slice_index blues.now k)) frame.old }
 {
-    let mut i = 0;
-    while i < frame.len() {
-        frame[i] = picked(reds, greens, blues, frame[i]);
-        i += 1;
+    for word in frame.iter_mut() {
+        *word = picked(reds, greens, blues, *word);
     }
 }
 
-// The three presets that mix channels, each in a loop of its own. The preset is a number there, so that the loop has its own treatment
-// alone and becomes vector code. As one loop that is handed the preset it did not, and took seven times as long.
-fn by_composite(frame: &mut [u32], strength: f32)
-    ensures { frame.new ≡ every_unit (λ i. Lut.colour 3 strength) frame.old }
+// Presets 3, 4 and 5, which mix channels. Each is an instance of its own, where the preset is a number: so the loop has its own
+// treatment alone and becomes vector code. As one loop that is handed the preset it did not, and took seven times as long. Out of line,
+// as `by_greys` is.
+#[inline(never)]
+fn by_mixing<const PRESET: u8>(frame: &mut [u32], strength: f32)
+    ensures { frame.new ≡ every_unit (λ i. Lut.colour PRESET strength) frame.old }
 {
-    let mut i = 0;
-    while i < frame.len() {
-        frame[i] = marks::unit(colour(frame[i], 3, strength));
-        i += 1;
-    }
-}
-
-// The same.
-fn by_game_boy(frame: &mut [u32], strength: f32)
-    ensures { frame.new ≡ every_unit (λ i. Lut.colour 4 strength) frame.old }
-{
-    let mut i = 0;
-    while i < frame.len() {
-        frame[i] = marks::unit(colour(frame[i], 4, strength));
-        i += 1;
-    }
-}
-
-// The same.
-fn by_amber(frame: &mut [u32], strength: f32)
-    ensures { frame.new ≡ every_unit (λ i. Lut.colour 5 strength) frame.old }
-{
-    let mut i = 0;
-    while i < frame.len() {
-        frame[i] = marks::unit(colour(frame[i], 5, strength));
-        i += 1;
+    for word in frame.iter_mut() {
+        *word = marks::unit(colour(*word, PRESET, strength));
     }
 }
 
@@ -177,9 +142,9 @@ fn paint(frame: &mut [u32], preset: u8, strength: f32)
     ensures { frame.new ≡ every_unit (λ i. Lut.colour preset strength) frame.old }
 {
     match preset {
-        3 => by_composite(frame, strength),
-        4 => by_game_boy(frame, strength),
-        5 => by_amber(frame, strength),
+        3 => by_mixing::<3>(frame, strength),
+        4 => by_mixing::<4>(frame, strength),
+        5 => by_mixing::<5>(frame, strength),
         _ => {
             let reds = table(0, preset, strength);
             let greens = table(1, preset, strength);

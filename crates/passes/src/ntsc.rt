@@ -27,10 +27,8 @@ fn chroma_line(out: &mut [f32], row: &[u32], which: u8)
     requires { length out.old ≡ length row.now }
     ensures { out.new ≡ fill (λ i. Ntsc.chroma which (unpack (slice_index row.now i))) out.old }
 {
-    let mut i = 0usize;
-    while i < out.len() {
-        out[i] = chroma(which, pixel::unpack(row[i]));
-        i += 1;
+    for (i, sample) in out.iter_mut().enumerate() {
+        *sample = chroma(which, pixel::unpack(row[i]));
     }
 }
 
@@ -56,10 +54,8 @@ fn blend_row(row: &mut [u32], u: &[f32], v: &[f32], strength: f32)
     requires { (length u.now ≡ length row.old) × (length v.now ≡ length row.old) }
     ensures { row.new ≡ every_clamped (λ x. Ntsc.pixel strength (at u.now x) (at v.now x)) row.old }
 {
-    let mut x = 0usize;
-    while x < row.len() {
-        row[x] = pixel(row[x], u[x], v[x], strength);
-        x += 1;
+    for (x, word) in row.iter_mut().enumerate() {
+        *word = pixel(*word, u[x], v[x], strength);
     }
 }
 
@@ -107,14 +103,10 @@ fn rows(
         ≡ every_clamped (placed width (ntsc_by (at w.now) width strength bleed frame.old)) frame.old)
         × (result ≡ height * samples_of width bleed) }
 {
-    let mut samples = 0usize;
-    let mut y = 0;
-    let mut at = 0;
-    while y < height {
-        let end = at + width;
-        samples += row(&mut frame[at..end], line, u, v, w, bleed, strength);
-        at = end;
-        y += 1;
+    let mut samples = 0;
+    for y in 0..height {
+        let at = y * width;
+        samples += row(&mut frame[at..at + width], line, u, v, w, bleed, strength);
     }
     samples
 }
@@ -126,9 +118,9 @@ pub fn apply(frame: &mut [u32], width: usize, height: usize, strength: f32, blee
     ensures { (painted frame.new result.clipped ≡ Ntsc.ntsc width strength bleed frame.old)
         × (result.samples ≡ ntsc_samples width height bleed) }
 {
-    let mut line = blur::line();
-    let mut u = blur::line();
-    let mut v = blur::line();
+    let mut line = blur::line::<1024>();
+    let mut u = blur::line::<1024>();
+    let mut v = blur::line::<1024>();
     let w = blur::weight_line(width, bleed);
     let samples = rows(
         frame,

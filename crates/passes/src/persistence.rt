@@ -12,7 +12,7 @@ ghost use Rattle.passes.specs.Painted.{painted};
 ghost use Rattle.passes.specs.Private.{at, mark_clamped, blended_word, mixed_channel};
 
 use crate::pixel::Rgb;
-use crate::{marks, pixel, rows};
+use crate::{blur, marks, pixel, rows};
 use num::size::{Size, same};
 
 // 1 + amount + amount * 0.55 + ..
@@ -21,11 +21,9 @@ fn total(amount: f32, depth: usize) -> f32
 {
     let mut sum = 1.0;
     let mut weight = amount;
-    let mut j = 0;
-    while j < depth {
+    for _ in 0..depth {
         sum = sum + weight;
         weight = weight * 0.55;
-        j += 1;
     }
     sum
 }
@@ -35,11 +33,9 @@ fn weights(out: &mut [f32], amount: f32, sum: f32)
     ensures { out.new ≡ fill (Persistence.weight amount sum) out.old }
 {
     let mut weight = amount;
-    let mut j = 0;
-    while j < out.len() {
-        out[j] = weight / sum;
+    for share in out.iter_mut() {
+        *share = weight / sum;
         weight = weight * 0.55;
-        j += 1;
     }
 }
 
@@ -48,10 +44,8 @@ fn begin_line(acc: &mut [f32], part: &[u32], w: f32, which: usize)
     requires { length acc.old ≡ length part.now }
     ensures { acc.new ≡ fill (λ x. channel which (unpack (slice_index part.now x)) ⊗ w) acc.old }
 {
-    let mut i = 0usize;
-    while i < acc.len() {
-        acc[i] = pixel::channel(which, pixel::unpack(part[i])) * w;
-        i += 1;
+    for (i, sum) in acc.iter_mut().enumerate() {
+        *sum = pixel::channel(which, pixel::unpack(part[i])) * w;
     }
 }
 
@@ -60,10 +54,8 @@ fn add_line(acc: &mut [f32], part: &[u32], w: f32, which: usize)
     requires { length acc.old ≡ length part.now }
     ensures { acc.new ≡ every (λ x v. v ⊕ channel which (unpack (slice_index part.now x)) ⊗ w) acc.old }
 {
-    let mut i = 0usize;
-    while i < acc.len() {
-        acc[i] = acc[i] + pixel::channel(which, pixel::unpack(part[i])) * w;
-        i += 1;
+    for (i, sum) in acc.iter_mut().enumerate() {
+        *sum = *sum + pixel::channel(which, pixel::unpack(part[i])) * w;
     }
 }
 
@@ -83,21 +75,10 @@ fn mix_line(
 {
     let count = part.len();
     begin_line(acc, part, w, which);
-    let mut start = at;
-    let mut j = 0;
-    while j < ws.len() {
-        let end = start + count;
-        add_line(acc, &history[start..end], ws[j], which);
-        start += n;
-        j += 1;
+    for (j, older) in ws.iter().enumerate() {
+        let start = j * n + at;
+        add_line(acc, &history[start..start + count], *older, which);
     }
-}
-
-// Room for a line. So few words of the frame and of each place of the history stay near from one channel to the next.
-fn short() -> [f32; 64]
-    ensures { length result ≡ 64 }
-{
-    [0.0; 64]
 }
 
 // The words of three lines of channels.
@@ -106,40 +87,30 @@ fn finish_part(part: &mut [u32], r: &[f32], g: &[f32], b: &[f32])
     ensures { part.new
         ≡ fill (λ x. mark_clamped (rgb (at r.now x) (at g.now x) (at b.now x))) part.old }
 {
-    let mut i = 0usize;
-    while i < part.len() {
-        part[i] = marks::clamped(Rgb {
+    for (i, word) in part.iter_mut().enumerate() {
+        *word = marks::clamped(Rgb {
             r: r[i],
             g: g[i],
             b: b[i],
         });
-        i += 1;
     }
 }
 
-// A part that begins at word `at` of a frame of n, by way of a line for each channel. The lines are made here: a line that a function
-// returned would be copied.
+// A part that begins at word `at` of a frame of n, by way of a line for each channel: so few words of the frame and of each place of
+// the history stay near from one channel to the next. The lines are made here: a line that this function returned would be copied.
 fn blend_part(part: &mut [u32], at: usize, n: usize, w: f32, ws: &[f32], history: &[u32])
     requires { (length part.old ≤ 64) × (at + length part.old ≤ n) × (length ws.now * n ≤ length history.now) }
     ensures { part.new ≡ every (λ x. blended_word w (λ j. slice_index_or ws.now j nan) (length ws.now)
         history.now n (at + x)) part.old }
 {
     let count = part.len();
-    let mut r = short();
+    let mut r = blur::line::<64>();
     mix_line(&mut r[..count], part, at, n, w, ws, history, 0);
-    let mut g = short();
+    let mut g = blur::line::<64>();
     mix_line(&mut g[..count], part, at, n, w, ws, history, 1);
-    let mut b = short();
+    let mut b = blur::line::<64>();
     mix_line(&mut b[..count], part, at, n, w, ws, history, 2);
     finish_part(part, &r, &g, &b);
-}
-
-// Where the part from `at` on ends: a line has room for 64 words.
-fn part_end(at: usize, n: usize) -> usize
-    requires { at < n }
-    ensures { (at < result) × (result ≤ n) × (result ≤ at + 64) }
-{
-    if n - at < 64 { n } else { at + 64 }
 }
 
 // Each place of the history gets the frame.
@@ -148,27 +119,9 @@ fn refill(history: &mut [u32], frame: &[u32], depth: usize)
     ensures { history.new ≡ Persistence.refilled depth frame.now history.old }
 {
     let count = frame.len();
-    let mut at = 0;
-    let mut j = 0;
-    while j < depth {
-        let end = at + count;
-        rows::copy(&mut history[at..end], frame);
-        at = end;
-        j += 1;
-    }
-}
-
-// Two buffers change their words.
-fn exchange(a: &mut [u32], b: &mut [u32])
-    requires { length a.old ≡ length b.old }
-    ensures { (a.new ≡ b.old) × (b.new ≡ a.old) }
-{
-    let mut i = 0;
-    while i < a.len() {
-        let x = a[i];
-        a[i] = b[i];
-        b[i] = x;
-        i += 1;
+    for j in 0..depth {
+        let at = j * count;
+        rows::copy(&mut history[at..at + count], frame);
     }
 }
 
@@ -179,13 +132,9 @@ fn shift(history: &mut [u32], carried: &mut [u32], depth: usize)
     ensures { history.new ≡ Persistence.shifted depth carried.old history.old }
 {
     let count = carried.len();
-    let mut at = 0;
-    let mut j = 0;
-    while j < depth {
-        let end = at + count;
-        exchange(&mut history[at..end], carried);
-        at = end;
-        j += 1;
+    for j in 0..depth {
+        let at = j * count;
+        history[at..at + count].swap_with_slice(carried);
     }
 }
 
@@ -195,11 +144,7 @@ fn repeat(history: &mut [u32], at: usize, count: usize)
     ensures { history.new ≡ paste history.old at (drop (at - count) history.old) count }
 {
     let from = at - count;
-    let mut i = 0;
-    while i < count {
-        history[at + i] = history[from + i];
-        i += 1;
-    }
+    history.copy_within(from..from + count, at);
 }
 
 // The places of the history, of count words each, become `to`: the newest stay where they are, and the oldest is repeated until there
@@ -211,12 +156,8 @@ pub fn resize(history: &mut [u32], count: usize, from: usize, to: usize)
     if to <= from {
         return;
     }
-    let mut at = from * count;
-    let mut j = from;
-    while j < to {
-        repeat(history, at, count);
-        at += count;
-        j += 1;
+    for j in from..to {
+        repeat(history, j * count, count);
     }
 }
 
@@ -227,19 +168,10 @@ fn blend_parts(frame: &mut [u32], w: f32, ws: &[f32], history: &[u32])
         history.now (length frame.old)) frame.old }
 {
     let n = frame.len();
-    let mut at = 0;
-    while at < n {
-        let end = part_end(at, n);
-        blend_part(&mut frame[at..end], at, n, w, ws, history);
-        at = end;
+    for at in (0..n).step_by(64) {
+        let count = (n - at).min(64);
+        blend_part(&mut frame[at..at + count], at, n, w, ws, history);
     }
-}
-
-// Room for the weights.
-fn line() -> [f32; 8]
-    ensures { length result ≡ 8 }
-{
-    [0.0; 8]
 }
 
 // A frame of the held size: it becomes the picture, and the history gets it as it came, by way of a copy. Returns how many channels
@@ -258,7 +190,7 @@ fn follow(
 {
     rows::copy(carried, frame);
     let sum = total(amount, depth);
-    let mut ws = line();
+    let mut ws = blur::line::<8>();
     weights(&mut ws[..depth], amount, sum);
     blend_parts(frame, 1.0 / sum, &ws[..depth], history);
     let clipped = marks::collect(frame);

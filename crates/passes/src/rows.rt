@@ -6,7 +6,7 @@ ghost use Rattle.passes.specs.Plain.Position as Position;
 fn last(n: usize) -> usize
     ensures { result ≡ max (n - 1) 1 }
 {
-    if n < 2 { 1 } else { n - 1 }
+    n.saturating_sub(1).max(1)
 }
 
 // Where k lies among 0..n - 1, as -1..1.
@@ -17,13 +17,10 @@ pub fn position(n: usize, k: usize) -> f32
     k as u16 as f32 / last(n) as u16 as f32 * 2.0 - 1.0
 }
 
+// The library's, under the name that others know.
 pub fn copy(to: &mut [u32], from: &[u32])
     requires { length to.old ≡ length from.now }
     ensures { to.new ≡ from.now }
 {
-    let mut i = 0;
-    while i < from.len() {
-        to[i] = from[i];
-        i += 1;
-    }
+    to.copy_from_slice(from);
 }

@@ -14,23 +14,18 @@ fn row(row: &mut [u32], y: usize, strength: f32)
         return;
     }
     let factor = 1.0 - strength;
-    let mut x = 0;
-    while x < row.len() {
-        row[x] = pixel::dim(row[x], factor);
-        x += 1;
+    for word in row.iter_mut() {
+        *word = pixel::dim(*word, factor);
     }
 }
 
+#[tactic(auto, using(crate::proofs::RowLoops::row_loop), unfolding(crate::specs::Scanlines::scanlines))]
 pub fn apply(frame: &mut [u32], width: usize, height: usize, strength: f32)
     requires { Frame width height frame.old }
     ensures { frame.new ≡ Scanlines.scanlines width strength frame.old }
 {
-    let mut y = 0;
-    let mut at = 0;
-    while y < height {
-        let end = at + width;
-        row(&mut frame[at..end], y, strength);
-        at = end;
-        y += 1;
+    for y in 0..height {
+        let at = y * width;
+        row(&mut frame[at..at + width], y, strength);
     }
 }

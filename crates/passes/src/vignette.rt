@@ -33,10 +33,8 @@ fn squares(line: &mut [f32], width: usize, yy: f32)
     requires { (width ≤ 1024) × (length line.old ≤ 1024) }
     ensures { line.new ≡ fill (λ x. Vignette.offset_squared width x ⊕ yy) line.old }
 {
-    let mut x = 0;
-    while x < line.len() {
-        line[x] = offset_squared(width, x) + yy;
-        x += 1;
+    for (x, square) in line.iter_mut().enumerate() {
+        *square = offset_squared(width, x) + yy;
     }
 }
 
@@ -44,10 +42,8 @@ fn squares(line: &mut [f32], width: usize, yy: f32)
 fn factors(line: &mut [f32], strength: f32)
     ensures { line.new ≡ every (λ x. Vignette.factor strength) line.old }
 {
-    let mut x = 0;
-    while x < line.len() {
-        line[x] = factor(strength, line[x]);
-        x += 1;
+    for word in line.iter_mut() {
+        *word = factor(strength, *word);
     }
 }
 
@@ -62,22 +58,19 @@ fn line(line: &mut [f32], width: usize, strength: f32, yy: f32)
 }
 
 // The factors of the quarter: `wide` to a line, `high` lines.
+#[tactic(auto, using(crate::proofs::RowLoops::row_loop))]
 fn lines(table: &mut [f32], wide: usize, high: usize, width: usize, height: usize, strength: f32)
     requires { Frame wide high table.old × (width ≤ 1024) × (height ≤ 1024) }
     ensures { table.new ≡ sampled wide (Vignette.factor_at width height strength) table.old }
 {
-    let mut y = 0;
-    let mut at = 0;
-    while y < high {
-        let end = at + wide;
+    for y in 0..high {
+        let at = y * wide;
         line(
-            &mut table[at..end],
+            &mut table[at..at + wide],
             width,
             strength,
             offset_squared(height, y),
         );
-        at = end;
-        y += 1;
     }
 }
 
@@ -86,23 +79,13 @@ fn row(row: &mut [u32], line: &[f32])
     requires { (0 < length row.old) × (length line.now ≡ length row.old / 2 + 1) }
     ensures { row.new ≡ every (λ x. Pixel.dim (slice_index_or line.now (min x (length row.old - x)) nan)) row.old }
 {
-    let mut x = 0;
-    while x < line.len() {
+    // By index, since the line is read forwards, and then backwards.
+    for x in 0..line.len() {
         row[x] = pixel::dim(row[x], line[x]);
-        x += 1;
     }
-    while x < row.len() {
+    for x in line.len()..row.len() {
         row[x] = pixel::dim(row[x], line[row.len() - x]);
-        x += 1;
     }
-}
-
-// The nearer to 0 of k and n - k.
-fn nearer(n: usize, k: usize) -> usize
-    requires { k ≤ n }
-    ensures { result ≡ min k (n - k) }
-{
-    if k < n - k { k } else { n - k }
 }
 
 // The scratch from the frame's count of words on stays as it is.
@@ -115,14 +98,9 @@ pub fn apply(frame: &mut [u32], scratch: &mut [f32], width: usize, height: usize
     let high = height / 2 + 1;
     let words = high * wide;
     lines(&mut scratch[..words], wide, high, width, height, strength);
-    let mut y = 0;
-    let mut at = 0;
-    while y < height {
-        let from = nearer(height, y) * wide;
-        let to = from + wide;
-        let end = at + width;
-        row(&mut frame[at..end], &scratch[from..to]);
-        at = end;
-        y += 1;
+    for y in 0..height {
+        let at = y * width;
+        let from = y.min(height - y) * wide;
+        row(&mut frame[at..at + width], &scratch[from..from + wide]);
     }
 }

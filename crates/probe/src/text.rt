@@ -1,13 +1,14 @@
 // The exports of a text's way to its card, and of a word as a number. Nothing here is assumed.
-ghost use Rattle.std.specs.Prelude.{[], ◌∷◌, ◌≡◌};
+ghost use Rattle.std.specs.Prelude.{[], ◌∷◌, ◌≡◌, is_some};
 ghost use Rattle.texts.specs.Numbers.{decimal_of};
 ghost use Rattle.texts.specs.Read.{made_of};
-ghost use Rattle.probe.specs.Texts.{answer_of, bytes_of, place_of, flag};
+ghost use Rattle.probe.specs.Texts.{answer_of, bytes_of, place_of, flag, nearest_of};
 
 use cards::writer;
 use cards::writer::Writing;
 use texts::numbers::number_of;
 use texts::read;
+use texts::read::Misread;
 
 // Makes a card of a text and writes it into `out`. Answers its length; or 256 and the number of the text's fault or, where the buffer is too short, of that
 // refusal. No fault has its number. `place` is told the fault's line and word, and the kind and the place of the setting that it is about.
@@ -16,26 +17,36 @@ pub extern "C" fn probe_text(text: &[u8], out: &mut [u8], place: &mut [usize; 4]
     ensures { (result ≡ answer_of (made_of text.now) out.old)
         × (out.new ≡ bytes_of (made_of text.now) out.old) × (place.new ≡ place_of (made_of text.now)) }
 {
-    let made = read::read(text);
-    let fault = made.fault;
-    *place = [made.line, fault.word, fault.kind as usize, fault.place];
-    if !made.ok {
-        return 256 + fault.number as usize;
-    }
-    let written = writer::write(made.station, out);
-    let told = written.answer;
-    match told {
-        Writing::Length(n) => n,
-        Writing::Refused(k) => 256 + k as usize,
+    match read::read(text) {
+        Err(Misread { line, fault }) => {
+            *place = [line, fault.word, fault.kind as usize, fault.place];
+            256 + fault.mistake.number() as usize
+        }
+        Ok(station) => {
+            *place = [0; 4];
+            let written = writer::write(station, out);
+            let told = written.answer;
+            match told {
+                Writing::Length(n) => n,
+                Writing::Refused(k) => 256 + k as usize,
+            }
+        }
     }
 }
 
-// Answers 1 for a word that is a number, else 0. `nearest` is told the binary32 nearest to it.
+// Answers 1 for a word that is a number, else 0. `nearest` is told the binary32 nearest to it, or 0.
 #[unsafe(no_mangle)]
 pub extern "C" fn probe_decimal(word: &[u8], nearest: &mut [f32; 1]) -> u32
-    ensures { (result ≡ flag (decimal_of word.now).ok) × (nearest.new ≡ (decimal_of word.now).nearest ∷ []) }
+    ensures { (result ≡ flag (is_some (decimal_of word.now))) × (nearest.new ≡ nearest_of (decimal_of word.now) ∷ []) }
 {
-    let d = number_of(word);
-    *nearest = [d.nearest];
-    if d.ok { 1 } else { 0 }
+    match number_of(word) {
+        Some(d) => {
+            *nearest = [d.nearest];
+            1
+        }
+        None => {
+            *nearest = [0.0];
+            0
+        }
+    }
 }

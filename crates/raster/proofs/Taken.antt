@@ -1,6 +1,6 @@
 -- What a reader took: its tests did not refuse, and it stayed inside the bytes. Assumes nothing.
 use Prim.Native.Nat.{ℕ, ◌+◌, ◌*◌, ◌≤◌, ◌<◌}
-use mathlib.Core.Path.{◌≡◌, refl, ap, sym, ◌∙◌, subst}
+use mathlib.Core.Path.{◌≡◌, refl, subst}
 use mathlib.Core.Bool.{Bool, true, false, cond, ◌||◌}
 use mathlib.Core.List.{List}
 use native.Mathlib.Omega.{arith}
@@ -9,13 +9,8 @@ use lib.Dec.{leb, ltb, eqb}
 use lib.ListN.{length, drop}
 use Rattle.num.specs.Laws.Bools.{neither}
 use Rattle.raster.specs.Step.{Step, took, refused, Reader, and_then, refuse_if}
-use Rattle.raster.specs.Ppm.{header_cut, bad_header, value_of, digits_end, gap_in, digits_in, number_in, Size, size, header_in, frame_in, parsed_of, parse_of}
-use Rattle.raster.specs.Private.{number_step, header_step}
+use Rattle.raster.specs.Ppm.{Parsed, Frame, Refused, header_cut, bad_header, value_of, digits_end, gap_in, digits_in, number_in, Size, header_in, frame_in, parsed_of, parse_of}
 use Rattle.raster.specs.Claims.{Whole, TakenWhole}
-use Rattle.raster.specs.declared.ppm.NumberRead.{NumberRead}
-use Rattle.raster.specs.declared.ppm.NumberRead.TheVariants as N
-use Rattle.raster.specs.declared.ppm.Parsed.{Parsed}
-use Rattle.raster.specs.declared.ppm.Parsed.TheVariants.{Frame, Refused}
 
 unrefused : {A : Type 0} (b : Bool) (k : ℕ) (s : Step A) (v : A) (n : ℕ) → cond b (refused k) s ≡ took v n → (b ≡ false) × (s ≡ took v n)
 unrefused true k s v n h = let z : ◌≡◌ {A = ℕ} 0 1 = cc in absurd (omega arith)
@@ -47,9 +42,9 @@ digits-inside bytes at v n h =
     let same : end ≡ n = cc in
     omega (arith, leb-false (length bytes) end inside.0)
 
-pub number-inside : (bytes : List ℕ) (at v n : ℕ) → number_in bytes at ≡ took v n → n < length bytes
+pub number_inside : (bytes : List ℕ) (at v n : ℕ) → number_in bytes at ≡ took v n → n < length bytes
 unfolding number_in
-number-inside bytes at v n h = let digits = both (gap_in bytes at) _ v n h in digits-inside bytes digits.next v n digits.rest
+number_inside bytes at v n h = let digits = both (gap_in bytes at) _ v n h in digits-inside bytes digits.next v n digits.rest
 
 pub header_inside : (bytes : List ℕ) (s : Size) (n : ℕ) → header_in bytes 0 ≡ took s n → n ≤ length bytes
 unfolding header_in
@@ -60,13 +55,7 @@ header_inside bytes s n h =
     let maximum = both (number_in bytes height.next) _ s n height.rest in
     let last = (passed {B = Size} _ _ _ _ s n (passed {B = Size} _ _ _ _ s n maximum.rest).1).1 in
     let same : maximum.next + 1 ≡ n = cc in
-    omega (arith, number-inside bytes height.next _ maximum.next maximum.first)
-
-pub after-number : (r : NumberRead) (bytes : List ℕ) (at v n : ℕ) → number_step r ≡ number_in bytes at → r ≡ N.Value v n → n < length bytes
-after-number r bytes at v n e h = number-inside bytes at v n (sym e ∙ ap number_step h)
-
-pub after_header : (r : Parsed) (bytes : List ℕ) (w h start : ℕ) → header_step r ≡ header_in bytes 0 → r ≡ Frame w h start → start ≤ length bytes
-after_header r bytes w h start e g = header_inside bytes (size w h) start (sym e ∙ ap header_step g)
+    omega (arith, number_inside bytes height.next _ maximum.next maximum.first)
 
 -- ## A frame that is taken
 

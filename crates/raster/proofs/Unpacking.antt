@@ -41,7 +41,7 @@ unfolding unpacked
 none bytes xs = record { within = omega arith; kept = refl; front = refl }
 
 module _ {i : ℕ} {bytes xs ys : List ℕ} (t : Stored i bytes xs ys) where
-  pub more : {v : ℕ} → i < length ys → v ≡ pixel_at bytes (3 * i) → Stored (i + 1) bytes xs (set ys i v)
+  pub more : {v : ℕ} → i < length xs → v ≡ pixel_at bytes (3 * i) → Stored (i + 1) bytes xs (set ys i v)
   more {v} l e = record {
     within = omega (arith, t.kept);
     kept = length-set ys i v ∙ t.kept;

@@ -4,9 +4,7 @@ use Rattle.std.specs.Prelude.{ℕ, List, [], ◌∷◌, ◌++◌, refl, replicat
 use Rattle.num.specs.Cases.{Hold}
 use Rattle.raster.specs.Step.{refuse_if}
 use Rattle.raster.specs.Ppm.{empty, other_format, header_cut, bad_header, other_maximum, empty_picture, too_large, pixels_cut, left_over}
-use Rattle.raster.specs.Ppm.{gap_of, digits_of, value_of, gap_in, digits_in, number_in, header_in, frame_in, parse_of}
-use Rattle.raster.specs.declared.ppm.Parsed.{Parsed}
-use Rattle.raster.specs.declared.ppm.Parsed.TheVariants.{Frame, Refused}
+use Rattle.raster.specs.Ppm.{gap_of, digits_of, value_of, gap_in, digits_in, number_in, header_in, frame_in, Parsed, Frame, Refused, parse_of}
 
 -- `0`, `1`, `2`, `254`, `255`, `1024`, `1025`
 abbrev n0 : List ℕ

@@ -1,8 +1,7 @@
 -- What is proved of pixels and of files, as types: the proofs are in proofs/Back.antt, Decimal.antt and Taken.antt. Assumes nothing.
 use Rattle.std.specs.Prelude.{ℕ, ◌+◌, ◌-◌, ◌*◌, ◌%◌, ◌^◌, ◌≤◌, ◌<◌, cond, List, [], ◌∷◌, map, ◌≡◌, length, get_or, take}
 use Rattle.raster.specs.Pixels.{unpacked, packed_bytes}
-use Rattle.raster.specs.Ppm.{is_digit, value_of, parse_of}
-use Rattle.raster.specs.declared.ppm.Parsed.TheVariants.{Frame}
+use Rattle.raster.specs.Ppm.{is_digit, value_of, Frame, parse_of}
 
 -- ## Pixels
 

@@ -1,9 +1,10 @@
 -- A whole file that should be one frame as binary PPM (netpbm's P6): what it is read as, for every byte string. Assumes nothing.
-use Rattle.std.specs.Prelude.{ℕ, suc, ◌+◌, ◌-◌, ◌*◌, Bool, false, cond, not, ◌&&◌, ◌||◌, List, [], ◌∷◌, eqb, leb, ltb, length, drop}
+use Rattle.std.specs.Prelude.{ℕ, suc, ◌+◌, ◌-◌, ◌*◌, Bool, false, cond, not, ◌&&◌, ◌||◌, List, [], ◌∷◌, eqb, leb, ltb, length, drop, Result, Ok, Err}
 use Rattle.raster.specs.Pixels.{byte_at}
 use Rattle.raster.specs.Step.{Step, took, refused, Reader, ◌>>=◌, ◌>>◌, ret, place, skip, byte_in, refuse_if}
-use Rattle.raster.specs.declared.ppm.Parsed.{Parsed}
-use Rattle.raster.specs.declared.ppm.Parsed.TheVariants.{Frame, Refused}
+use Rattle.raster.specs.declared.ppm as code
+use Rattle.raster.specs.declared.ppm.NotAFrame.{NotAFrame}
+use Rattle.raster.specs.declared.ppm.NotAFrame.TheVariants as Not
 
 -- ## Refusals
 
@@ -42,6 +43,23 @@ pixels_cut = 8
 -- and more
 abbrev pub left_over : ℕ
 left_over = 9
+
+-- more bytes than were read, of a file that is read up to a limit: `parse_of` never gives it
+abbrev pub unread : ℕ
+unread = 10
+
+-- the number of a reason
+abbrev pub number_of : NotAFrame → ℕ
+number_of Not.Empty = empty
+number_of Not.OtherFormat = other_format
+number_of Not.HeaderCut = header_cut
+number_of Not.BadHeader = bad_header
+number_of Not.OtherMaximum = other_maximum
+number_of Not.EmptyPicture = empty_picture
+number_of Not.TooLarge = too_large
+number_of Not.PixelsCut = pixels_cut
+number_of Not.LeftOver = left_over
+number_of Not.Unread = unread
 
 -- ## Bytes
 
@@ -157,6 +175,16 @@ frame_in most bytes = do
   refuse_if pixels_cut (ltb (length bytes) (start + bytes_in s))
   refuse_if left_over (ltb (start + bytes_in s) (length bytes))
   ret s
+
+-- width, height and where the pixels start; or a refusal by its number
+pub data Parsed : Type 0 where
+  Frame : ℕ → ℕ → ℕ → Parsed
+  Refused : ℕ → Parsed
+
+-- what the code answers, so
+abbrev pub parsed : Result code.Frame.Frame NotAFrame → Parsed
+parsed (Ok f) = Frame f.width f.height f.start
+parsed (Err k) = Refused (number_of k)
 
 abbrev pub parsed_of : Step Size → Parsed
 parsed_of (took s start) = Frame s.width s.height start

@@ -22,28 +22,25 @@ fn pixel(bytes: &[u8], i: usize) -> u32
 }
 
 // Words from three bytes each. Bytes past the last word's are not read.
+#[tactic(auto, using(crate::proofs::Unpacking::none))]
 pub fn unpack(words: &mut [u32], bytes: &[u8])
     requires { 3 * length words.old ≤ length bytes.now }
     ensures { words.new ≡ unpacked (length words.old) bytes.now }
 {
-    let mut i = 0;
-    while i < words.len() {
-        words[i] = pixel(bytes, 3 * i);
-        i += 1;
+    for (i, word) in words.iter_mut().enumerate() {
+        *word = pixel(bytes, 3 * i);
     }
 }
 
 // Three bytes from each word, whose top byte is left out. Bytes past the last word's stay.
+#[tactic(auto, using(crate::proofs::Packing::none))]
 pub fn pack(bytes: &mut [u8], words: &[u32])
     requires { 3 * length words.now ≤ length bytes.old }
     ensures { bytes.new ≡ packed_bytes words.now ++ drop (3 * length words.now) bytes.old }
 {
-    let mut i = 0;
-    while i < words.len() {
-        let word = words[i];
+    for (i, word) in words.iter().enumerate() {
         bytes[3 * i] = (word / 65536 % 256) as u8;
         bytes[3 * i + 1] = (word / 256 % 256) as u8;
         bytes[3 * i + 2] = (word % 256) as u8;
-        i += 1;
     }
 }

@@ -1,103 +1,77 @@
 // A whole file that should be one frame as binary PPM (netpbm's P6), read: its size and where its pixels start, or why it is refused.
-ghost use Rattle.std.specs.Prelude.{◌≡◌, ◌≤◌, drop};
-ghost use Rattle.raster.specs.Ppm.{is_white, ends_line, is_digit, in_gap, in_comment, grow, value_of, gap_end, digits_end, number_in, is_p6};
-ghost use Rattle.raster.specs.Ppm.{header_in, parse_of};
-ghost use Rattle.raster.specs.Private.{number_step, header_step, refusal_of};
+ghost use Rattle.std.specs.Prelude.{◌≡◌, ◌≤◌, length, false};
+ghost use Rattle.raster.specs.Ppm.{is_white, ends_line, is_digit, in_gap, in_comment, grow, value_of, gap_of, digits_of, number_in, is_p6};
+ghost use Rattle.raster.specs.Ppm.{header_in, parsed, parse_of};
+ghost use Rattle.raster.specs.Private.{number_step, header_step};
 
-// Refusals.
-const EMPTY: u8 = 1; // no byte at all
+// Why bytes are no frame. specs/Ppm.antt counts the reasons from 1 on.
+#[derive(Clone, Copy, Debug, PartialEq, Eq)]
+pub enum NotAFrame {
+    Empty, // no byte at all
+    OtherFormat, // not binary PPM: it does not begin with `P6`
+    HeaderCut, // the bytes end inside the header
+    BadHeader, // no gap where one must be, or no digit, or no white byte after the maximum
+    OtherMaximum, // the maximum is not 255
+    EmptyPicture, // a side of 0
+    TooLarge, // a side above 1024, or more pixels than are taken
+    PixelsCut, // fewer bytes than the pixels have
+    LeftOver, // and more
+    Unread, // more bytes than were read, of a file that is read up to a limit: `parse` never gives it
+}
 
-const OTHER_FORMAT: u8 = 2; // not binary PPM: it does not begin with `P6`
-
-const HEADER_CUT: u8 = 3; // the bytes end inside the header
-
-const BAD_HEADER: u8 = 4; // no gap where one must be, or no digit, or no white byte after the maximum
-
-const OTHER_MAXIMUM: u8 = 5; // the maximum is not 255
-
-const EMPTY_PICTURE: u8 = 6; // a side of 0
-
-const TOO_LARGE: u8 = 7; // a side above 1024, or more pixels than are taken
-
-const PIXELS_CUT: u8 = 8; // fewer bytes than the pixels have
-
-const LEFT_OVER: u8 = 9; // and more
-
-// Width, height and where the pixels start; or a refusal by its number.
+// A frame's size, and where its pixels start.
 #[derive(Clone, Copy)]
-pub enum Parsed {
-    Frame(usize, usize, usize),
-    Refused(u8),
+pub struct Frame {
+    pub width: usize,
+    pub height: usize,
+    pub start: usize,
 }
 
 fn is_white(b: u8) -> bool
     ensures { result ≡ is_white b }
 {
-    if b == b' ' {
-        return true;
-    }
-    if b < 9 {
-        return false;
-    }
-    b <= 13
+    b == b' ' || (9..=13).contains(&b)
 }
 
 fn ends_line(b: u8) -> bool
     ensures { result ≡ ends_line b }
 {
-    if b == b'\n' {
-        return true;
-    }
-    b == b'\r'
+    b == b'\n' || b == b'\r'
 }
 
 pub fn is_digit(b: u8) -> bool
     ensures { result ≡ is_digit b }
 {
-    if b < b'0' {
-        return false;
-    }
-    b <= b'9'
+    b.is_ascii_digit()
 }
 
 // Whether a byte is part of a gap. `comment`: it stands inside a comment.
 fn in_gap(comment: bool, b: u8) -> bool
     ensures { result ≡ in_gap comment b }
 {
-    if comment {
-        return true;
-    }
-    if is_white(b) {
-        return true;
-    }
-    b == b'#'
+    comment || is_white(b) || b == b'#'
 }
 
 // Whether the byte after that one of a gap stands inside a comment.
 fn in_comment(comment: bool, b: u8) -> bool
     ensures { result ≡ in_comment comment b }
 {
-    if comment {
-        return !ends_line(b);
-    }
-    b == b'#'
+    if comment { !ends_line(b) } else { b == b'#' }
 }
 
-// Where the gap at `from` ends.
-fn gap_end(bytes: &[u8], from: usize) -> usize
-    ensures { result ≡ gap_end bytes.now from }
+// How many bytes of a gap stand at the front.
+#[tactic(auto, using(crate::proofs::Counting::gap_more, crate::proofs::Counting::gap_stops, crate::proofs::Counting::gap_ends))]
+fn gap(bytes: &[u8]) -> usize
+    ensures { (result ≡ gap_of false bytes.now) × (result ≤ length bytes.now) }
 {
     let mut comment = false;
-    let mut i = from;
-    while i < bytes.len() {
-        let b = bytes[i];
-        if !in_gap(comment, b) {
+    for (i, b) in bytes.iter().enumerate() {
+        if !in_gap(comment, *b) {
             return i;
         }
-        comment = in_comment(comment, b);
-        i += 1;
+        comment = in_comment(comment, *b);
     }
-    i
+    bytes.len()
 }
 
 // One digit more. A value above 9999 stays, so that no sum overflows; it is still above 9999, and so no side and no maximum that is taken.
@@ -105,146 +79,114 @@ fn grown(v: usize, d: u8) -> usize
     requires { d ≤ 9 }
     ensures { result ≡ grow v d }
 {
-    if 9999 < v {
-        return v;
-    }
-    v * 10 + d as usize
+    if 9999 < v { v } else { v * 10 + d as usize }
 }
 
+// A number, and where its digits end.
 #[derive(Clone, Copy)]
-struct DigitsRead {
+struct NumberRead {
     value: usize,
     end: usize,
 }
 
-// The value of the digits at `from`, and where they end.
-fn digits(bytes: &[u8], from: usize) -> DigitsRead
-    ensures { (result.value ≡ value_of 0 (drop from bytes.now)) × (result.end ≡ digits_end bytes.now from) }
+// The digits at the front.
+#[tactic(auto, using(crate::proofs::Counting::digits_stop, crate::proofs::Counting::digits_ended))]
+fn digits(bytes: &[u8]) -> NumberRead
+    ensures { (result.value ≡ value_of 0 bytes.now) × (result.end ≡ digits_of bytes.now) × (result.end ≤ length bytes.now) }
 {
     let mut value: usize = 0;
-    let mut i = from;
-    while i < bytes.len() {
-        let b = bytes[i];
-        if !is_digit(b) {
-            return DigitsRead { value, end: i };
+    for (end, b) in bytes.iter().enumerate() {
+        if !is_digit(*b) {
+            return NumberRead { value, end };
         }
-        value = grown(value, b - b'0');
-        i += 1;
+        value = grown(value, *b - b'0');
     }
-    DigitsRead { value, end: i }
+    NumberRead {
+        value,
+        end: bytes.len(),
+    }
 }
 
-#[derive(Clone, Copy)]
-pub enum NumberRead {
-    Value(usize, usize),
-    Refused(u8),
-}
-
-// A gap, then a number: its value and the next place.
-fn number(bytes: &[u8], at: usize) -> NumberRead
+// A gap, then a number. The bytes go on after each of them.
+#[tactic(auto, using(std::proofs::lemmas::List::take_rest), unfolding(crate::specs::Ppm::number_in, crate::specs::Ppm::gap_in, crate::specs::Ppm::digits_in))]
+fn number(bytes: &[u8], at: usize) -> Result<NumberRead, NotAFrame>
+    requires { at ≤ length bytes.now }
     ensures { number_step result ≡ number_in bytes.now at }
 {
-    let start = gap_end(bytes, at);
+    let start = at + gap(&bytes[at..]);
     if bytes.len() <= start {
-        return NumberRead::Refused(HEADER_CUT);
+        return Err(NotAFrame::HeaderCut);
     }
     if start == at {
-        return NumberRead::Refused(BAD_HEADER);
+        return Err(NotAFrame::BadHeader);
     }
-    let read = digits(bytes, start);
-    let end = read.end;
+    let NumberRead { value, end } = digits(&bytes[start..]);
+    let end = start + end;
     if bytes.len() <= end {
-        return NumberRead::Refused(HEADER_CUT);
+        return Err(NotAFrame::HeaderCut);
     }
     if end == start {
-        return NumberRead::Refused(BAD_HEADER);
+        return Err(NotAFrame::BadHeader);
     }
-    NumberRead::Value(read.value, end)
-}
-
-// The number of a refusal.
-fn refusal(r: NumberRead) -> u8
-    ensures { result ≡ refusal_of (number_step r) }
-{
-    match r {
-        NumberRead::Value(_, _) => 0,
-        NumberRead::Refused(k) => k,
-    }
+    Ok(NumberRead { value, end })
 }
 
 fn is_p6(bytes: &[u8]) -> bool
     ensures { result ≡ is_p6 bytes.now }
 {
-    if bytes.len() < 2 {
-        return false;
-    }
-    if bytes[0] != b'P' {
-        return false;
-    }
-    bytes[1] == b'6'
+    bytes.len() >= 2 && bytes[0] == b'P' && bytes[1] == b'6'
 }
 
 // The header, up to the first pixel; the size is not looked at.
-fn header(bytes: &[u8]) -> Parsed
+#[tactic(auto, using(crate::proofs::Taken::number_inside), unfolding(crate::specs::Ppm::header_in, crate::specs::Step::refuse_if))]
+fn header(bytes: &[u8]) -> Result<Frame, NotAFrame>
     ensures { header_step result ≡ header_in bytes.now 0 }
 {
-    if bytes.len() == 0 {
-        return Parsed::Refused(EMPTY);
+    if bytes.is_empty() {
+        return Err(NotAFrame::Empty);
     }
     if !is_p6(bytes) {
-        return Parsed::Refused(OTHER_FORMAT);
+        return Err(NotAFrame::OtherFormat);
     }
-    let r1 = number(bytes, 2);
-    let NumberRead::Value(width, at) = r1 else {
-        return Parsed::Refused(refusal(r1));
-    };
-    let r2 = number(bytes, at);
-    let NumberRead::Value(height, at) = r2 else {
-        return Parsed::Refused(refusal(r2));
-    };
-    let r3 = number(bytes, at);
-    let NumberRead::Value(maximum, at) = r3 else {
-        return Parsed::Refused(refusal(r3));
-    };
-    if !is_white(bytes[at]) {
-        return Parsed::Refused(BAD_HEADER);
+    let width = number(bytes, 2)?;
+    let height = number(bytes, width.end)?;
+    let maximum = number(bytes, height.end)?;
+    if !is_white(bytes[maximum.end]) {
+        return Err(NotAFrame::BadHeader);
     }
-    if maximum != 255 {
-        return Parsed::Refused(OTHER_MAXIMUM);
+    if maximum.value != 255 {
+        return Err(NotAFrame::OtherMaximum);
     }
-    Parsed::Frame(width, height, at + 1)
+    Ok(Frame {
+        width: width.value,
+        height: height.value,
+        start: maximum.end + 1,
+    })
 }
 
 // A frame of at most `most` pixels, or why the bytes are not one.
-pub fn parse(bytes: &[u8], most: usize) -> Parsed
-    ensures { result ≡ parse_of most bytes.now }
+#[tactic(auto, unfolding(crate::specs::Ppm::frame_in, crate::specs::Ppm::parse_of, crate::specs::Step::refuse_if))]
+pub fn parse(bytes: &[u8], most: usize) -> Result<Frame, NotAFrame>
+    ensures { parsed result ≡ parse_of most bytes.now }
 {
-    let r = header(bytes);
-    let Parsed::Frame(width, height, start) = r else {
-        return r;
-    };
-    if width == 0 {
-        return Parsed::Refused(EMPTY_PICTURE);
+    let frame = header(bytes)?;
+    let Frame {
+        width,
+        height,
+        start,
+    } = frame;
+    if width == 0 || height == 0 {
+        return Err(NotAFrame::EmptyPicture);
     }
-    if height == 0 {
-        return Parsed::Refused(EMPTY_PICTURE);
+    if 1024 < width || 1024 < height || most < height * width {
+        return Err(NotAFrame::TooLarge);
     }
-    if 1024 < width {
-        return Parsed::Refused(TOO_LARGE);
-    }
-    if 1024 < height {
-        return Parsed::Refused(TOO_LARGE);
-    }
-    let count = height * width;
-    if most < count {
-        return Parsed::Refused(TOO_LARGE);
-    }
-    let end = start + 3 * count;
+    let end = start + 3 * (height * width);
     if bytes.len() < end {
-        return Parsed::Refused(PIXELS_CUT);
+        return Err(NotAFrame::PixelsCut);
     }
     if end < bytes.len() {
-        return Parsed::Refused(LEFT_OVER);
+        return Err(NotAFrame::LeftOver);
     }
-    r
+    Ok(frame)
 }

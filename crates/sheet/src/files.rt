@@ -1,4 +1,4 @@
-// Files that arguments name: sheets, events, curves.
+// Files that arguments name: sheets, events.
 ghost use Rattle.std.specs.Prelude.{◌<◌};
 ghost use Rattle.io.specs.Counts.{IsPrefixLen};
 
@@ -6,7 +6,6 @@ use crate::says;
 use cards::fields::{FieldRead, field};
 use cli::input;
 use cli::input::Loaded;
-use frames::curve::Loaded as LoadedCurve;
 
 // The file that argument i names; where it cannot be taken whole, it is said why.
 pub fn load(rt: HostRuntime, i: usize, out: &mut [u8]) -> Loaded
@@ -32,16 +31,4 @@ pub fn count(sheet: &[u8]) -> u32
         return 0;
     };
     n
-}
-
-// The curve in the file that argument i names. Where it holds none, it is said why, and the fault is not 0.
-pub fn curve(rt: HostRuntime, i: usize) -> LoadedCurve {
-    let mut file = io::buffer();
-    let named = input::named(rt, i, &mut file);
-    let n = named.length;
-    let loaded = frames::curve::load(&file[..n]);
-    if named.ok && loaded.fault != 0 {
-        says::no_curve(rt, i, loaded.fault);
-    }
-    loaded
 }

@@ -69,9 +69,7 @@ fn lend(rt: HostRuntime, station: Station, i: usize, named: usize, file: &mut [u
         play::play(rt, station, i, &none, file);
         return;
     }
-    let loaded = files::curve(rt, named);
-    if loaded.fault == 0 {
-        let curve = loaded.words;
+    if let Some(curve) = input::curve(rt, named) {
         play::play(rt, station, i, &curve, file);
     }
 }

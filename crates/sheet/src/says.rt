@@ -12,12 +12,6 @@ pub fn card(rt: HostRuntime, i: usize, card: &[u8], number: u8) {
     let _ = words::refused(rt, STDERR_FILENO, card, number);
 }
 
-// A file that holds no curve, by the numbers of frames::curve.
-pub fn no_curve(rt: HostRuntime, i: usize, number: u8) {
-    name(rt, STDERR_FILENO, i);
-    words::no_curve(STDERR_FILENO, number);
-}
-
 pub fn too_long(rt: HostRuntime, i: usize) {
     name(rt, STDERR_FILENO, i);
     text(b"too long: more than 2097152 bytes\n");

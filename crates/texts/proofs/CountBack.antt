@@ -6,7 +6,8 @@ use mathlib.Core.Path.{◌≡◌, refl, ap, ◌∙◌}
 use native.Mathlib.Omega.{arith}
 use borrow.Author.Tests.{eqb-true, eqb-false, lt-ltb, le-ltb}
 use lib.Dec.{eqb}
-use Rattle.num.specs.Laws.Bools.{both}
+use Rattle.std.specs.Prelude.{Option, Some, None, Ok}
+use Rattle.num.specs.Laws.Bools.{both, false_true}
 use Rattle.inspect.specs.declared.settings.Setting.TheVariants as S
 use Rattle.texts.specs.Claims.{each}
 use Rattle.texts.specs.Names.{preset_names, preset_name, found}
@@ -14,7 +15,7 @@ use Rattle.texts.specs.Numbers.{is_number, shape_of, decimal_of, worth}
 use Rattle.texts.specs.Print.{whole_text}
 use Rattle.texts.specs.Settings.{whole_of, preset_of}
 use Rattle.texts.specs.Words.{front, is}
-use Rattle.texts.specs.declared.settings.Value.TheVariants.{Is}
+use Rattle.texts.specs.declared.numbers.Decimal.{Decimal}
 use Rattle.texts.proofs.Lexing.{lettered, some, Word}
 
 -- ## Tried one by one
@@ -37,8 +38,16 @@ word_of word e = let h = both (each lettered word) (some word) e in record { let
 
 -- ## Counts
 
+abbrev is_count : Option Decimal → ℕ → Bool
+is_count None v = false
+is_count (Some d) v = d.plain && eqb d.whole v
+
+count-is : (o : Option Decimal) (v : ℕ) → is_count o v ≡ true → (d : Decimal) × (o ≡ Some d) × (d.plain ≡ true) × (d.whole ≡ v)
+count-is None v e = false_true e
+count-is (Some d) v e = let h = both d.plain (eqb d.whole v) e in (d, refl, h.0, eqb-true d.whole v h.1)
+
 abbrev count : ℕ → Bool
-count v = (decimal_of (whole_text v)).plain && eqb (decimal_of (whole_text v)).whole v
+count v = is_count (decimal_of (whole_text v)) v
 
 abbrev count_word : ℕ → Bool
 count_word v = each lettered (whole_text v) && some (whole_text v)
@@ -54,13 +63,11 @@ count-words = refl
 pub whole_word : (v : ℕ) → v < 256 → Word (whole_text v)
 whole_word v l = word_of (whole_text v) (below-is 256 count_word count-words v l)
 
-pub whole_back : (least most v : ℕ) → v < 256 → least ≤ v → v ≤ most → whole_of least most (decimal_of (whole_text v)) ≡ Is (S.Whole v)
+pub whole_back : (least most v : ℕ) → v < 256 → least ≤ v → v ≤ most → whole_of least most (decimal_of (whole_text v)) ≡ Ok (S.Whole v)
 unfolding whole_of
 whole_back least most v l a b =
-    let d = decimal_of (whole_text v) in
-    let h = both d.plain (eqb d.whole v) (below-is 256 count counts v l) in
-    let same : d.whole ≡ v = eqb-true d.whole v h.1 in
-    rw (h.0, same, le-ltb v least a, le-ltb most v b) refl
+    let h = count-is (decimal_of (whole_text v)) v (below-is 256 count counts v l) in
+    rw (h.1, h.2, h.3, le-ltb v least a, le-ltb most v b) refl
 
 -- ## Presets
 
@@ -80,7 +87,7 @@ preset-words = refl
 pub preset-word : (p : ℕ) → p < 7 → Word (preset_name p)
 preset-word p l = word_of (preset_name p) (below-is 7 preset_word preset-words p l)
 
-pub preset_back : (p : ℕ) → p < 7 → preset_of (preset_name p) ≡ Is (S.Whole p)
+pub preset_back : (p : ℕ) → p < 7 → preset_of (preset_name p) ≡ Ok (S.Whole p)
 unfolding preset_of
 preset_back p l =
     let same : found preset_names (preset_name p) 0 ≡ p = eqb-true (found preset_names (preset_name p) 0) p (below-is 7 preset presets p l) in

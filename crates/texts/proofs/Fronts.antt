@@ -1,45 +1,58 @@
--- The front of a list, counted byte by byte: a loop that is at the place i. Assumes nothing.
-use Prim.Native.Nat.{ℕ, ◌+◌, ◌≤◌, ◌<◌}
-use mathlib.Core.Bool.{Bool, true, false, not}
-use mathlib.Core.List.{List, ◌∷◌}
+-- The front of a list: what stands before the first byte that is not such. Assumes nothing.
+use Prim.Native.Nat.{ℕ, suc, ◌+◌, ◌-◌, ◌≤◌, ◌<◌}
+use mathlib.Core.Bool.{Bool, true, false, not, cond}
+use mathlib.Core.List.{List, [], ◌∷◌}
 use mathlib.Core.Path.{◌≡◌, refl, sym, ap, ◌∙◌}
-use native.Mathlib.Numerals.{add-one}
+use native.Mathlib.Numerals.{add-one, one-add}
 use native.Mathlib.Omega.{arith}
-use borrow.Author.Tests.{not-true, not-false}
-use lib.ListN.{length, get_or, drop, drop_of_length-le}
-use lib.Seq.{drop-cons}
+use borrow.Author.Tests.{ltb-false}
+use lib.ListN.{length, get_or, take, drop, length-drop}
+use lib.Dec.{ltb}
+use lib.Seq.{drop-cons, take_all}
+use Rattle.std.specs.Prelude.{Option, Some, None, unwrap_or}
+use Rattle.std.specs.List.{position_or_len}
 use Rattle.texts.specs.Words.{front}
 
 pub at_front : (bytes : List ℕ) (i : ℕ) → i < length bytes → drop i bytes ≡ get_or bytes i 0 ∷ drop (i + 1) bytes
 at_front bytes i l = drop-cons bytes i 0 l ∙ ap (λ (k : ℕ). get_or bytes i 0 ∷ drop k bytes) (sym (add-one i))
 
--- the code's answer to a test, and the branch by it
-pub yes : {r a : Bool} → r ≡ a → not r ≡ false → a ≡ true
-yes {r} e h = sym e ∙ not-false r h
+front-le : (such : ℕ → Bool) (bytes : List ℕ) → front such bytes ≤ length bytes
+unfolding front
+front-le such [] = omega arith
+front-le such (b ∷ bytes) = go (such b) (front-le such bytes)
+  where
+    go : (t : Bool) → front such bytes ≤ length bytes → cond t (suc (front such bytes)) 0 ≤ suc (length bytes)
+    go true l = omega arith
+    go false l = omega arith
 
-pub no : {r a : Bool} → r ≡ a → not r ≡ true → a ≡ false
-no {r} e h = sym e ∙ not-true r h
+-- the front ends at the first byte that is not such
+stopped : (such stops : ℕ → Bool) → ((b : ℕ) → such b ≡ not (stops b)) → (bytes : List ℕ) → position_or_len stops bytes ≡ front such bytes
+unfolding front
+stopped such stops e [] = refl
+stopped such stops e (b ∷ bytes) =
+    ap (λ (t : Bool). cond t (1 + position_or_len stops bytes) 0) (sym (e b)) ∙ ap (λ (n : ℕ). cond (such b) n 0) (one-add (position_or_len stops bytes) ∙ ap suc (stopped such stops e bytes))
 
-pub yet : {r a b : Bool} → r ≡ a → r ≡ b → not a ≡ not b
-yet e h = ap not (sym e ∙ h)
+module _ (such stops : ℕ → Bool) (e : (b : ℕ) → such b ≡ not (stops b)) (bytes : List ℕ) where
+  abbrev first : Option ℕ
+  first = cond (ltb (position_or_len stops bytes) (length bytes)) (Some (position_or_len stops bytes)) None
 
--- what is counted is what was passed and what is left
-pub record Counted (such : ℕ → Bool) (bytes : List ℕ) (from i : ℕ) : Type 0 where
-  pub within : i ≤ length bytes
-  pub count : from + front such (drop from bytes) ≡ i + front such (drop i bytes)
+  -- the place of the first byte that is not such, or the length
+  pub ends : {r : Option ℕ} {n : ℕ} → r ≡ first → n ≡ unwrap_or r (length bytes) → (n ≡ front such bytes) × (n ≤ length bytes)
+  ends {r} {n} f g =
+      let all : n ≡ front such bytes = g ∙ ap (λ (o : Option ℕ). unwrap_or o (length bytes)) f ∙ go (ltb (position_or_len stops bytes) (length bytes)) refl in
+      (all, omega (arith, all, front-le such bytes))
+    where
+      go : (t : Bool) → ltb (position_or_len stops bytes) (length bytes) ≡ t → unwrap_or (cond t (Some (position_or_len stops bytes)) None) (length bytes) ≡ front such bytes
+      go true l = stopped such stops e bytes
+      go false l = omega (arith, ltb-false (position_or_len stops bytes) (length bytes) l, stopped such stops e bytes, front-le such bytes)
 
-module _ {such : ℕ → Bool} {bytes : List ℕ} {from i : ℕ} (t : Counted such bytes from i) where
-  pub count_more : i < length bytes → such (get_or bytes i 0) ≡ true → Counted such bytes from (i + 1)
-  unfolding front
-  count_more l e = record { within = omega arith; count = t.count ∙ rw (at_front bytes i l, e) (omega arith) }
-
-  pub count-stops : i < length bytes → such (get_or bytes i 0) ≡ false → (i ≡ from + front such (drop from bytes)) × (i ≤ length bytes)
-  unfolding front
-  count-stops l e = (sym (t.count ∙ rw (at_front bytes i l, e) (omega arith)), t.within)
-
-  pub count-ends : length bytes ≤ i → (i ≡ from + front such (drop from bytes)) × (i ≤ length bytes)
-  unfolding front
-  count-ends l = (sym (t.count ∙ rw (drop_of_length-le bytes l) (omega arith)), t.within)
-
-pub count_none : {such : ℕ → Bool} (bytes : List ℕ) (from : ℕ) → from ≤ length bytes → Counted such bytes from from
-count_none bytes from l = record { within = l; count = refl }
+-- the same of the bytes from a place on
+pub ends_from : (such stops : ℕ → Bool) → ((b : ℕ) → such b ≡ not (stops b)) → (bytes : List ℕ) (from : ℕ) {r : Option ℕ} {n : ℕ} → from ≤ length bytes
+    → let rest = take (length bytes - from) (drop from bytes) in r ≡ cond (ltb (position_or_len stops rest) (length rest)) (Some (position_or_len stops rest)) None
+    → n ≡ unwrap_or r (length rest) → (from + n ≡ from + front such (drop from bytes)) × (from + n ≤ length bytes)
+ends_from such stops e bytes from {r} {n} l f g =
+    let rest = take (length bytes - from) (drop from bytes) in
+    let whole : rest ≡ drop from bytes = take_all (length bytes - from) (drop from bytes) (omega (arith, length-drop from bytes)) in
+    let found = ends such stops e rest f g in
+    let long : length rest ≡ length bytes - from = ap length whole ∙ length-drop from bytes in
+    (ap (λ (k : ℕ). from + k) (found.0 ∙ ap (front such) whole), omega (arith, found.1, long))

@@ -1,14 +1,15 @@
 -- The line of a pass is read back as that pass: it is words with blanks before them, and each word is read back, the name of the pass, its switch, and
 -- the name and the value of each setting. Assumes nothing.
 use Prim.Native.Nat.{ℕ, suc, ◌+◌, ◌*◌}
-use mathlib.Core.Bool.{Bool, true, false, ◌&&◌}
+use mathlib.Core.Bool.{Bool, true, false, cond, ◌&&◌}
 use mathlib.Core.List.{List, [], ◌∷◌, ◌++◌, append_assoc, append-nil}
 use mathlib.Core.Path.{◌≡◌, refl, sym, ap, ap₂, ◌∙◌}
 use native.Mathlib.Omega.{arith}
 use borrow.Author.Tests.{eq-eqb}
-use lib.Dec.{eqb, leb, ltb}
+use lib.Dec.{eqb, leb}
 use lib.Ieee.{neg}
 use lib.ListN.{length}
+use Rattle.std.specs.Prelude.{Option, Some, None, Result, Ok, Err}
 use Rattle.cards.proofs.Chain.{NormalPass}
 use Rattle.cards.specs.Passes.{kind_of}
 use Rattle.cards.specs.Records.{carded}
@@ -17,18 +18,20 @@ use Rattle.cards.specs.declared.station.Pass.TheVariants.{Ntsc, Bloom, AutoGradi
 use Rattle.cards.specs.declared.station.Record.{Record}
 use Rattle.inspect.specs.Settings.{setting_of}
 use Rattle.inspect.specs.declared.settings.Setting.{Setting}
-use Rattle.inspect.specs.declared.settings.Setting.TheVariants.{Real, Whole, Absent}
+use Rattle.inspect.specs.declared.settings.Setting.TheVariants.{Real, Whole}
 use Rattle.num.specs.Const.{c0_0, c0_01, c0_5, c0_95, c1_0, c4_0}
 use Rattle.texts.specs.Claims.{each}
-use Rattle.texts.specs.Lines.{faulty, ended, kind_in, switch_in, fault_from, pass_line, line_of}
+use Rattle.texts.specs.Lines.{faulty, ended, kind_in, switch_in, fault_or, fault_from, switched, unless, pass_line, line_by, line_of}
 use Rattle.texts.specs.Names.{kind_name, setting_name, found}
 use Rattle.texts.specs.Print.{real_text, whole_text, count_text, mark_text, label_text, setting_text, place_text, settings_text, switch_text, line_text}
-use Rattle.texts.specs.Settings.{slot_of, is_nothing, value_of, setting_in, wrong_of, taken, arity, Maker, pass_of, pass_in}
+use Rattle.texts.specs.Settings.{slot_of, value_of, placed, setting_at, setting_in, taken, arity, Maker, pass_of, pass_in}
 use Rattle.texts.specs.Words.{ascii, small, is, word_of}
 use Rattle.texts.specs.declared.lines.Fault.{Fault}
+use Rattle.texts.specs.declared.lines.Line.{Line}
 use Rattle.texts.specs.declared.lines.Line.TheVariants as L
-use Rattle.texts.specs.declared.settings.Value.{Value}
-use Rattle.texts.specs.declared.settings.Value.TheVariants.{Is}
+use Rattle.texts.specs.declared.mistake.Mistake.{Mistake}
+use Rattle.texts.specs.declared.mistake.Mistake.TheVariants.{SpareWord}
+use Rattle.texts.specs.declared.settings.Slot.{Slot}
 use Rattle.texts.proofs.CountBack.{whole_word, whole_back, preset-word, preset_back}
 use Rattle.texts.proofs.Lexing.{Piece, joined, Word, apart, Spaced, none, more, blanked, lettered, some, word-is, ended_is}
 use Rattle.texts.proofs.RealBack.{real-word, real_back, zero-small, hundredth_small, half-small, most-small, one-small, minus_small, four-small}
@@ -39,16 +42,16 @@ use Rattle.texts.proofs.Tests.{cond_yes, cond_no}
 abbrev field_of : (kind j : ℕ) → List ℕ → List Piece
 field_of kind j value = (mark_text j, setting_name kind j) ∷ (ascii " ", value) ∷ []
 
-abbrev piece_of : (kind j : ℕ) → Setting → List Piece
-piece_of kind j (Real x) = field_of kind j (real_text x)
-piece_of kind j (Whole v) = field_of kind j (count_text kind v)
-piece_of kind j Absent = []
+abbrev piece_of : (kind j : ℕ) → Option Setting → List Piece
+piece_of kind j (Some (Real x)) = field_of kind j (real_text x)
+piece_of kind j (Some (Whole v)) = field_of kind j (count_text kind v)
+piece_of kind j None = []
 
-abbrev placed : Pass → ℕ → List Piece
-placed p j = piece_of (kind_of p) j (setting_of p j)
+abbrev pieces_at : Pass → ℕ → List Piece
+pieces_at p j = piece_of (kind_of p) j (setting_of p j)
 
 abbrev pass_pieces : Pass → List Piece
-pass_pieces p = placed p 0 ++ placed p 1 ++ placed p 2 ++ placed p 3
+pass_pieces p = pieces_at p 0 ++ pieces_at p 1 ++ pieces_at p 2 ++ pieces_at p 3
 
 abbrev pub line_pieces : Bool → Pass → List Piece
 line_pieces on p = ([], kind_name (kind_of p)) ∷ (ascii ", ", switch_text on) ∷ pass_pieces p
@@ -65,20 +68,20 @@ field_text kind j value =
     ∙ append_assoc (mark_text j) (setting_name kind j) (ascii " " ++ value)
     ∙ ap (λ (l : List ℕ). mark_text j ++ (setting_name kind j ++ (ascii " " ++ l))) (sym (append-nil value))
 
-setting_text_lem : (kind j : ℕ) (s : Setting) → setting_text kind j s ≡ joined (piece_of kind j s)
+setting_text_lem : (kind j : ℕ) (s : Option Setting) → setting_text kind j s ≡ joined (piece_of kind j s)
 unfolding setting_text
-setting_text_lem kind j (Real x) = field_text kind j (real_text x)
-setting_text_lem kind j (Whole v) = field_text kind j (count_text kind v)
-setting_text_lem kind j Absent = refl
+setting_text_lem kind j (Some (Real x)) = field_text kind j (real_text x)
+setting_text_lem kind j (Some (Whole v)) = field_text kind j (count_text kind v)
+setting_text_lem kind j None = refl
 
 settings_text_lem : (p : Pass) → settings_text p ≡ joined (pass_pieces p)
 unfolding settings_text
 settings_text_lem p =
-    let t : (j : ℕ) → place_text p j ≡ joined (placed p j) = λ j. setting_text_lem (kind_of p) j (setting_of p j) in
+    let t : (j : ℕ) → place_text p j ≡ joined (pieces_at p j) = λ j. setting_text_lem (kind_of p) j (setting_of p j) in
     ap₂ (λ (a b : List ℕ). a ++ b) (ap₂ (λ (a b : List ℕ). a ++ b) (ap₂ (λ (a b : List ℕ). a ++ b) (t 0) (t 1)) (t 2)) (t 3)
-    ∙ sym (joined-append (placed p 0 ++ placed p 1 ++ placed p 2) (placed p 3)
-    ∙ ap (λ (l : List ℕ). l ++ joined (placed p 3)) (joined-append (placed p 0 ++ placed p 1) (placed p 2)
-    ∙ ap (λ (l : List ℕ). l ++ joined (placed p 2)) (joined-append (placed p 0) (placed p 1))))
+    ∙ sym (joined-append (pieces_at p 0 ++ pieces_at p 1 ++ pieces_at p 2) (pieces_at p 3)
+    ∙ ap (λ (l : List ℕ). l ++ joined (pieces_at p 3)) (joined-append (pieces_at p 0 ++ pieces_at p 1) (pieces_at p 2)
+    ∙ ap (λ (l : List ℕ). l ++ joined (pieces_at p 2)) (joined-append (pieces_at p 0) (pieces_at p 1))))
 
 pub line_text_lem : (r : Record) → line_text r ≡ joined (line_pieces r.on r.pass) ++ (10 ∷ [])
 unfolding line_text
@@ -159,23 +162,23 @@ is_itself [] = refl
 is_itself (b ∷ name) = ap₂ (λ (a c : Bool). a && c) (eq-eqb (small b) (small b) refl) (is_itself name)
 
 -- a setting, from its name and its value
-setting_told : (line : List ℕ) (kind j : ℕ) (value : List ℕ) (s : Setting) → is_nothing (slot_of kind j) ≡ false
-    → word_of line (2 + 2 * j) ≡ setting_name kind j → word_of line (3 + 2 * j) ≡ value → value_of (slot_of kind j) value ≡ Is s → setting_in line kind j ≡ Is s
+setting_told : (line : List ℕ) (kind j : ℕ) (value : List ℕ) (s : Setting) {slot : Slot} → slot_of kind j ≡ Some slot
+    → word_of line (2 + 2 * j) ≡ setting_name kind j → word_of line (3 + 2 * j) ≡ value → value_of slot value ≡ Ok s → setting_in line kind j ≡ Ok (Some s)
 unfolding setting_in
-setting_told line kind j value s e name v back =
-    sym (cond_no (is_nothing (slot_of kind j)) _ _ _ e
-    (cond_yes (is (word_of line (2 + 2 * j)) (setting_name kind j)) _ _ _
-    (ap (λ (w : List ℕ). is w (setting_name kind j)) name ∙ is_itself (setting_name kind j)) (sym (ap (value_of (slot_of kind j)) v ∙ back))))
+setting_told line kind j value s {slot} e name v back =
+    ap (λ (o : Option Slot). setting_at o kind j (word_of line (2 + 2 * j)) (word_of line (3 + 2 * j))) e
+    ∙ sym (cond_yes (is (word_of line (2 + 2 * j)) (setting_name kind j)) _ _ _
+    (ap (λ (w : List ℕ). is w (setting_name kind j)) name ∙ is_itself (setting_name kind j)) (sym (ap (λ (w : List ℕ). placed (value_of slot w)) v ∙ ap placed back)))
 
-setting_absent : (line : List ℕ) (kind j : ℕ) → is_nothing (slot_of kind j) ≡ true → setting_in line kind j ≡ Is Absent
+setting_absent : (line : List ℕ) (kind j : ℕ) → slot_of kind j ≡ None → setting_in line kind j ≡ Ok None
 unfolding setting_in
-setting_absent line kind j e = sym (cond_yes (is_nothing (slot_of kind j)) _ _ _ e refl)
+setting_absent line kind j e = ap (λ (o : Option Slot). setting_at o kind j (word_of line (2 + 2 * j)) (word_of line (3 + 2 * j))) e
 
 record Told (line : List ℕ) (p : Pass) : Type 0 where
-  first : setting_in line (kind_of p) 0 ≡ Is (setting_of p 0)
-  second : setting_in line (kind_of p) 1 ≡ Is (setting_of p 1)
-  third : setting_in line (kind_of p) 2 ≡ Is (setting_of p 2)
-  fourth : setting_in line (kind_of p) 3 ≡ Is (setting_of p 3)
+  first : setting_in line (kind_of p) 0 ≡ Ok (setting_of p 0)
+  second : setting_in line (kind_of p) 1 ≡ Ok (setting_of p 1)
+  third : setting_in line (kind_of p) 2 ≡ Ok (setting_of p 2)
+  fourth : setting_in line (kind_of p) 3 ≡ Ok (setting_of p 3)
 
 told : (on : Bool) (p : Pass) → NormalPass p → Told (joined (line_pieces on p)) p
 told on (Ntsc a b) n =
@@ -273,8 +276,7 @@ told on (Scanlines a) n =
 
 -- what is plain of each kind
 record Known (on : Bool) (p : Pass) : Type 0 where
-  kind : kind_in (kind_name (kind_of p)) ≡ kind_of p
-  few : ltb 10 (kind_of p) ≡ false
+  kind : kind_in (kind_name (kind_of p)) ≡ Some (kind_of p)
   some : eqb (kind_of p) 0 ≡ false
   starts : leb (length (line_pieces on p)) 0 ≡ false
   ends : leb (length (line_pieces on p)) (2 + 2 * arity (kind_of p)) ≡ true
@@ -282,41 +284,40 @@ record Known (on : Bool) (p : Pass) : Type 0 where
 
 known : (on : Bool) (p : Pass) → Known on p
 unfolding kind_in found is
-known on (Ntsc a b) = record { kind = refl; few = refl; some = refl; starts = refl; ends = refl; same = refl }
-known on (Bloom a b c) = record { kind = refl; few = refl; some = refl; starts = refl; ends = refl; same = refl }
-known on (AutoGradient a b c) = record { kind = refl; few = refl; some = refl; starts = refl; ends = refl; same = refl }
-known on (Persistence a b) = record { kind = refl; few = refl; some = refl; starts = refl; ends = refl; same = refl }
-known on (Lut a b) = record { kind = refl; few = refl; some = refl; starts = refl; ends = refl; same = refl }
-known on (Curvature a) = record { kind = refl; few = refl; some = refl; starts = refl; ends = refl; same = refl }
-known on (ColorCorrection a b c d) = record { kind = refl; few = refl; some = refl; starts = refl; ends = refl; same = refl }
-known on (Crt a) = record { kind = refl; few = refl; some = refl; starts = refl; ends = refl; same = refl }
-known on (Vignette a) = record { kind = refl; few = refl; some = refl; starts = refl; ends = refl; same = refl }
-known on (Scanlines a) = record { kind = refl; few = refl; some = refl; starts = refl; ends = refl; same = refl }
+known on (Ntsc a b) = record { kind = refl; some = refl; starts = refl; ends = refl; same = refl }
+known on (Bloom a b c) = record { kind = refl; some = refl; starts = refl; ends = refl; same = refl }
+known on (AutoGradient a b c) = record { kind = refl; some = refl; starts = refl; ends = refl; same = refl }
+known on (Persistence a b) = record { kind = refl; some = refl; starts = refl; ends = refl; same = refl }
+known on (Lut a b) = record { kind = refl; some = refl; starts = refl; ends = refl; same = refl }
+known on (Curvature a) = record { kind = refl; some = refl; starts = refl; ends = refl; same = refl }
+known on (ColorCorrection a b c d) = record { kind = refl; some = refl; starts = refl; ends = refl; same = refl }
+known on (Crt a) = record { kind = refl; some = refl; starts = refl; ends = refl; same = refl }
+known on (Vignette a) = record { kind = refl; some = refl; starts = refl; ends = refl; same = refl }
+known on (Scanlines a) = record { kind = refl; some = refl; starts = refl; ends = refl; same = refl }
 
-switch_told : (on : Bool) → (eqb (switch_in (switch_text on)) 2 ≡ false) × (eqb (switch_in (switch_text on)) 1 ≡ on)
+switch_told : (on : Bool) → switch_in (switch_text on) ≡ Some on
 unfolding switch_in is
-switch_told true = (refl, refl)
-switch_told false = (refl, refl)
+switch_told true = refl
+switch_told false = refl
 
-no_fault : (n : ℕ) (line : List ℕ) (kind j : ℕ) (s : Setting) → setting_in line kind j ≡ Is s
+no_fault : (n : ℕ) (line : List ℕ) (kind j : ℕ) (s : Option Setting) → setting_in line kind j ≡ Ok s
     → fault_from (suc n) line kind j ≡ fault_from n line kind (suc j)
 unfolding fault_from
-no_fault n line kind j s e =
-    sym (cond_yes (eqb (wrong_of (setting_in line kind j)) 0) _ _ _ (ap (λ (v : Value). eqb (wrong_of v) 0) e) refl)
+no_fault n line kind j s e = ap (λ (v : Result (Option Setting) Mistake). fault_or v kind j (fault_from n line kind (suc j))) e
 
-taken_all : (f : Maker) {a b c d : Value} {s t u v : Setting} → a ≡ Is s → b ≡ Is t → c ≡ Is u → d ≡ Is v
+taken_all : (f : Maker) {a b c d : Result (Option Setting) Mistake} {s t u v : Option Setting} → a ≡ Ok s → b ≡ Ok t → c ≡ Ok u → d ≡ Ok v
     → f (taken a) (taken b) (taken c) (taken d) ≡ f s t u v
 taken_all f {a} {b} {c} {d} {s} {t} {u} {v} e g h k =
-    ap (λ (x : Value). f (taken x) (taken b) (taken c) (taken d)) e
-    ∙ ap (λ (x : Value). f s (taken x) (taken c) (taken d)) g
-    ∙ ap (λ (x : Value). f s t (taken x) (taken d)) h
-    ∙ ap (λ (x : Value). f s t u (taken x)) k
+    ap (λ (x : Result (Option Setting) Mistake). f (taken x) (taken b) (taken c) (taken d)) e
+    ∙ ap (λ (x : Result (Option Setting) Mistake). f s (taken x) (taken c) (taken d)) g
+    ∙ ap (λ (x : Result (Option Setting) Mistake). f s t (taken x) (taken d)) h
+    ∙ ap (λ (x : Result (Option Setting) Mistake). f s t u (taken x)) k
 
 module _ (on : Bool) (p : Pass) (n : NormalPass p) where
   abbrev line : List ℕ
   line = joined (line_pieces on p)
 
-  fine : fault_from 4 line (kind_of p) 0 ≡ faulty 0 0 0 0
+  fine : fault_from 4 line (kind_of p) 0 ≡ None
   unfolding fault_from
   fine =
       let k = kind_of p in
@@ -327,24 +328,24 @@ module _ (on : Bool) (p : Pass) (n : NormalPass p) where
   pass_is : pass_in line (kind_of p) ≡ p
   pass_is = let t = told on p n in taken_all (pass_of (kind_of p)) t.first t.second t.third t.fourth ∙ (known on p).same
 
-  pass_back : pass_line line (kind_of p) ≡ L.Pass (carded on p)
+  pass_back : pass_line line (kind_of p) ≡ Ok (L.Pass (carded on p))
   unfolding pass_line
   pass_back =
       let k = kind_of p in
       let g = spaced on p n in
-      let switch : switch_in (word_of line 1) ≡ switch_in (switch_text on) = ap switch_in (word-is (line_pieces on p) g 1) in
-      sym (cond_no (eqb (switch_in (word_of line 1)) 2) _ _ _ (ap (λ (v : ℕ). eqb v 2) switch ∙ (switch_told on).0)
-      (cond_yes (eqb (fault_from 4 line k 0).number 0) _ _ _ (ap (λ (f : Fault). eqb f.number 0) fine)
-      (cond_yes (ended line (2 + 2 * arity k)) _ _ _ (ended_is (line_pieces on p) g (2 + 2 * arity k) ∙ (known on p).ends)
-      (sym (ap₂ (λ (b : Bool) (q : Pass). L.Pass (carded b q)) (ap (λ (v : ℕ). eqb v 1) switch ∙ (switch_told on).1) pass_is)))))
+      let spare = 2 + 2 * arity k in
+      let rest : Bool → Result Line Fault = λ b. cond (ended line spare) (Ok (L.Pass (carded b (pass_in line k)))) (Err (faulty SpareWord spare k 0)) in
+      let switch : switch_in (word_of line 1) ≡ Some on = ap switch_in (word-is (line_pieces on p) g 1) ∙ switch_told on in
+      ap (λ (o : Option Bool). switched o k (λ b. unless (fault_from 4 line k 0) (rest b))) switch
+      ∙ ap (λ (f : Option Fault). unless f (rest on)) fine
+      ∙ sym (cond_yes (ended line spare) _ _ _ (ended_is (line_pieces on p) g spare ∙ (known on p).ends)
+      (sym (ap (λ (q : Pass). Ok (L.Pass (carded on q))) pass_is)))
 
-  pub line_back : line_of line ≡ L.Pass (carded on p)
+  pub line_back : line_of line ≡ Ok (L.Pass (carded on p))
   unfolding line_of
   line_back =
       let g = spaced on p n in
       let q = known on p in
-      let kind : kind_in (word_of line 0) ≡ kind_of p = ap kind_in (word-is (line_pieces on p) g 0) ∙ q.kind in
+      let kind : kind_in (word_of line 0) ≡ Some (kind_of p) = ap kind_in (word-is (line_pieces on p) g 0) ∙ q.kind in
       sym (cond_no (ended line 0) _ _ _ (ended_is (line_pieces on p) g 0 ∙ q.starts)
-      (cond_no (ltb 10 (kind_in (word_of line 0))) _ _ _ (ap (ltb 10) kind ∙ q.few)
-      (cond_no (eqb (kind_in (word_of line 0)) 0) _ _ _ (ap (λ (k : ℕ). eqb k 0) kind ∙ q.some)
-      (sym (ap (pass_line line) kind ∙ pass_back)))))
+      (sym (ap (λ (o : Option ℕ). line_by o line) kind ∙ sym (cond_no (eqb (kind_of p) 0) (pass_line line (kind_of p)) _ _ q.some refl) ∙ pass_back)))

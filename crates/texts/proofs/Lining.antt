@@ -1,52 +1,23 @@
--- A line, test after test: its words, its switch, its settings one after another, and what it says. Assumes nothing.
+-- A line, test after test: its settings one after another, and what it says. Assumes nothing.
 use Prim.Native.Nat.{ℕ, suc, ◌+◌, ◌-◌, ◌*◌, ◌≤◌, ◌<◌}
-use mathlib.Core.Bool.{Bool, true, false, not, cond}
+use mathlib.Core.Bool.{Bool, true, false, cond}
 use mathlib.Core.List.{List}
 use mathlib.Core.Path.{◌≡◌, refl, sym, ap, ◌∙◌}
 use native.Mathlib.Numerals.{add-one}
 use native.Mathlib.Omega.{arith}
-use borrow.Author.Tests.{eq-eqb, ne_eqb, lt-ltb, le-ltb, le-leb, lt-leb, not-true, not-false}
-use lib.Dec.{eqb, ltb}
-use lib.ListN.{take, drop}
+use borrow.Author.Tests.{eq-eqb, ne_eqb}
+use Rattle.std.specs.Prelude.{Option, Some, None, Result, Ok, Err}
 use Rattle.cards.specs.Records.{carded}
 use Rattle.cards.specs.declared.station.Record.{Record}
-use Rattle.texts.specs.Lines.{numbered, kind_in, switch_in, ended, faulty, word_of_fault, fault_from, pass_line, line_of}
-use Rattle.texts.specs.Settings.{setting_in, wrong_of, arity, pass_in}
-use Rattle.texts.specs.Words.{span_of, word_of}
+use Rattle.inspect.specs.declared.settings.Setting.{Setting}
+use Rattle.texts.specs.Lines.{kind_in, switch_in, ended, faulty, word_of_fault, fault_or, fault_from, switched, unless, pass_line, line_by, line_of}
+use Rattle.texts.specs.Settings.{setting_in, arity, pass_in}
+use Rattle.texts.specs.Words.{word_of}
 use Rattle.texts.specs.declared.lines.Fault.{Fault}
 use Rattle.texts.specs.declared.lines.Line.{Line}
-use Rattle.texts.specs.declared.lines.Line.TheVariants.{Blank, Bare, Pass, Wrong}
-use Rattle.texts.specs.declared.numbers.Decimal.{Decimal}
-use Rattle.texts.specs.declared.words.Span.{Span}
-use Rattle.texts.proofs.Fronts.{yes, no}
-use Rattle.texts.proofs.Tests.{cond_yes, cond_no}
-
-pub word_at : (line : List ℕ) (i : ℕ) (s : Span) → s ≡ span_of line i → take (s.to - s.from) (drop s.from line) ≡ word_of line i
-unfolding word_of
-word_at line i s e = ap (λ (t : Span). take (t.to - t.from) (drop t.from line)) e
-
--- ## The kind that a number is
-
-module _ (d : Decimal) where
-  pub not_plain : not d.plain ≡ true → 11 ≡ numbered d
-  not_plain e = rw (not-true d.plain e) refl
-
-  module _ (plain : not d.plain ≡ false) where
-    pub too_little : d.whole < 1 → 11 ≡ numbered d
-    too_little l = rw (not-false d.plain plain, lt-leb 1 d.whole l) refl
-
-    pub too_much : 1 ≤ d.whole → 10 < d.whole → 11 ≡ numbered d
-    too_much l h = rw (not-false d.plain plain, le-leb 1 d.whole l, lt-leb d.whole 10 h) refl
-
-    pub a_kind : 1 ≤ d.whole → d.whole ≤ 10 → d.whole ≡ numbered d
-    a_kind l h = rw (not-false d.plain plain, le-leb 1 d.whole l, le-leb d.whole 10 h) refl
-
--- a number that is found, or another
-pub by_name : (k f n : ℕ) → k ≡ f → k < 11 → k ≡ cond (ltb f 11) f n
-by_name k f n e l = cond_yes (ltb f 11) k f n (lt-ltb f 11 (omega (arith, e, l))) e
-
-pub by_number_lem : (r k f n : ℕ) → k ≡ f → 11 ≤ k → r ≡ n → r ≡ cond (ltb f 11) f n
-by_number_lem r k f n e l h = cond_no (ltb f 11) r f n (le-ltb f 11 (omega (arith, e, l))) h
+use Rattle.texts.specs.declared.lines.Line.TheVariants.{Blank, Bare, Pass}
+use Rattle.texts.specs.declared.mistake.Mistake.{Mistake}
+use Rattle.texts.specs.declared.mistake.Mistake.TheVariants.{UnknownPass, NoSwitch, SpareWord}
 
 -- ## The settings one after another
 
@@ -59,69 +30,84 @@ pub unfaulted_none : (line : List ℕ) (kind : ℕ) → Unfaulted line kind 0
 unfaulted_none line kind = record { left = refl; within = omega arith }
 
 module _ {line : List ℕ} {kind j : ℕ} (t : Unfaulted line kind j) where
-  here : j < 4 → (k : ℕ) → k ≡ wrong_of (setting_in line kind j)
-      → fault_from 4 line kind 0 ≡ cond (eqb k 0) (fault_from (4 - (j + 1)) line kind (j + 1)) (faulty k (word_of_fault k j) kind j)
+  here : j < 4 → (v : Result (Option Setting) Mistake) → v ≡ setting_in line kind j
+      → fault_from 4 line kind 0 ≡ fault_or v kind j (fault_from (4 - (j + 1)) line kind (j + 1))
   unfolding fault_from
-  here l k e =
+  here l v e =
       let one : 4 - j ≡ suc (4 - (j + 1)) = omega arith in
       t.left ∙ ap (λ (n : ℕ). fault_from n line kind j) one ∙ rw (e, add-one) refl
 
-  pub unfaulted_more : (k : ℕ) → j < 4 → k ≡ wrong_of (setting_in line kind j) → k ≡ 0 → Unfaulted line kind (j + 1)
-  unfaulted_more k l e z = record { left = here l k e ∙ rw (eq-eqb k 0 z) refl; within = omega arith }
+  pub unfaulted_more : (s : Option Setting) → j < 4 → Ok s ≡ setting_in line kind j → Unfaulted line kind (j + 1)
+  unfaulted_more s l e = record { left = here l (Ok s) e; within = omega arith }
 
-  pub is_fault : (k w : ℕ) (f : Fault) → j < 4 → k ≡ wrong_of (setting_in line kind j) → (k ≡ 0 → ⊥) → w ≡ word_of_fault k j → f ≡ faulty k w kind j
-      → f ≡ fault_from 4 line kind 0
-  is_fault k w f l e n is h = h ∙ ap (λ (v : ℕ). faulty k v kind j) is ∙ sym (here l k e ∙ rw (ne_eqb k 0 n) refl)
+  pub is_fault : (m : Mistake) (w : ℕ) (f : Fault) → j < 4 → Err m ≡ setting_in line kind j → w ≡ word_of_fault m j → f ≡ faulty m w kind j
+      → Some f ≡ fault_from 4 line kind 0
+  is_fault m w f l e is h = ap Some (h ∙ ap (λ (v : ℕ). faulty m v kind j) is) ∙ sym (here l (Err m) e)
 
-  pub unfaulted_all : (f : Fault) → 4 ≤ j → f ≡ faulty 0 0 0 0 → f ≡ fault_from 4 line kind 0
+  pub unfaulted_all : 4 ≤ j → None ≡ fault_from 4 line kind 0
   unfolding fault_from
-  unfaulted_all f l is = let none : 4 - j ≡ 0 = omega arith in is ∙ sym (t.left ∙ ap (λ (n : ℕ). fault_from n line kind j) none)
+  unfaulted_all l = let none : 4 - j ≡ 0 = omega arith in sym (t.left ∙ ap (λ (n : ℕ). fault_from n line kind j) none)
 
 -- ## A line with a pass
 
-module _ (line : List ℕ) (kind on : ℕ) (switched : on ≡ switch_in (word_of line 1)) where
-  pub no_switch : (f : Fault) → on ≡ 2 → f ≡ faulty 5 1 kind 0 → Wrong f ≡ pass_line line kind
+module _ (line : List ℕ) (kind : ℕ) {o : Option Bool} (asked : o ≡ switch_in (word_of line 1)) where
+  abbrev spare : ℕ
+  spare = 2 + 2 * arity kind
+
+  abbrev settled : Option Fault → Bool → Result Line Fault
+  settled g on = unless g (cond (ended line spare) (Ok (Pass (carded on (pass_in line kind)))) (Err (faulty SpareWord spare kind 0)))
+
+  by_switch : switched o kind (settled (fault_from 4 line kind 0)) ≡ pass_line line kind
   unfolding pass_line
-  no_switch f e is = rw (is, eq-eqb _ 2 (sym switched ∙ e)) refl
+  by_switch = ap (λ (p : Option Bool). switched p kind (settled (fault_from 4 line kind 0))) asked
 
-  module _ (n2 : on ≡ 2 → ⊥) (f : Fault) (first : f ≡ fault_from 4 line kind 0) where
-    switch : eqb (switch_in (word_of line 1)) 2 ≡ false
-    switch = ne_eqb _ 2 (λ e. n2 (switched ∙ e))
+  pub no_switch : (f : Fault) → o ≡ None → f ≡ faulty NoSwitch 1 kind 0 → Err f ≡ pass_line line kind
+  no_switch f e is = ap Err is ∙ ap (λ (p : Option Bool). switched p kind (settled (fault_from 4 line kind 0))) (sym e) ∙ by_switch
 
-    pub no_setting : (f.number ≡ 0 → ⊥) → Wrong f ≡ pass_line line kind
-    unfolding pass_line
-    no_setting n = rw (switch, sym first, ne_eqb f.number 0 n) refl
+  module _ (on : Bool) (e : o ≡ Some on) {g : Option Fault} (first : g ≡ fault_from 4 line kind 0) where
+    by_fault : settled g on ≡ pass_line line kind
+    by_fault = ap (λ (f : Option Fault). settled f on) first ∙ ap (λ (p : Option Bool). switched p kind (settled (fault_from 4 line kind 0))) (sym e) ∙ by_switch
 
-    module _ (none : f.number ≡ 0) (a : ℕ) (is : a ≡ arity kind) (r : Bool) (asked : r ≡ ended line (2 + 2 * a)) where
-      pub too_many : (g : Fault) → not r ≡ true → g ≡ faulty 9 (2 + 2 * a) kind 0 → Wrong g ≡ pass_line line kind
-      unfolding pass_line
-      too_many g e h = rw (h, switch, sym first, eq-eqb f.number 0 none, sym is, no asked e) refl
+    pub wrong_setting : (f : Fault) → g ≡ Some f → Err f ≡ pass_line line kind
+    wrong_setting f h = ap (λ (k : Option Fault). settled k on) (sym h) ∙ by_fault
 
-      pub is_pass : (p : Record) → not r ≡ false → p ≡ carded (eqb on 1) (pass_in line kind) → Pass p ≡ pass_line line kind
-      unfolding pass_line
-      is_pass p e h = rw (h, switch, sym first, eq-eqb f.number 0 none, sym is, yes asked e, sym switched) refl
+    module _ (none : g ≡ None) {r : Bool} (end : r ≡ ended line spare) where
+      by_end : cond r (Ok (Pass (carded on (pass_in line kind)))) (Err (faulty SpareWord spare kind 0)) ≡ pass_line line kind
+      by_end =
+          ap (λ (b : Bool). cond b (Ok (Pass (carded on (pass_in line kind)))) (Err (faulty SpareWord spare kind 0))) end
+          ∙ ap (λ (k : Option Fault). settled k on) (sym none) ∙ by_fault
+
+      pub too_many : (f : Fault) → r ≡ false → f ≡ faulty SpareWord spare kind 0 → Err f ≡ pass_line line kind
+      too_many f h is = ap Err is ∙ rw h at by_end
+
+      pub is_pass : (p : Record) → r ≡ true → p ≡ carded on (pass_in line kind) → Ok (Pass p) ≡ pass_line line kind
+      is_pass p h is = ap (λ (q : Record). Ok (Pass q)) is ∙ rw h at by_end
 
 -- ## A line
 
-module _ (line : List ℕ) (r : Bool) (asked : r ≡ ended line 0) where
-  pub blank : r ≡ true → Blank ≡ line_of line
+module _ (line : List ℕ) {r : Bool} (asked : r ≡ ended line 0) where
+  pub blank : r ≡ true → Ok Blank ≡ line_of line
   unfolding line_of
   blank e = rw (sym asked ∙ e) refl
 
-  module _ (b : r ≡ false) (kind : ℕ) (is : kind ≡ kind_in (word_of line 0)) where
-    pub unknown : (f : Fault) → 10 < kind → f ≡ faulty 1 0 0 0 → Wrong f ≡ line_of line
+  module _ (b : r ≡ false) {o : Option ℕ} (kind-is : o ≡ kind_in (word_of line 0)) where
+    by_kind : line_by o line ≡ line_of line
     unfolding line_of
-    unknown f l h = rw (h, sym asked ∙ b, sym is, lt-ltb 10 kind l) refl
+    by_kind = rw (sym asked ∙ b) (ap (λ (k : Option ℕ). line_by k line) kind-is)
 
-    module _ (few : kind ≤ 10) where
-      pub many : (q : Bool) (f : Fault) → q ≡ ended line 1 → kind ≡ 0 → not q ≡ true → f ≡ faulty 9 1 0 0 → Wrong f ≡ line_of line
-      unfolding line_of
-      many q f again z e h = rw (h, sym asked ∙ b, sym is, le-ltb 10 kind few, eq-eqb kind 0 z, no again e) refl
+    pub unknown : (f : Fault) → o ≡ None → f ≡ faulty UnknownPass 0 0 0 → Err f ≡ line_of line
+    unknown f e is = ap Err is ∙ ap (λ (k : Option ℕ). line_by k line) (sym e) ∙ by_kind
 
-      pub bare : (q : Bool) → q ≡ ended line 1 → kind ≡ 0 → not q ≡ false → Bare ≡ line_of line
-      unfolding line_of
-      bare q again z e = rw (sym asked ∙ b, sym is, le-ltb 10 kind few, eq-eqb kind 0 z, yes again e) refl
+    module _ (kind : ℕ) (e : o ≡ Some kind) where
+      known : line_by (Some kind) line ≡ line_of line
+      known = ap (λ (k : Option ℕ). line_by k line) (sym e) ∙ by_kind
 
-      pub passed : (t : Line) → (kind ≡ 0 → ⊥) → t ≡ pass_line line kind → t ≡ line_of line
-      unfolding line_of
-      passed t n h = rw (h, sym asked ∙ b, sym is, le-ltb 10 kind few, ne_eqb kind 0 n) refl
+      pub passed : {t : Result Line Fault} → (kind ≡ 0 → ⊥) → t ≡ pass_line line kind → t ≡ line_of line
+      passed n h = h ∙ rw (ne_eqb kind 0 n) at known
+
+      module _ (z : kind ≡ 0) {q : Bool} (again : q ≡ ended line 1) where
+        pub many : (f : Fault) → q ≡ false → f ≡ faulty SpareWord 1 0 0 → Err f ≡ line_of line
+        many f h is = ap Err is ∙ rw (eq-eqb kind 0 z, sym again ∙ h) at known
+
+        pub bare : q ≡ true → Ok Bare ≡ line_of line
+        bare h = rw (eq-eqb kind 0 z, sym again ∙ h) at known

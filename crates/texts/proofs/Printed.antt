@@ -1,17 +1,15 @@
 -- What the texts are, case by case, and how long they can be. Assumes nothing.
 use Prim.Native.Nat.{ℕ, zero, suc, ◌+◌, ◌-◌, ◌/◌, ◌%◌, ◌≤◌, ◌<◌}
-use mathlib.Core.Bool.{Bool, true, false, cond, ◌&&◌}
+use mathlib.Core.Bool.{Bool, true, false, cond}
 use mathlib.Core.List.{List, [], ◌∷◌, ◌++◌}
 use mathlib.Core.Path.{◌≡◌, refl, ap, ap₂, ◌∙◌}
 use native.Mathlib.Nat.{not-suc-le-zero}
 use native.Mathlib.Numerals.{add-one}
 use native.Mathlib.Omega.{arith}
 use borrow.Author.Tests.{eq-eqb, ne_eqb, lt-ltb, le-ltb}
-use lib.Dec.{T, leb, leb→le}
 use lib.Ieee.{Float}
-use lib.Ieee.Fits.{and_l, and_r}
 use lib.ListN.{length, get_or, take, drop, drop_of_length-le}
-use lib.Seq.{slice-cons, length-take-le, take-append_seam}
+use lib.Seq.{drop-cons, take-append_seam}
 use Rattle.cards.specs.Alike.{chain_of}
 use Rattle.cards.specs.Laws.Scans.{past}
 use Rattle.cards.specs.Normal.{good_station}
@@ -21,12 +19,13 @@ use Rattle.cards.specs.declared.station.Station.{Station}
 use Rattle.inspect.specs.Decimal.{digits_of, point_of}
 use Rattle.inspect.specs.declared.decimal.Point.{Point}
 use Rattle.inspect.specs.declared.settings.Setting.{Setting}
-use Rattle.inspect.specs.declared.settings.Setting.TheVariants.{Real, Whole, Absent}
-use Rattle.texts.specs.Names.{Name, kind_names, kind_name, preset_names, preset_name, setting_names, setting_name}
+use Rattle.inspect.specs.declared.settings.Setting.TheVariants.{Real, Whole}
+use Rattle.texts.specs.Names.{kind_name}
+use Rattle.std.specs.Prelude.{Option, Some, None, Ok, Err}
+use Rattle.num.specs.declared.refusal.Refusal.TheVariants.{BadStation, ShortCardBuffer}
 use Rattle.texts.specs.Print.{digit, down, pointed, sign_text, real_text, whole_text, count_text, value_text, label_text, setting_text, settings_text, switch_text}
 use Rattle.texts.specs.Print.{line_text, lines_text, text_of, print_reply, print_into, laid, Puts}
 use Rattle.texts.specs.Words.{ascii}
-use Rattle.texts.specs.declared.print.Printing.TheVariants.{Length, Refused}
 use Rattle.texts.proofs.Printing.{puts_none, puts_then, puts_as}
 
 -- ## Digits, from the highest place down
@@ -81,45 +80,15 @@ first b xs ys e = rw e refl
 pub second : (b : Bool) (xs ys : List ℕ) → b ≡ false → ys ≡ cond b xs ys
 second b xs ys e = rw e refl
 
--- ## Names
-
--- none has more than n letters
-abbrev short : ℕ → List Name → Bool
-short n [] = true
-short n (name ∷ names) = leb (length name) n && short n names
-
-short_name : (n : ℕ) (names : List Name) → T (short n names) → (k : ℕ) → length (get_or names k []) ≤ n
-short_name n [] t k = omega arith
-short_name n (name ∷ names) t zero = leb→le (length name) n (and_l (leb (length name) n) (short n names) t)
-short_name n (name ∷ names) t (suc k) = short_name n names (and_r (leb (length name) n) (short n names) t) k
-
-abbrev shorts : ℕ → List (List Name) → Bool
-shorts n [] = true
-shorts n (names ∷ tables) = short n names && shorts n tables
-
-short-table : (n : ℕ) (tables : List (List Name)) → T (shorts n tables) → (k j : ℕ) → length (get_or (get_or tables k []) j []) ≤ n
-short-table n [] t k j = omega arith
-short-table n (names ∷ tables) t zero j = short_name n names (and_l (short n names) (shorts n tables) t) j
-short-table n (names ∷ tables) t (suc k) j = short-table n tables (and_r (short n names) (shorts n tables) t) k j
-
-pub kind_short : (k : ℕ) → length (kind_name k) ≤ 11
-kind_short k = short_name 11 kind_names tt k
-
-pub preset-short : (p : ℕ) → length (preset_name p) ≤ 13
-preset-short p = short_name 13 preset_names tt p
-
-pub setting_short : (k j : ℕ) → length (setting_name k j) ≤ 10
-setting_short k j = short-table 10 setting_names tt k j
-
 -- ## Values: an arm of the `match`
 
-pub real_value : (s : Setting) (x : Float) (kind at r : ℕ) (a o : List ℕ) → Puts (real_text x) 152 at a r o → s ≡ Real x → Puts (value_text kind s) 152 at a r o
+pub real_value : (s : Option Setting) (x : Float) (kind at r : ℕ) (a o : List ℕ) → Puts (real_text x) 152 at a r o → s ≡ Some (Real x) → Puts (value_text kind s) 152 at a r o
 real_value s x kind at r a o p e = rw e p
 
-pub whole_value : (s : Setting) (v kind at r : ℕ) (a o : List ℕ) → Puts (count_text kind v) 13 at a r o → s ≡ Whole v → Puts (value_text kind s) 152 at a r o
+pub whole_value : (s : Option Setting) (v kind at r : ℕ) (a o : List ℕ) → Puts (count_text kind v) 13 at a r o → s ≡ Some (Whole v) → Puts (value_text kind s) 152 at a r o
 whole_value s v kind at r a o p e = rw e (puts_as _ 152 p refl (omega arith))
 
-pub no_value : (s : Setting) (kind at : ℕ) (a : List ℕ) → at + 152 ≤ length a → s ≡ Absent → Puts (value_text kind s) 152 at a at a
+pub no_value : (s : Option Setting) (kind at : ℕ) (a : List ℕ) → at + 152 ≤ length a → s ≡ None → Puts (value_text kind s) 152 at a at a
 no_value s kind at a l e = rw e (puts_none at 152 a (omega arith))
 
 pub ruleset values = (real_value, whole_value, no_value)
@@ -131,23 +100,16 @@ at-start {text} {before} {after} {most} {r} p =
     let long : r ≡ length text = omega (arith, p.place) in
     (omega (arith, p.within, p.long), rw long (ap (take (length text)) p.bytes ∙ take-append_seam text (drop (0 + length text) before)))
 
--- ## Settings: an arm of the `match`, whose text follows the label
+-- ## Settings: the text of a value follows the label
 
-pub real_arm : (s : Setting) (x : Float) (kind j at m r : ℕ) (a b o : List ℕ) → Puts (real_text x) 152 m b r o → Puts (label_text kind j) 13 at a m b → s ≡ Real x
-    → Puts (setting_text kind j s) 165 at a r o
+pub some_setting : (o : Option Setting) (s : Setting) (kind j at m r : ℕ) (a b n : List ℕ) → o ≡ Some s → Puts (label_text kind j) 13 at a m b → Puts (value_text kind o) 152 m b r n
+    → Puts (setting_text kind j o) 165 at a r n
 unfolding setting_text
-real_arm s x kind j at m r a b o q p e = rw e (puts_then p q)
+some_setting o s kind j at m r a b n e p q = rw e (puts_then p (rw e at q))
 
-pub whole_arm : (s : Setting) (v kind j at m r : ℕ) (a b o : List ℕ) → Puts (count_text kind v) 13 m b r o → Puts (label_text kind j) 13 at a m b → s ≡ Whole v
-    → Puts (setting_text kind j s) 165 at a r o
+pub no_setting : (o : Option Setting) (kind j at : ℕ) (a : List ℕ) → at + 165 ≤ length a → o ≡ None → Puts (setting_text kind j o) 165 at a at a
 unfolding setting_text
-whole_arm s v kind j at m r a b o q p e = rw e (puts_as _ 165 (puts_then p q) refl (omega arith))
-
-pub absent_arm : (s : Setting) (kind j at : ℕ) (a : List ℕ) → at + 165 ≤ length a → s ≡ Absent → Puts (setting_text kind j s) 165 at a at a
-unfolding setting_text
-absent_arm s kind j at a l e = rw e (puts_none at 165 a (omega arith))
-
-pub ruleset settings = (real_arm, whole_arm, absent_arm)
+no_setting o kind j at a l e = rw e (puts_none at 165 a (omega arith))
 
 -- ## Lines
 
@@ -156,41 +118,40 @@ pub line-is : (r : Record) (k : ℕ) → k ≡ kind_of r.pass
 unfolding line_text
 line-is r k e = ap (λ (kind : ℕ). kind_name kind ++ ascii ", " ++ switch_text r.on ++ settings_text r.pass ++ ascii "\n") e
 
-pub lines_next : (rs : List Record) (n i : ℕ) → i < n → n ≤ length rs
-    → lines_text (drop i (take n rs)) ≡ line_text (get_or rs i past) ++ lines_text (drop (i + 1) (take n rs))
+pub lines_next : (rs : List Record) (i : ℕ) → i < length rs → lines_text (drop i rs) ≡ line_text (get_or rs i past) ++ lines_text (drop (i + 1) rs)
 unfolding lines_text
-lines_next rs n i l few = rw add-one (ap lines_text (slice-cons i n rs past l few))
+lines_next rs i l = rw add-one (ap lines_text (drop-cons rs i past l))
 
-pub lines_none : (rs : List Record) (n i : ℕ) → n ≤ i → n ≤ length rs → lines_text (drop i (take n rs)) ≡ []
+pub lines_none : (rs : List Record) (i : ℕ) → length rs ≤ i → lines_text (drop i rs) ≡ []
 unfolding lines_text
-lines_none rs n i l few = ap lines_text (drop_of_length-le (take n rs) {i = i} (omega (arith, length-take-le n rs few)))
+lines_none rs i l = ap lines_text (drop_of_length-le rs {i = i} l)
 
-pub text_none : (rs : List Record) (n : ℕ) → n ≡ 0 → ascii "none\n" ≡ text_of (take n rs)
+pub text_none : (rs : List Record) → length rs ≡ 0 → ascii "none\n" ≡ text_of rs
 unfolding text_of
-text_none rs n e = rw e refl
+text_none [] e = refl
+text_none (r ∷ rs) e = absurd (omega (arith, e))
 
-pub text_some : (rs : List Record) (n : ℕ) → (n ≡ 0 → ⊥) → length rs ≡ 12 → lines_text (take n rs) ≡ text_of (take n rs)
+pub text_some : (rs : List Record) → (length rs ≡ 0 → ⊥) → lines_text rs ≡ text_of rs
 unfolding text_of
-text_some rs zero some twelve = absurd (some refl)
-text_some [] (suc n) some twelve = absurd (omega (arith, twelve))
-text_some (r ∷ rs) (suc n) some twelve = refl
+text_some [] some = absurd (some refl)
+text_some (r ∷ rs) some = refl
 
 -- ## What `print` answers
 
 pub printed : (s : Station) (m r : ℕ) (a b : List ℕ) → good_station s ≡ true → 8192 ≤ length a → Puts (text_of (chain_of s)) m 0 a r b
-    → (Length r ≡ print_reply s a) × (b ≡ print_into s a)
+    → (Ok r ≡ print_reply s a) × (b ≡ print_into s a)
 unfolding print_reply print_into laid
 printed s m r a b ok room p =
     let text = text_of (chain_of s) in
     let none : 0 + length text ≡ length text = omega arith in (
-      rw (ok, le-ltb (length a) 8192 room) (ap Length (p.place ∙ none)),
+      rw (ok, le-ltb (length a) 8192 room) (ap Ok (p.place ∙ none)),
       rw (ok, le-ltb (length a) 8192 room) (p.bytes ∙ ap (λ (k : ℕ). text ++ drop k a) none),
     )
 
-pub unprinted : (s : Station) (a : List ℕ) → good_station s ≡ false → (Refused 13 ≡ print_reply s a) × (a ≡ print_into s a)
+pub unprinted : (s : Station) (a : List ℕ) → good_station s ≡ false → (Err BadStation ≡ print_reply s a) × (a ≡ print_into s a)
 unfolding print_reply print_into
 unprinted s a bad = (rw bad refl, rw bad refl)
 
-pub no_room : (s : Station) (a : List ℕ) → good_station s ≡ true → length a < 8192 → (Refused 14 ≡ print_reply s a) × (a ≡ print_into s a)
+pub no_room : (s : Station) (a : List ℕ) → good_station s ≡ true → length a < 8192 → (Err ShortCardBuffer ≡ print_reply s a) × (a ≡ print_into s a)
 unfolding print_reply print_into
 no_room s a ok l = (rw (ok, lt-ltb (length a) 8192 l) refl, rw (ok, lt-ltb (length a) 8192 l) refl)

@@ -4,6 +4,8 @@ use mathlib.Core.List.{List, [], ◌∷◌, ◌++◌, append_assoc, append-nil}
 use mathlib.Core.Path.{◌≡◌, refl, sym, ap, ap₂, ◌∙◌}
 use native.Mathlib.Numerals.{add-one}
 use native.Mathlib.Omega.{arith}
+use borrow.Rule.Slice.PartMut.{put_mid}
+use native.Mathlib.Nat.{le_refl}
 use lib.ListN.{length, set, take, drop, length-append, length-set, length-drop, take-append-drop}
 use lib.Seq.{take_at, drop_at, drop-drop, length-take-le, set_split}
 use Rattle.texts.specs.Print.{laid, Puts}
@@ -48,6 +50,14 @@ laid_one at b out l = set_split out at b l ∙ rw add-one (sym (append_assoc (ta
 
 pub puts_none : (at most : ℕ) (out : List ℕ) → at ≤ length out → Puts [] most at out at out
 puts_none at most out l = record { place = omega arith; few = omega arith; within = l; long = refl; bytes = sym (laid_nil at out) }
+
+-- a text copied over a part of the buffer
+pub puts_copy : (text out new : List ℕ) (at k : ℕ) → at + length text ≤ length out → k ≡ length text → new ≡ text
+    → Puts text (length text) at out (at + length text) (put_mid at k out new)
+unfolding laid
+puts_copy text out new at k l e is =
+    let laid-is : put_mid at k out new ≡ take at out ++ text ++ drop (at + length text) out = rw (e, is, drop-drop (length text) at out) (sym (append_assoc (take at out) text (drop (at + length text) out))) in
+    record { place = refl; few = le_refl (length text); within = l; long = ap length laid-is ∙ laid-length at text out l; bytes = laid-is }
 
 pub puts_then : {xs ys : List ℕ} {m n at r s : ℕ} {a b c : List ℕ} → Puts xs m at a r b → Puts ys n r b s c → Puts (xs ++ ys) (m + n) at a s c
 puts_then {xs} {ys} {m} {n} {at} {r} {s} {a} {b} {c} p q = record {

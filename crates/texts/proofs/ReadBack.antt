@@ -10,6 +10,7 @@ use borrow.Author.Tests.{not-true, ne_eqb, lt-leb}
 use lib.Dec.{eqb, leb}
 use lib.ListN.{length, set, take, replicate, length-append}
 use lib.Seq.{take-append_seam, take_all, set-append_seam}
+use Rattle.std.specs.Prelude.{Result, Ok}
 use Rattle.cards.proofs.Chain.{NormalChain, normal_unheld}
 use Rattle.cards.proofs.OpensGood.{opens_good}
 use Rattle.cards.proofs.Theorems.{accepted_opens}
@@ -29,8 +30,9 @@ use Rattle.texts.specs.Claims.{each, in_line, Comments, none, line, PrintedBack}
 use Rattle.texts.specs.Lines.{kind_in, line_of}
 use Rattle.texts.specs.Names.{found}
 use Rattle.texts.specs.Print.{lines_text, text_of}
-use Rattle.texts.specs.Read.{before, lines_of, in_text, uncommented, fine, begun, appended, with_pass, with_none, with_line, made, finished, read_lines, made_of}
+use Rattle.texts.specs.Read.{before, lines_of, in_text, uncommented, begun, appended, with_pass, with_none, with_line, made, finished, read_on, read_lines, made_of}
 use Rattle.texts.specs.Words.{ascii, front, next_word, span_of, word_of, is}
+use Rattle.texts.specs.declared.lines.Fault.{Fault}
 use Rattle.texts.specs.declared.lines.Line.{Line}
 use Rattle.texts.specs.declared.lines.Line.TheVariants as L
 use Rattle.texts.specs.declared.read.Draft.{Draft}
@@ -53,19 +55,17 @@ unfolding uncommented
 uncommented_all bytes e = ap (λ (n : ℕ). take n bytes) (front_all in_text bytes e) ∙ take_all (length bytes) bytes (omega arith)
 
 -- a comment is no line of a pass
-commented : (bytes : List ℕ) → line_of (uncommented (35 ∷ bytes)) ≡ L.Blank
+commented : (bytes : List ℕ) → line_of (uncommented (35 ∷ bytes)) ≡ Ok L.Blank
 unfolding uncommented front line_of span_of next_word
 commented bytes = refl
 
 -- one line, where nothing is wrong with it
-read-line : (i : ℕ) (d e : Draft) (bytes rest : List ℕ) (l : Line) → each in_line bytes ≡ true → line_of (uncommented bytes) ≡ l → with_line d l ≡ e
-    → eqb e.fault.number 0 ≡ true → read_lines i d (lines_of (bytes ++ 10 ∷ rest)) ≡ read_lines (suc i) e (lines_of rest)
+read-line : (i : ℕ) (d e : Draft) (bytes rest : List ℕ) (l : Result Line Fault) → each in_line bytes ≡ true → line_of (uncommented bytes) ≡ l → with_line d l ≡ Ok e
+    → read_lines i d (lines_of (bytes ++ 10 ∷ rest)) ≡ read_lines (suc i) e (lines_of rest)
 unfolding read_lines
-read-line i d e bytes rest l cut is next ok =
-    let with : with_line d (line_of (uncommented bytes)) ≡ e = ap (with_line d) is ∙ next in
+read-line i d e bytes rest l cut is next =
     ap (read_lines i d) (lines_cut bytes rest cut)
-    ∙ sym (cond_yes (eqb (with_line d (line_of (uncommented bytes))).fault.number 0) _ _ _ (ap (λ (f : Draft). eqb f.fault.number 0) with ∙ ok)
-    (sym (ap (λ (f : Draft). read_lines (suc i) f (lines_of rest)) with)))
+    ∙ ap (λ (f : Result Draft Fault). read_on i f (λ g. read_lines (suc i) g (lines_of rest))) (ap (with_line d) is ∙ next)
 
 -- ## Comments
 
@@ -73,25 +73,25 @@ read-line i d e bytes rest l cut is next ok =
 abbrev Makes : Draft → List ℕ → Station → Type 0
 Makes d text s = (i : ℕ) → read_lines i d (lines_of text) ≡ made s
 
-past_comments : {head : List ℕ} (d : Draft) (rest : List ℕ) (s : Station) → Comments head → eqb d.fault.number 0 ≡ true → Makes d rest s
+past_comments : {head : List ℕ} (d : Draft) (rest : List ℕ) (s : Station) → Comments head → Makes d rest s
     → Makes d (head ++ rest) s
-past_comments d rest s none ok m i = m i
-past_comments d rest s (line bytes {rest = more} e c) ok m i =
+past_comments d rest s none m i = m i
+past_comments d rest s (line bytes {rest = more} e c) m i =
     ap (λ (l : List ℕ). read_lines i d (lines_of l)) (append_assoc (35 ∷ bytes) (10 ∷ more) rest)
-    ∙ read-line i d d (35 ∷ bytes) (more ++ rest) L.Blank e (commented bytes) refl ok
-    ∙ past_comments d rest s c ok m (suc i)
+    ∙ read-line i d d (35 ∷ bytes) (more ++ rest) (Ok L.Blank) e (commented bytes) refl
+    ∙ past_comments d rest s c m (suc i)
 
 -- where only comments are left
-at_end : (d : Draft) (foot : List ℕ) (s : Station) → Comments foot → eqb d.fault.number 0 ≡ true → ((i : ℕ) → finished i d ≡ made s)
+at_end : (d : Draft) (foot : List ℕ) (s : Station) → Comments foot → ((i : ℕ) → finished i d ≡ made s)
     → Makes d foot s
 unfolding read_lines lines_of
-at_end d foot s c ok f = subst (λ (l : List ℕ). Makes d l s) (append-nil foot) (past_comments d [] s c ok (λ i. f i))
+at_end d foot s c f = subst (λ (l : List ℕ). Makes d l s) (append-nil foot) (past_comments d [] s c (λ i. f i))
 
 -- ## One pass more
 
 -- what is read after some passes
 abbrev drafted : List Record → Draft
-drafted done = record { station = station_of done; bare = false; fault = fine }
+drafted done = record { station = station_of done; bare = false }
 
 one_more : (done : List Record) (r : Record) → length done < 12 → appended (station_of done) r ≡ station_of (done ++ r ∷ [])
 one_more done r l =
@@ -105,13 +105,13 @@ one_more done r l =
     ap₂ (λ (rs : List Record) (n : ℕ). record { records = rs; n = n; pending = P.Nothing }) records (sym long)
 
 with_pass_lem : (done : List Record) (r : Record) → length done < 12 → good_station (station_of (done ++ r ∷ [])) ≡ true
-    → with_pass (drafted done) r ≡ drafted (done ++ r ∷ [])
+    → with_pass (drafted done) r ≡ Ok (drafted (done ++ r ∷ []))
 unfolding with_pass
 with_pass_lem done r l g =
     let more = one_more done r l in
     sym (cond_no (leb 12 (length done)) _ _ _ (lt-leb 12 (length done) l)
     (cond_yes (good_station (appended (station_of done) r)) _ _ _ (ap good_station more ∙ g)
-    (sym (ap (λ (s : Station). record { station = s; bare = false; fault = fine }) more))))
+    (sym (ap (λ (s : Station). Ok (record { station = s; bare = false })) more))))
 
 -- ## The passes before one in a good chain are a good chain
 
@@ -165,7 +165,7 @@ module _ (all : List Record) (w : Whole all) (some : 0 < length all) (foot : Lis
   unfolding lines_text finished
   chain_makes [] done e n i =
       let same : done ≡ all = sym (append-nil done) ∙ e in
-      at_end (drafted done) foot (station_of all) c refl
+      at_end (drafted done) foot (station_of all) c
       (λ j. sym (cond_no (eqb (length done) 0 && true) _ _ _
       (ap (λ (b : Bool). b && true) (ne_eqb (length done) 0 (λ z. omega (arith, z, some, ap length same))))
       (ap (λ (rs : List Record). made (station_of rs)) (sym same)))) i
@@ -176,23 +176,23 @@ module _ (all : List Record) (w : Whole all) (some : 0 < length all) (foot : Lis
       let g = spaced on p n.0 in
       let short : length done < 12 = omega (arith, ap length e, length-append done (r ∷ rs), w.few) in
       let next : done ++ r ∷ [] ++ rs ≡ all = append_assoc done (r ∷ []) rs ∙ e in
-      let is : line_of (uncommented t) ≡ L.Pass r
-      = ap line_of (uncommented_all t (joined_text (line_pieces on p) g)) ∙ line_back on p n.0 ∙ ap L.Pass (as_carded r n.3) in
+      let is : line_of (uncommented t) ≡ Ok (L.Pass r)
+      = ap line_of (uncommented_all t (joined_text (line_pieces on p) g)) ∙ line_back on p n.0 ∙ ap (λ (q : Record). Ok (L.Pass q)) (as_carded r n.3) in
       ap (λ (l : List ℕ). read_lines i (drafted done) (lines_of l)) (printed-next r rs foot)
-      ∙ read-line i (drafted done) (drafted (done ++ r ∷ [])) t (lines_text rs ++ foot) (L.Pass r) (joined_line (line_pieces on p) g) is
-      (with_pass_lem done r short (good_prefix (done ++ r ∷ []) rs (subst Whole (sym next) w))) refl
+      ∙ read-line i (drafted done) (drafted (done ++ r ∷ [])) t (lines_text rs ++ foot) (Ok (L.Pass r)) (joined_line (line_pieces on p) g) is
+      (with_pass_lem done r short (good_prefix (done ++ r ∷ []) rs (subst Whole (sym next) w)))
       ∙ chain_makes rs (done ++ r ∷ []) next n.4 (suc i)
 
 -- that there is no pass
-none_is : line_of (uncommented (ascii "none")) ≡ L.Bare
+none_is : line_of (uncommented (ascii "none")) ≡ Ok L.Bare
 unfolding uncommented front line_of span_of next_word word_of kind_in found is
 none_is = refl
 
 text_makes : (rs : List Record) → Whole rs → NormalChain [] rs → (foot : List ℕ) → Comments foot → Makes begun (text_of rs ++ foot) (station_of rs)
 unfolding text_of with_none finished
 text_makes [] w n foot c i =
-    let d : Draft = record { station = station_of []; bare = true; fault = fine } in
-    read-line i begun d (ascii "none") foot L.Bare refl none_is refl refl ∙ at_end d foot (station_of []) c refl (λ j. refl) (suc i)
+    let d : Draft = record { station = station_of []; bare = true } in
+    read-line i begun d (ascii "none") foot (Ok L.Bare) refl none_is refl ∙ at_end d foot (station_of []) c (λ j. refl) (suc i)
 text_makes (r ∷ rs) w n foot c i = chain_makes (r ∷ rs) w (omega arith) foot c (r ∷ rs) [] refl n i
 
 -- ## The theorem
@@ -209,5 +209,5 @@ printed_back card s e head foot h f =
     } in
     ap (λ (l : List ℕ). read_lines 0 begun (lines_of l)) (append_assoc head (text_of (chain_of s)) foot)
     ∙ ap (λ (rs : List Record). read_lines 0 begun (lines_of (head ++ (text_of rs ++ foot)))) same
-    ∙ past_comments begun (text_of o.chain ++ foot) (station_of o.chain) h refl (text_makes o.chain w o.normal foot f) 0
+    ∙ past_comments begun (text_of o.chain ++ foot) (station_of o.chain) h (text_makes o.chain w o.normal foot f) 0
     ∙ ap made (sym o.whole)

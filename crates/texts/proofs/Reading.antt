@@ -1,6 +1,6 @@
 -- A text, line after line: what a draft becomes by a line, where lines end, and a loop that has read up to a place. Assumes nothing.
 use Prim.Native.Nat.{ℕ, suc, ◌+◌, ◌-◌, ◌≤◌, ◌<◌}
-use mathlib.Core.Bool.{Bool, true, false, not, cond}
+use mathlib.Core.Bool.{Bool, true, false, not, cond, ◌&&◌}
 use mathlib.Core.List.{List, [], ◌∷◌}
 use mathlib.Core.Path.{◌≡◌, refl, sym, ap, ◌∙◌}
 use native.Mathlib.Numerals.{add-one}
@@ -9,66 +9,70 @@ use borrow.Author.Tests.{eq-eqb, ne_eqb, le-leb, lt-leb}
 use lib.Dec.{eqb}
 use lib.ListN.{length, take, drop, length-drop, drop_of_length-le}
 use lib.Seq.{drop-drop}
+use Rattle.std.specs.Prelude.{Result, Ok, Err}
 use Rattle.cards.specs.Normal.{good_station}
 use Rattle.cards.specs.Passes.{kind_of}
 use Rattle.cards.specs.declared.station.Record.{Record}
 use Rattle.cards.specs.declared.station.Station.{Station}
 use Rattle.texts.specs.Lines.{faulty, line_of}
-use Rattle.texts.specs.Read.{before, lines_of, in_text, uncommented, fine, begun, wrong_with, appended, with_pass, with_none, with_line}
-use Rattle.texts.specs.Read.{made, failed, finished, read_lines, made_of}
+use Rattle.texts.specs.Read.{before, lines_of, in_text, uncommented, begun, appended, with_pass, with_none, with_line}
+use Rattle.texts.specs.Read.{made, failed, finished, read_on, read_lines, made_of}
 use Rattle.texts.specs.Words.{front}
 use Rattle.texts.specs.declared.lines.Fault.{Fault}
+use Rattle.texts.specs.declared.mistake.Mistake.TheVariants.{PassOutOfPlace, TooManyPasses, PassBesideNone, NoPass}
 use Rattle.texts.specs.declared.read.Draft.{Draft}
-use Rattle.texts.specs.declared.read.Made.{Made}
-use Rattle.texts.proofs.Fronts.{yes, no}
+use Rattle.texts.specs.declared.read.Misread.{Misread}
 
 -- ## One pass more
 
 module _ (d : Draft) (r : Record) (k : ℕ) (is : k ≡ kind_of r.pass) where
-  pub after_none : (e : Draft) (f : Fault) → d.bare ≡ true → f ≡ faulty 4 0 k 0 → e ≡ wrong_with d f → e ≡ with_pass d r
+  pub after_none : (f : Fault) → d.bare ≡ true → f ≡ faulty PassBesideNone 0 k 0 → Err f ≡ with_pass d r
   unfolding with_pass
-  after_none e f b g h = h ∙ rw (g, is, b) refl
+  after_none f b g = rw (g, is, b) refl
 
   module _ (b : d.bare ≡ false) where
-    pub beyond : (e : Draft) (f : Fault) → 12 ≤ d.station.n → f ≡ faulty 3 0 k 0 → e ≡ wrong_with d f → e ≡ with_pass d r
+    pub beyond : (f : Fault) → 12 ≤ d.station.n → f ≡ faulty TooManyPasses 0 k 0 → Err f ≡ with_pass d r
     unfolding with_pass
-    beyond e f l g h = h ∙ rw (g, is, b, le-leb 12 d.station.n l) refl
+    beyond f l g = rw (g, is, b, le-leb 12 d.station.n l) refl
 
-    module _ (few : d.station.n < 12) (s : Station) (t : s ≡ appended d.station r) (good : Bool) (asked : good ≡ good_station s) where
-      pub misplaced : (e : Draft) (f : Fault) → not good ≡ true → f ≡ faulty 2 0 k 0 → e ≡ wrong_with d f → e ≡ with_pass d r
+    module _ (few : d.station.n < 12) (s : Station) (t : s ≡ appended d.station r) {good : Bool} (asked : good ≡ good_station s) where
+      pub misplaced : (f : Fault) → good ≡ false → f ≡ faulty PassOutOfPlace 0 k 0 → Err f ≡ with_pass d r
       unfolding with_pass
-      misplaced e f n g h = h ∙ rw (g, is, b, lt-leb 12 d.station.n few, sym t, no asked n) refl
+      misplaced f n g = rw (g, is, b, lt-leb 12 d.station.n few, sym t, sym asked ∙ n) refl
 
-      pub in_place : (f : Fault) → not good ≡ false → f ≡ fine → record { station = s; bare = false; fault = f } ≡ with_pass d r
+      pub in_place : good ≡ true → Ok (record { station = s; bare = false }) ≡ with_pass d r
       unfolding with_pass
-      in_place f y g = rw (g, b, lt-leb 12 d.station.n few, sym t, yes asked y) refl
+      in_place y = rw (b, lt-leb 12 d.station.n few, sym t, sym asked ∙ y) refl
 
 -- ## No pass
 
 module _ (d : Draft) where
-  pub beside : (e : Draft) (f : Fault) → (d.station.n ≡ 0 → ⊥) → f ≡ faulty 4 0 0 0 → e ≡ wrong_with d f → e ≡ with_none d
+  pub beside : (f : Fault) → (d.station.n ≡ 0 → ⊥) → f ≡ faulty PassBesideNone 0 0 0 → Err f ≡ with_none d
   unfolding with_none
-  beside e f n g h = h ∙ rw (g, ne_eqb d.station.n 0 n) refl
+  beside f n g = rw (g, ne_eqb d.station.n 0 n) refl
 
-  pub alone : (f : Fault) → d.station.n ≡ 0 → f ≡ fine → record { station = d.station; bare = true; fault = f } ≡ with_none d
+  pub alone : d.station.n ≡ 0 → Ok (record { station = d.station; bare = true }) ≡ with_none d
   unfolding with_none
-  alone f z g = rw (g, eq-eqb d.station.n 0 z) refl
+  alone z = rw (eq-eqb d.station.n 0 z) refl
 
 -- ## At the end
 
-module _ (i : ℕ) (d : Draft) (r : Made) where
-  pub has_pass : (d.station.n ≡ 0 → ⊥) → r ≡ made d.station → r ≡ finished i d
+module _ (i : ℕ) (d : Draft) where
+  pub has_pass : (d.station.n ≡ 0 → ⊥) → made d.station ≡ finished i d
   unfolding finished
-  has_pass n h = h ∙ rw (ne_eqb d.station.n 0 n) refl
+  has_pass n = rw (ne_eqb d.station.n 0 n) refl
 
-  module _ (z : d.station.n ≡ 0) where
-    pub has_none : d.bare ≡ true → r ≡ made d.station → r ≡ finished i d
-    unfolding finished
-    has_none b h = h ∙ rw (eq-eqb d.station.n 0 z, b) refl
+  pub has_none : d.bare ≡ true → made d.station ≡ finished i d
+  unfolding finished
+  has_none b = go (eqb d.station.n 0)
+    where
+      go : (t : Bool) → made d.station ≡ cond (t && not d.bare) (failed i (faulty NoPass 0 0 0)) (made d.station)
+      go true = rw b refl
+      go false = refl
 
-    pub has_nothing : (f : Fault) → d.bare ≡ false → f ≡ faulty 10 0 0 0 → r ≡ failed i f → r ≡ finished i d
-    unfolding finished
-    has_nothing f b g h = h ∙ rw (g, eq-eqb d.station.n 0 z, b) refl
+  pub has_nothing : (f : Fault) → d.station.n ≡ 0 → d.bare ≡ false → f ≡ faulty NoPass 0 0 0 → failed i f ≡ finished i d
+  unfolding finished
+  has_nothing f z b g = rw (g, eq-eqb d.station.n 0 z, b) refl
 
 -- ## Lines
 
@@ -88,10 +92,6 @@ first-line [] l = absurd (omega (arith, l))
 first-line (b ∷ []) l = opened b [] (eqb b 10) refl
 first-line (b ∷ a ∷ bs) l = opened b (a ∷ bs) (eqb b 10) (ap (before b) (first-line (a ∷ bs) (omega arith)))
 
--- a count from place 0 on
-pub from_none : {i n k : ℕ} → (i ≡ 0 + n) × (i ≤ k) → (i ≡ n) × (i ≤ k)
-from_none e = (omega (arith, e.0), e.1)
-
 pub before_comment : (d : Draft) (line : List ℕ) (n : ℕ) → n ≡ front in_text line → with_line d (line_of (take n line)) ≡ with_line d (line_of (uncommented line))
 unfolding uncommented
 before_comment d line n e = ap (λ (k : ℕ). with_line d (line_of (take k line))) e
@@ -108,9 +108,9 @@ unfolding made_of
 reached_none text d e = record { left = rw e refl; few = omega arith }
 
 module _ {text : List ℕ} {d : Draft} {at line : ℕ} (t : Reached text d at line) where
-  module _ (l : at < length text) (end : ℕ) (e : Draft) (ends : end ≡ at + front in_line (drop at text))
+  module _ (l : at < length text) (end : ℕ) {e : Result Draft Fault} (ends : end ≡ at + front in_line (drop at text))
       (is : e ≡ with_line d (line_of (uncommented (take (end - at) (drop at text))))) where
-    here : made_of text ≡ cond (eqb e.fault.number 0) (read_lines (suc line) e (lines_of (drop (end + 1) text))) (failed line e.fault)
+    here : made_of text ≡ read_on line e (λ g. read_lines (suc line) g (lines_of (drop (end + 1) text)))
     unfolding read_lines
     here =
         let xs = drop at text in
@@ -122,15 +122,14 @@ module _ {text : List ℕ} {d : Draft} {at line : ℕ} (t : Reached text d at li
         let past : drop (suc n) xs ≡ drop (end + 1) text = drop-drop (suc n) at text ∙ ap (λ (k : ℕ). drop k text) place in
         let lines : lines_of xs ≡ take (end - at) xs ∷ rest
         = first-line xs some ∙ ap (λ (ys : List ℕ). take n xs ∷ lines_of ys) past ∙ ap (λ (k : ℕ). take k xs ∷ rest) (sym long) in
-        t.left ∙ ap (read_lines line d) lines
-        ∙ ap (λ (g : Draft). cond (eqb g.fault.number 0) (read_lines (suc line) g rest) (failed line g.fault)) (sym is)
+        t.left ∙ ap (read_lines line d) lines ∙ ap (λ (g : Result Draft Fault). read_on line g (λ h. read_lines (suc line) h rest)) (sym is)
 
-    pub read-stops : (r : Made) → (e.fault.number ≡ 0 → ⊥) → r ≡ failed line e.fault → r ≡ made_of text
-    read-stops r n h = h ∙ sym (here ∙ rw (ne_eqb e.fault.number 0 n) refl)
+    pub read-stops : (f : Fault) → e ≡ Err f → failed line f ≡ made_of text
+    read-stops f h = sym (here ∙ rw h refl)
 
-    pub reached_more : e.fault.number ≡ 0 → Reached text e (end + 1) (line + 1)
-    reached_more z = record { left = here ∙ rw (eq-eqb e.fault.number 0 z, add-one line) refl; few = omega (arith, ends, t.few) }
+    pub reached_more : (g : Draft) → e ≡ Ok g → Reached text g (end + 1) (line + 1)
+    reached_more g h = record { left = here ∙ rw (h, add-one line) refl; few = omega (arith, ends, t.few) }
 
-  pub read_all : (r : Made) → length text ≤ at → r ≡ finished line d → r ≡ made_of text
+  pub read_all : {r : Result Station Misread} → length text ≤ at → r ≡ finished line d → r ≡ made_of text
   unfolding read_lines lines_of
-  read_all r l h = h ∙ sym (t.left ∙ ap (λ (xs : List ℕ). read_lines line d (lines_of xs)) (drop_of_length-le text l))
+  read_all l h = h ∙ sym (t.left ∙ ap (λ (xs : List ℕ). read_lines line d (lines_of xs)) (drop_of_length-le text l))

@@ -16,6 +16,7 @@ use lib.Ieee.Fits.{down_pos}
 use lib.ListN.{length, get_or, take, drop}
 use lib.Seq.{take-length, take-nil}
 use Rattle.cards.proofs.Back.{Settled, limit_kept}
+use Rattle.std.specs.Prelude.{Some, Ok}
 use Rattle.inspect.specs.Decimal.{number, digits_of, places_of, negative_of}
 use Rattle.inspect.specs.Laws.Decimal.{back, exactly}
 use Rattle.inspect.specs.declared.settings.Setting.TheVariants as S
@@ -24,13 +25,13 @@ use Rattle.num.specs.Laws.Bools.{false_true}
 use Rattle.num.specs.Laws.Order.{none_left}
 use Rattle.num.specs.Laws.Within.{cross}
 use Rattle.texts.specs.Claims.{each}
-use Rattle.texts.specs.Numbers.{is_digit, digit as value, worth, shape_of, is_number, value_in, decimal_of}
+use Rattle.texts.specs.Numbers.{is_digit, digit as value, worth, shape_of, is_number, is_plain, between, value_in, decimal_of}
 use Rattle.texts.specs.Print.{digit, pointed, sign_text, real_text}
 use Rattle.texts.specs.Print.{down as printed}
 use Rattle.texts.specs.Settings.{real_of}
 use Rattle.texts.specs.Words.{front}
 use Rattle.texts.specs.declared.numbers.Shape.{Shape}
-use Rattle.texts.specs.declared.settings.Value.TheVariants.{Is}
+use Rattle.texts.specs.declared.numbers.Decimal.{Decimal}
 use Rattle.texts.proofs.CountBack.{below-is}
 use Rattle.texts.proofs.Lexing.{front_all, lettered, Word}
 use Rattle.texts.proofs.Printed.{point_none, point-some, down-length}
@@ -96,14 +97,16 @@ number_is s long a b c d =
     rw (eq-eqb s.end long a, le-leb before 7 b, le-leb after 150 c, lt-ltb 0 (before + after) d) refl
 
 decimal-is : (word : List ℕ) (s : Shape) → shape_of word ≡ s → is_number s (length word) ≡ true
-    → ((decimal_of word).ok ≡ true) × ((decimal_of word).nearest ≡ value_in s word)
+    → (d : Decimal) × (decimal_of word ≡ Some d) × (d.nearest ≡ value_in s word)
 unfolding decimal_of
-decimal-is word s e n = rw (e, n) (refl, refl)
+decimal-is word s e n =
+    (record { plain = is_plain s (length word); whole = worth 0 (between s.start s.point word); nearest = value_in s word }, rw (e, n) refl, refl)
 
 -- what is read is a sign and a number over ten to its places
 record Reads (word : List ℕ) (s : Bool) (n places : ℕ) : Type 0 where
-  ok : (decimal_of word).ok ≡ true
-  is : (decimal_of word).nearest ≡ round binary32 s n (10 ^ places)
+  found : Decimal
+  is : decimal_of word ≡ Some found
+  near : found.nearest ≡ round binary32 s n (10 ^ places)
 
 -- a byte that is a digit, and so no sign
 record Digit (b : ℕ) : Type 0 where
@@ -136,12 +139,12 @@ module _ (b : ℕ) (t : Digit b) where
   reads-one : Reads (b ∷ []) false (worth 0 (b ∷ [])) 0
   reads-one =
       let h = decimal-is (b ∷ []) (shape 0 1 1 1) shape_one (number_is (shape 0 1 1 1) 1 refl (omega arith) (omega arith) (omega arith)) in
-      record { ok = h.0; is = h.1 ∙ ap (λ (s : Bool). round binary32 s (worth 0 (b ∷ [])) 1) t.minus }
+      record { found = h.0; is = h.1; near = h.2 ∙ ap (λ (s : Bool). round binary32 s (worth 0 (b ∷ [])) 1) t.minus }
 
   reads_minus_one : Reads (45 ∷ b ∷ []) true (worth 0 (b ∷ [])) 0
   reads_minus_one =
       let h = decimal-is (45 ∷ b ∷ []) (shape 1 2 2 2) shape_minus_one (number_is (shape 1 2 2 2) 2 refl (omega arith) (omega arith) (omega arith)) in
-      record { ok = h.0; is = h.1 }
+      record { found = h.0; is = h.1; near = h.2 }
 
   -- and those behind a point
   module _ (ds : List ℕ) (e : each is_digit ds ≡ true) (few : length ds ≤ 150) where
@@ -168,14 +171,14 @@ module _ (b : ℕ) (t : Digit b) where
         let s = shape 0 1 2 (2 + length ds) in
         let fine = number_is s (length (b ∷ 46 ∷ ds)) (omega arith) (omega arith) (omega arith) (omega arith) in
         let h = decimal-is (b ∷ 46 ∷ ds) s shape_more fine in
-        record { ok = h.0; is = h.1 ∙ value_more }
+        record { found = h.0; is = h.1; near = h.2 ∙ value_more }
 
     reads_minus_more : Reads (45 ∷ b ∷ 46 ∷ ds) true (worth 0 (b ∷ ds)) (length ds)
     reads_minus_more =
         let s = shape 1 2 3 (3 + length ds) in
         let fine = number_is s (length (45 ∷ b ∷ 46 ∷ ds)) (omega arith) (omega arith) (omega arith) (omega arith) in
         let h = decimal-is (45 ∷ b ∷ 46 ∷ ds) s shape_minus_more fine in
-        record { ok = h.0; is = h.1 ∙ value_minus_more }
+        record { found = h.0; is = h.1; near = h.2 ∙ value_minus_more }
 
 -- ## The word of a number
 
@@ -281,7 +284,7 @@ pub real-word : (x : Float) → T (fits binary32 x) → Word (real_text x)
 unfolding real_text
 real-word x h = signed_word (digits_of x) (exactly x h).digits.each (negative_of x) (places_of x)
 
-pub real_back : (low high x : Float) → Small low → Small high → Settled low high x → real_of low high (decimal_of (real_text x)) ≡ Is (S.Real x)
+pub real_back : (low high x : Float) → Small low → Small high → Settled low high x → real_of low high (decimal_of (real_text x)) ≡ Ok (S.Real x)
 unfolding real_of real_text
 real_back low high x a b t =
     let ds = digits_of x in
@@ -293,8 +296,8 @@ real_back low high x a b t =
     let some : 0 < 10 ^ p = pow-le-pow_right {n = 10} (lit< tt) {i = 0} {j = p} (omega arith) in
     let fits_one : n < 10 ^ suc p = subst (λ (k : ℕ). n < k) (sym (pow-suc 10 p)) (omega (arith, small, some)) in
     let r = signed_reads ds q.digits.each p q.few fits_one (negative_of x) (eqb p 0) refl in
-    let same : (decimal_of (real_text x)).nearest ≡ x = r.is ∙ back x (negative_of x) n (10 ^ p) t.held some v in
-    rw (r.ok, same, t.above, t.below, limit_kept low high x t) refl
+    let same : r.found.nearest ≡ x = r.near ∙ back x (negative_of x) n (10 ^ p) t.held some v in
+    rw (r.is, same, t.above, t.below, limit_kept low high x t) refl
 
 -- ## The ends of the ranges
 

@@ -1,27 +1,19 @@
 -- The places of a number's word, and what its being a number says of them. Assumes nothing.
 use Prim.Native.Nat.{ℕ, ◌+◌, ◌-◌, ◌^◌, ◌≤◌}
-use mathlib.Core.Bool.{Bool, true, false, not, ◌&&◌}
-use mathlib.Core.List.{List, [], ◌∷◌, ◌++◌}
+use mathlib.Core.Bool.{Bool, true, false, ◌&&◌}
+use mathlib.Core.List.{List, ◌++◌}
 use mathlib.Core.Path.{◌≡◌, refl, sym, ap, ◌∙◌}
 use native.Mathlib.Omega.{arith}
 use borrow.Author.Tests.{leb-true, eqb-true}
 use lib.Dec.{eqb, leb, ltb}
 use lib.Ieee.{Float, binary32, round}
-use lib.ListN.{length, get_or, drop, length-drop}
+use lib.ListN.{length, drop, length-drop}
 use lib.Seq.{length-take-le}
+use Rattle.std.specs.Prelude.{Some, None}
 use Rattle.num.specs.Laws.Bools.{both}
-use Rattle.texts.specs.Numbers.{is_digit, worth, is_minus, start_of, behind_of, shape_of, is_number, is_plain, between, no_number, decimal_of, Ordered}
+use Rattle.texts.specs.Numbers.{is_digit, worth, is_minus, start_of, behind_of, shape_of, is_number, is_plain, between, decimal_of, Ordered}
 use Rattle.texts.specs.Words.{front}
 use Rattle.texts.specs.declared.numbers.Shape.{Shape}
-use Rattle.texts.proofs.Fronts.{yes, no}
-use Rattle.texts.proofs.Worths.{get_d_past}
-
-pub no_sign : (word : List ℕ) → length word ≡ 0 → 0 ≡ start_of word
-no_sign [] e = refl
-no_sign (b ∷ word) e = absurd (omega (arith, e))
-
-pub no_point : (word : List ℕ) (point : ℕ) → point ≡ length word → point ≡ behind_of word point
-no_point word point e = let none : get_or word point 0 ≡ 0 = get_d_past word point (omega arith) in rw none refl
 
 pub shaped : (word : List ℕ) (start point behind end : ℕ)
     → (start ≡ start_of word) × (start ≤ length word)
@@ -55,27 +47,27 @@ few s long e =
 part_length : (from to : ℕ) (word : List ℕ) → from ≤ to → to ≤ length word → length (between from to word) ≡ to - from
 part_length from to word l h = length-take-le (to - from) (drop from word) (omega (arith, length-drop from word))
 
-module _ (word : List ℕ) (s : Shape) (r : Bool) (is : (s ≡ shape_of word) × Ordered s (length word)) (asked : r ≡ is_number s (length word)) where
-  pub no_number_lem : not r ≡ true → no_number ≡ decimal_of word
+module _ (word : List ℕ) (s : Shape) {r : Bool} (is : (s ≡ shape_of word) × Ordered s (length word)) (asked : r ≡ is_number s (length word)) where
+  pub no_number : r ≡ false → None ≡ decimal_of word
   unfolding decimal_of
-  no_number_lem e = let none : is_number (shape_of word) (length word) ≡ false = ap (λ (t : Shape). is_number t (length word)) (sym is.0) ∙ no asked e in rw none refl
+  no_number e = let none : is_number (shape_of word) (length word) ≡ false = ap (λ (t : Shape). is_number t (length word)) (sym is.0) ∙ sym asked ∙ e in rw none refl
 
-  module _ (e : not r ≡ false) where
+  module _ (e : r ≡ true) where
     pub few-before : length (between s.start s.point word) ≤ 7
     few-before =
         let o = is.1 in
-        omega (arith, (few s (length word) (yes asked e)).before, part_length s.start s.point word o.first (omega (arith, o.second, o.third, o.last)))
+        omega (arith, (few s (length word) (sym asked ∙ e)).before, part_length s.start s.point word o.first (omega (arith, o.second, o.third, o.last)))
 
     after-length : length (between s.behind s.end word) ≡ s.end - s.behind
     after-length = part_length s.behind s.end word is.1.third is.1.last
 
     pub few-after : length (between s.behind s.end word) ≤ 150
-    few-after = omega (arith, (few s (length word) (yes asked e)).after, after-length)
+    few-after = omega (arith, (few s (length word) (sym asked ∙ e)).after, after-length)
 
     pub numbered : (plain minus : Bool) (w : ℕ) (x : Float) → plain ≡ is_plain s (length word) → w ≡ worth 0 (between s.start s.point word) → minus ≡ is_minus word
         → x ≡ round binary32 minus (worth 0 (between s.start s.point word ++ between s.behind s.end word)) (10 ^ length (between s.behind s.end word))
-        → record { ok = true; plain = plain; whole = w; nearest = x } ≡ decimal_of word
+        → Some (record { plain = plain; whole = w; nearest = x }) ≡ decimal_of word
     unfolding decimal_of
     numbered plain minus w x a b m d =
-        let number : is_number (shape_of word) (length word) ≡ true = ap (λ (t : Shape). is_number t (length word)) (sym is.0) ∙ yes asked e in
+        let number : is_number (shape_of word) (length word) ≡ true = ap (λ (t : Shape). is_number t (length word)) (sym is.0) ∙ sym asked ∙ e in
         rw (a, b, d, m, after-length, is.0, number) refl

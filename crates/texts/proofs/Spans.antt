@@ -1,15 +1,19 @@
 -- Where words begin and end, and words that are names. Assumes nothing.
 use Prim.Native.Nat.{ℕ, suc, ◌+◌, ◌≤◌, ◌<◌}
-use mathlib.Core.Bool.{Bool, true, false, ◌&&◌}
+use mathlib.Core.Bool.{Bool, true, false, cond, ◌&&◌}
 use mathlib.Core.List.{List, [], ◌∷◌}
 use mathlib.Core.Path.{◌≡◌, refl, sym, ap, ap₂, ◌∙◌}
 use native.Mathlib.Omega.{arith}
-use borrow.Author.Tests.{eq-eqb, ne_eqb}
-use lib.Dec.{eqb}
-use lib.ListN.{length, get_or, drop, drop_of_length-le}
+use borrow.Author.Tests.{eq-eqb, eqb-true, leb-true, leb-false, le-ltb, lt-ltb}
+use lib.Dec.{eqb, leb}
+use lib.ListN.{length, drop}
+use Rattle.std.specs.Prelude.{Decides, map}
+use Rattle.std.specs.Char.{to_ascii_lowercase}
+use Rattle.std.proofs.lemmas.Bool.{false≢true}
+use Rattle.std.proofs.lemmas.Bool.Decides.{same_from_decides}
+use Rattle.num.specs.Laws.Bools.{both}
 use Rattle.texts.specs.Words.{front, is_blank, is_letter, next_word, span_of, small, is}
 use Rattle.texts.specs.declared.words.Span.{Span}
-use Rattle.texts.proofs.Fronts.{at_front}
 
 pub spanned : (line : List ℕ) (at from to : ℕ) → from ≡ at + front is_blank (drop at line) → to ≡ from + front is_letter (drop from line)
     → record { from = from; to = to } ≡ next_word line at
@@ -36,37 +40,33 @@ pub passed_all : {line : List ℕ} {i : ℕ} {word : Span} {k : ℕ} (t : Passed
     → (word ≡ span_of line i) × (word.from ≤ word.to) × (word.to ≤ length line)
 passed_all {line} {i} {word} {k} t l = let same : k ≡ i = omega (arith, t.few) in (t.is ∙ ap (span_of line) same, t.ordered, t.within)
 
--- a word and a name of other lengths
-pub other_length : (word name : List ℕ) → (length word ≡ length name → ⊥) → false ≡ is word name
-unfolding is
-other_length [] [] n = absurd (n refl)
-other_length [] (c ∷ name) n = refl
-other_length (b ∷ word) [] n = refl
-other_length (b ∷ word) (c ∷ name) n = go (eqb (small b) (small c)) (other_length word name (λ e. n (ap suc e)))
+-- a letter without its case, as std has it
+lower : (b : ℕ) → small b ≡ to_ascii_lowercase b
+lower b = go (leb 65 b) refl (leb b 90) refl
   where
-    go : (t : Bool) → false ≡ is word name → false ≡ (t && is word name)
-    go true e = e
-    go false e = refl
+    go : (t : Bool) → leb 65 b ≡ t → (u : Bool) → leb b 90 ≡ u → cond (t && u) (b + 32) b ≡ to_ascii_lowercase b
+    go true e true f = rw (le-ltb b 65 (leb-true 65 b e), lt-ltb b 91 (omega (arith, leb-true b 90 f))) refl
+    go true e false f = rw (le-ltb b 65 (leb-true 65 b e), le-ltb b 91 (omega (arith, leb-false b 90 f))) refl
+    go false e u f = rw (lt-ltb b 65 (leb-false 65 b e)) refl
 
--- the first i letters are the name's
-pub record Same (word name : List ℕ) (i : ℕ) : Type 0 where
-  pub lengths : length word ≡ length name
-  pub left : is word name ≡ is (drop i word) (drop i name)
+lowers : (l : List ℕ) → map small l ≡ map to_ascii_lowercase l
+lowers [] = refl
+lowers (b ∷ l) = ap₂ (λ (x : ℕ) (xs : List ℕ). x ∷ xs) (lower b) (lowers l)
 
-pub same_none : (word name : List ℕ) → length word ≡ length name → Same word name 0
-same_none word name e = record { lengths = e; left = refl }
+-- a word is a name where the letters are the same without their case
+is_told : (word name : List ℕ) → Decides (is word name) (map small word ≡ map small name)
+unfolding is
+is_told [] [] = (λ e. refl, λ e. refl)
+is_told [] (c ∷ name) = (λ e. absurd (false≢true e), λ e. absurd (let z : ◌≡◌ {A = ℕ} 0 1 = cc in omega arith))
+is_told (b ∷ word) [] = (λ e. absurd (false≢true e), λ e. absurd (let z : ◌≡◌ {A = ℕ} 0 1 = cc in omega arith))
+is_told (b ∷ word) (c ∷ name) =
+    let rest = is_told word name in (
+      λ e. let h = both (eqb (small b) (small c)) (is word name) e in ap₂ (λ (x : ℕ) (xs : List ℕ). x ∷ xs) (eqb-true (small b) (small c) h.0) (rest.0 h.1),
+      λ e. rw (eq-eqb (small b) (small c) cc, rest.1 cc) refl,
+    )
 
-module _ {word name : List ℕ} {i : ℕ} (t : Same word name i) where
-  step : i < length word → is (drop i word) (drop i name) ≡ (eqb (small (get_or word i 0)) (small (get_or name i 0)) && is (drop (i + 1) word) (drop (i + 1) name))
-  unfolding is
-  step l = ap₂ is (at_front word i l) (at_front name i (omega (arith, t.lengths)))
-
-  pub same_more : {b d : ℕ} → i < length word → b ≡ small (get_or word i 0) → d ≡ small (get_or name i 0) → b ≡ d → Same word name (i + 1)
-  same_more l e f g = record { lengths = t.lengths; left = t.left ∙ step l ∙ rw (eq-eqb _ _ (sym e ∙ g ∙ f)) refl }
-
-  pub same_stops : {b d : ℕ} → i < length word → b ≡ small (get_or word i 0) → d ≡ small (get_or name i 0) → (b ≡ d → ⊥) → false ≡ is word name
-  same_stops l e f n = sym (t.left ∙ step l ∙ rw (ne_eqb _ _ (λ g. n (e ∙ g ∙ sym f))) refl)
-
-  pub same_all : length word ≤ i → true ≡ is word name
-  unfolding is
-  same_all l = sym (t.left ∙ ap₂ is (drop_of_length-le word l) (drop_of_length-le name {i = i} (omega (arith, t.lengths))))
+pub is_by_letters : (r : Bool) (word name : List ℕ) → Decides r (map to_ascii_lowercase word ≡ map to_ascii_lowercase name) → r ≡ is word name
+is_by_letters r word name d =
+    let as_std : (l : List ℕ) → map small l ≡ map to_ascii_lowercase l = lowers in
+    same_from_decides r (is word name) d
+    (λ e. sym (as_std word) ∙ (is_told word name).0 e ∙ as_std name, λ e. (is_told word name).1 (as_std word ∙ e ∙ sym (as_std name)))

@@ -1,74 +1,100 @@
 -- Settings in words: each test of the code, and what the definition then gives. Assumes nothing.
-use Prim.Native.Nat.{ℕ, ◌+◌, ◌-◌, ◌*◌, ◌≤◌, ◌<◌}
-use mathlib.Core.Bool.{Bool, true, false, not}
+use Prim.Native.Nat.{ℕ, ◌+◌, ◌*◌, ◌≤◌, ◌<◌}
+use mathlib.Core.Bool.{Bool, true, false, cond, ◌||◌}
 use mathlib.Core.List.{List}
 use mathlib.Core.Path.{◌≡◌, refl, sym, ap, ◌∙◌}
-use borrow.Author.Tests.{not-true, not-false, lt-ltb, le-ltb}
+use borrow.Author.Tests.{lt-ltb, le-ltb}
+use lib.Dec.{ltb}
 use lib.Ieee.{Float, lt}
-use lib.ListN.{take, drop}
+use Rattle.std.specs.Prelude.{Option, Some, None, Result, Ok, Err}
+use Rattle.num.specs.Laws.Bools.{false_true}
 use Rattle.num.specs.Steps.{limit_of}
+use Rattle.inspect.specs.declared.settings.Setting.{Setting}
 use Rattle.inspect.specs.declared.settings.Setting.TheVariants as S
-use Rattle.texts.specs.Names.{preset_names, setting_name, found}
+use Rattle.texts.specs.Names.{preset_names, setting_name, found, below}
 use Rattle.texts.specs.Numbers.{decimal_of}
-use Rattle.texts.specs.Settings.{slot_of, real_of, whole_of, preset_of, value_of, is_nothing, setting_in}
-use Rattle.texts.specs.Words.{is, span_of, word_of}
+use Rattle.texts.specs.Settings.{slot_of, real_of, whole_of, preset_of, value_of, placed, setting_at, setting_in}
+use Rattle.texts.specs.Words.{is, word_of}
+use Rattle.texts.specs.declared.mistake.Mistake.{Mistake}
+use Rattle.texts.specs.declared.mistake.Mistake.TheVariants.{OtherName, NoNumber, OutOfRange}
 use Rattle.texts.specs.declared.numbers.Decimal.{Decimal}
 use Rattle.texts.specs.declared.settings.Slot.{Slot}
-use Rattle.texts.specs.declared.settings.Value.{Value}
-use Rattle.texts.specs.declared.settings.Value.TheVariants.{Is, Wrong}
-use Rattle.texts.specs.declared.words.Span.{Span}
 
-module _ (low high : Float) (d : Decimal) where
-  pub no_real : not d.ok ≡ true → Wrong 7 ≡ real_of low high d
+module _ (low high : Float) {o : Option Decimal} where
+  pub no_real : o ≡ None → Err NoNumber ≡ real_of low high o
   unfolding real_of
-  no_real e = rw (not-true d.ok e) refl
+  no_real e = rw e refl
 
-  pub too_low : not d.ok ≡ false → lt d.nearest low ≡ true → Wrong 8 ≡ real_of low high d
-  unfolding real_of
-  too_low e f = rw (not-false d.ok e, f) refl
+  module _ (d : Decimal) (e : o ≡ Some d) where
+    pub out_of_range : lt d.nearest low || lt high d.nearest ≡ true → Err OutOfRange ≡ real_of low high o
+    unfolding real_of
+    out_of_range f = rw (e, f) refl
 
-  pub too_high : not d.ok ≡ false → lt d.nearest low ≡ false → lt high d.nearest ≡ true → Wrong 8 ≡ real_of low high d
-  unfolding real_of
-  too_high e f g = rw (not-false d.ok e, f, g) refl
+    pub a_real : {x : Float} → lt d.nearest low ≡ false → lt high d.nearest ≡ false → x ≡ limit_of d.nearest low high → Ok (S.Real x) ≡ real_of low high o
+    unfolding real_of
+    a_real f g h = rw (e, f, g, h) refl
 
-  pub a_real : {x : Float} → not d.ok ≡ false → lt d.nearest low ≡ false → lt high d.nearest ≡ false → x ≡ limit_of d.nearest low high → Is (S.Real x) ≡ real_of low high d
-  unfolding real_of
-  a_real e f g h = rw (not-false d.ok e, f, g, h) refl
+module _ (least most : ℕ) {o : Option Decimal} where
+  pub no_count : o ≡ None → Err NoNumber ≡ whole_of least most o
+  unfolding whole_of
+  no_count e = rw e refl
 
-module _ (word : List ℕ) (p : ℕ) (found-is : (p ≡ found preset_names word 0) × (p ≤ 7)) where
-  pub preset-named : p < 7 → Is (S.Whole p) ≡ preset_of word
+  module _ (d : Decimal) (e : o ≡ Some d) where
+    pub not_plain : d.plain ≡ false → Err NoNumber ≡ whole_of least most o
+    unfolding whole_of
+    not_plain p = rw (e, p) refl
+
+    module _ (p : d.plain ≡ true) where
+      pub too_little : d.whole < least → Err OutOfRange ≡ whole_of least most o
+      unfolding whole_of
+      too_little l = rw (e, p, lt-ltb d.whole least l) refl
+
+      module _ (l : least ≤ d.whole) where
+        pub too_much : most < d.whole → Err OutOfRange ≡ whole_of least most o
+        unfolding whole_of
+        too_much h = rw (e, p, le-ltb d.whole least l, lt-ltb most d.whole h) refl
+
+        pub a_count : d.whole ≤ most → Ok (S.Whole d.whole) ≡ whole_of least most o
+        unfolding whole_of
+        a_count h = rw (e, p, le-ltb d.whole least l, le-ltb most d.whole h) refl
+
+-- a name that is found, or none
+pub named : {A : Type 0} (n k f : ℕ) (make : ℕ → A) (other : A) → below n f ≡ Some k → make k ≡ cond (ltb f n) (make f) other
+named n k f make other e = go (ltb f n) e
+  where
+    go : (t : Bool) → cond t (Some f) None ≡ Some k → make k ≡ cond t (make f) other
+    go true e = ap make (let same : k ≡ f = cc in same)
+    go false e = false_true (let z : false ≡ true = cc in z)
+
+pub unnamed : {A : Type 0} (n f : ℕ) (make : ℕ → A) (other : A) → below n f ≡ None → other ≡ cond (ltb f n) (make f) other
+unnamed n f make other e = go (ltb f n) e
+  where
+    go : (t : Bool) → cond t (Some f) None ≡ None → other ≡ cond t (make f) other
+    go true e = false_true (let z : false ≡ true = cc in z)
+    go false e = refl
+
+module _ (word : List ℕ) {o : Option ℕ} (e : o ≡ below 7 (found preset_names word 0)) where
+  pub preset-named : (p : ℕ) → o ≡ Some p → Ok (S.Whole p) ≡ preset_of word
   unfolding preset_of
-  preset-named l = rw (sym found-is.0, lt-ltb p 7 l) refl
+  preset-named p f = named 7 p (found preset_names word 0) (λ (k : ℕ). Ok (S.Whole k)) (whole_of 0 6 (decimal_of word)) (sym e ∙ f)
 
-  pub preset-numbered : (d : Decimal) (r : Value) → 7 ≤ p → d ≡ decimal_of word → r ≡ whole_of 0 6 d → r ≡ preset_of word
+  pub preset-numbered : o ≡ None → (r : Result Setting Mistake) → r ≡ whole_of 0 6 (decimal_of word) → r ≡ preset_of word
   unfolding preset_of
-  preset-numbered d r l e f = f ∙ ap (whole_of 0 6) e ∙ rw (sym found-is.0, le-ltb p 7 l) refl
+  preset-numbered f r h = h ∙ unnamed 7 (found preset_names word 0) (λ (k : ℕ). Ok (S.Whole k)) (whole_of 0 6 (decimal_of word)) (sym e ∙ f)
 
--- by what stands in the slot
-pub in_slot : (slot known : Slot) (word : List ℕ) (r : Value) → slot ≡ known → r ≡ value_of known word → r ≡ value_of slot word
-in_slot slot known word r e f = f ∙ ap (λ (s : Slot). value_of s word) (sym e)
-
-module _ (line : List ℕ) (kind j : ℕ) (slot : Slot) (nothing : Bool) (e : slot ≡ slot_of kind j) (f : nothing ≡ is_nothing slot) where
-  which : {b : Bool} → nothing ≡ b → is_nothing (slot_of kind j) ≡ b
-  which h = ap is_nothing (sym e) ∙ sym f ∙ h
-
-  pub setting_none : nothing ≡ true → Is S.Absent ≡ setting_in line kind j
+module _ (line : List ℕ) (kind j : ℕ) {o : Option Slot} (e : o ≡ slot_of kind j) where
+  pub setting_none : o ≡ None → Ok None ≡ setting_in line kind j
   unfolding setting_in
-  setting_none h = rw (which h) refl
+  setting_none f = ap (λ (s : Option Slot). setting_at s kind j (word_of line (2 + 2 * j)) (word_of line (3 + 2 * j))) (sym f ∙ e)
 
-  module _ (h : nothing ≡ false) (name : Span) (g : name ≡ span_of line (2 + 2 * j)) (named : Bool)
-      (k : named ≡ is (take (name.to - name.from) (drop name.from line)) (setting_name kind j)) where
-    same_name : {b : Bool} → named ≡ b → is (word_of line (2 + 2 * j)) (setting_name kind j) ≡ b
-    unfolding word_of
-    same_name o = sym (ap (λ (s : Span). is (take (s.to - s.from) (drop s.from line)) (setting_name kind j)) g) ∙ sym k ∙ o
-
-    pub setting_misnamed : not named ≡ true → Wrong 6 ≡ setting_in line kind j
+  module _ (slot : Slot) (f : o ≡ Some slot) where
+    by_slot : cond (is (word_of line (2 + 2 * j)) (setting_name kind j)) (placed (value_of slot (word_of line (3 + 2 * j)))) (Err OtherName) ≡ setting_in line kind j
     unfolding setting_in
-    setting_misnamed o = rw (which h, same_name (not-true named o)) refl
+    by_slot = ap (λ (s : Option Slot). setting_at s kind j (word_of line (2 + 2 * j)) (word_of line (3 + 2 * j))) (sym f ∙ e)
 
-    pub setting_valued : (word : Span) (r : Value) → not named ≡ false → word ≡ span_of line (3 + 2 * j)
-        → r ≡ value_of slot (take (word.to - word.from) (drop word.from line)) → r ≡ setting_in line kind j
-    unfolding setting_in word_of
-    setting_valued word r o m n =
-        n ∙ ap (λ (s : Span). value_of slot (take (s.to - s.from) (drop s.from line))) m ∙ ap (λ (s : Slot). value_of s (word_of line (3 + 2 * j))) e
-        ∙ rw (which h, same_name (not-false named o)) refl
+    pub setting_misnamed : is (word_of line (2 + 2 * j)) (setting_name kind j) ≡ false → Err OtherName ≡ setting_in line kind j
+    setting_misnamed g = rw g at by_slot
+
+    pub setting_valued : (r : Result Setting Mistake) → is (word_of line (2 + 2 * j)) (setting_name kind j) ≡ true → r ≡ value_of slot (word_of line (3 + 2 * j))
+        → placed r ≡ setting_in line kind j
+    setting_valued r g h = ap placed h ∙ rw g at by_slot

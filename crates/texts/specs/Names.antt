@@ -1,5 +1,5 @@
 -- The names of passes, of their settings and of presets, as they are printed; a word may have any case. Assumes nothing.
-use Rattle.std.specs.Prelude.{ℕ, suc, cond, List, [], ◌∷◌, get_or}
+use Rattle.std.specs.Prelude.{ℕ, suc, cond, List, [], ◌∷◌, Option, Some, None, get_or, ltb}
 use Rattle.texts.specs.Words.{ascii, is}
 
 abbrev pub Name : Type 0
@@ -47,3 +47,7 @@ setting_name kind j = get_or (get_or setting_names kind []) j []
 unfoldable pub found : List Name → List ℕ → ℕ → ℕ
 found [] word k = k
 found (name ∷ names) word k = cond (is word name) k (found names word (suc k))
+
+-- a number below n, or none
+abbrev pub below : ℕ → ℕ → Option ℕ
+below n k = cond (ltb k n) (Some k) None

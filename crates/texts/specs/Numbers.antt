@@ -1,9 +1,8 @@
 -- A word as a number: a sign or none, digits, a point or none, digits; and the binary32 nearest to it. Assumes nothing.
-use Rattle.std.specs.Prelude.{ℕ, ◌+◌, ◌-◌, ◌*◌, ◌^◌, ◌≤◌, Bool, true, false, cond, ◌&&◌, ◌||◌, List, [], ◌∷◌, ◌++◌, eqb, leb, ltb, Float, length}
-use Rattle.std.specs.Prelude.{get_or, take, drop}
+use Rattle.std.specs.Prelude.{ℕ, ◌+◌, ◌-◌, ◌*◌, ◌^◌, ◌≤◌, Bool, cond, ◌&&◌, ◌||◌, List, [], ◌∷◌, ◌++◌, eqb, leb, ltb, Float, length}
+use Rattle.std.specs.Prelude.{get_or, take, drop, Option, Some, None}
 use Rattle.std.specs.Float.{binary32}
 use Rattle.std.specs.Float.Ieee.{round}
-use Rattle.num.specs.Const.{c0_0}
 use Rattle.texts.specs.Words.{front}
 use Rattle.texts.specs.declared.numbers.Decimal.{Decimal}
 use Rattle.texts.specs.declared.numbers.Shape.{Shape}
@@ -60,20 +59,16 @@ abbrev pub value_in : Shape → List ℕ → Float
 value_in s word =
     round binary32 (is_minus word) (worth 0 (between s.start s.point word ++ between s.behind s.end word)) (10 ^ (s.end - s.behind))
 
-abbrev pub no_number : Decimal
-no_number = record { ok = false; plain = false; whole = 0; nearest = c0_0 }
-
-unfoldable pub decimal_of : List ℕ → Decimal
+unfoldable pub decimal_of : List ℕ → Option Decimal
 decimal_of word =
     let s : Shape = shape_of word in
     cond (is_number s (length word))
-    (record {
-      ok = true;
+    (Some (record {
       plain = is_plain s (length word);
       whole = worth 0 (between s.start s.point word);
       nearest = value_in s word;
-    })
-    no_number
+    }))
+    None
 
 -- the places stand in order
 pub record Ordered (s : Shape) (long : ℕ) : Type 0 where

@@ -1,5 +1,5 @@
 -- A station's chain as text: a line for each pass, with its switch and its settings. Assumes nothing.
-use Rattle.std.specs.Prelude.{ℕ, zero, suc, ◌+◌, ◌/◌, ◌%◌, ◌≤◌, Bool, cond, List, [], ◌∷◌, ◌++◌, ◌≡◌, eqb, ltb, Float, length, get_or, take, drop}
+use Rattle.std.specs.Prelude.{ℕ, zero, suc, ◌+◌, ◌/◌, ◌%◌, ◌≤◌, Bool, cond, List, [], ◌∷◌, ◌++◌, ◌≡◌, Option, Some, None, Result, Ok, Err, eqb, ltb, Float, length, get_or, take, drop}
 use Rattle.cards.specs.Alike.{chain_of}
 use Rattle.cards.specs.Normal.{good_station}
 use Rattle.cards.specs.Passes.{kind_of}
@@ -9,11 +9,11 @@ use Rattle.cards.specs.declared.station.Station.{Station}
 use Rattle.inspect.specs.Decimal.{digits_of, places_of, negative_of}
 use Rattle.inspect.specs.Settings.{setting_of}
 use Rattle.inspect.specs.declared.settings.Setting.{Setting}
-use Rattle.inspect.specs.declared.settings.Setting.TheVariants.{Real, Whole, Absent}
+use Rattle.inspect.specs.declared.settings.Setting.TheVariants.{Real, Whole}
+use Rattle.num.specs.declared.refusal.Refusal.{Refusal}
+use Rattle.num.specs.declared.refusal.Refusal.TheVariants.{BadStation, ShortCardBuffer}
 use Rattle.texts.specs.Names.{kind_name, preset_name, setting_name}
 use Rattle.texts.specs.Words.{ascii}
-use Rattle.texts.specs.declared.print.Printing.{Printing}
-use Rattle.texts.specs.declared.print.Printing.TheVariants.{Length, Refused}
 
 -- ## Numbers
 
@@ -48,10 +48,10 @@ whole_text v =
 abbrev pub count_text : (kind v : ℕ) → List ℕ
 count_text kind v = cond (eqb kind 5) (preset_name v) (whole_text v)
 
-abbrev pub value_text : (kind : ℕ) → Setting → List ℕ
-value_text kind (Real x) = real_text x
-value_text kind (Whole v) = count_text kind v
-value_text kind Absent = []
+abbrev pub value_text : (kind : ℕ) → Option Setting → List ℕ
+value_text kind (Some (Real x)) = real_text x
+value_text kind (Some (Whole v)) = count_text kind v
+value_text kind None = []
 
 -- the first setting follows a colon, another one a comma
 abbrev pub mark_text : ℕ → List ℕ
@@ -61,10 +61,9 @@ mark_text j = cond (eqb j 0) (ascii ": ") (ascii ", ")
 abbrev pub label_text : (kind j : ℕ) → List ℕ
 label_text kind j = mark_text j ++ setting_name kind j ++ ascii " "
 
-unfoldable pub setting_text : (kind j : ℕ) → Setting → List ℕ
-setting_text kind j (Real x) = label_text kind j ++ value_text kind (Real x)
-setting_text kind j (Whole v) = label_text kind j ++ value_text kind (Whole v)
-setting_text kind j Absent = []
+unfoldable pub setting_text : (kind j : ℕ) → Option Setting → List ℕ
+setting_text kind j (Some s) = label_text kind j ++ value_text kind (Some s)
+setting_text kind j None = []
 
 -- the setting at place j of a pass
 abbrev pub place_text : Pass → ℕ → List ℕ
@@ -92,9 +91,9 @@ text_of (r ∷ rs) = lines_text (r ∷ rs)
 
 -- ## What `print` answers, and what it leaves in the buffer: the text at its start, the rest untouched
 
--- 13 for a bad station, then 14 for a buffer of fewer than 8,192 bytes; no text is longer
-unfoldable pub print_reply : Station → List ℕ → Printing
-print_reply s out = cond (good_station s) (cond (ltb (length out) 8192) (Refused 14) (Length (length (text_of (chain_of s))))) (Refused 13)
+-- refused for a bad station, then for a buffer of fewer than 8,192 bytes; no text is longer
+unfoldable pub print_reply : Station → List ℕ → Result ℕ Refusal
+print_reply s out = cond (good_station s) (cond (ltb (length out) 8192) (Err ShortCardBuffer) (Ok (length (text_of (chain_of s))))) (Err BadStation)
 
 unfoldable pub print_into : Station → List ℕ → List ℕ
 print_into s out =

@@ -1,6 +1,6 @@
 -- Worked cases of printing. Each list pairs what a definition gives with what it should give, and one proof by computation holds the whole list. Assumes
 -- nothing.
-use Rattle.std.specs.Prelude.{ℕ, true, false, List, [], ◌∷◌, ◌++◌, refl, replicate, take}
+use Rattle.std.specs.Prelude.{ℕ, true, false, List, [], ◌∷◌, ◌++◌, Result, Ok, Err, refl, replicate, take}
 use Rattle.std.specs.Float.{binary32}
 use Rattle.std.specs.Float.Ieee.{of_bits, neg, lt}
 use Rattle.num.specs.Cases.{Hold}
@@ -15,8 +15,8 @@ use Rattle.inspect.specs.Decimal.{spelled, whole_of, places_of, negative_of}
 use Rattle.texts.specs.Print.{down, pointed, real_text, whole_text, setting_text, settings_text, line_text, lines_text, text_of}
 use Rattle.texts.specs.Print.{print_reply, print_into}
 use Rattle.texts.specs.Words.{ascii}
-use Rattle.texts.specs.declared.print.Printing.{Printing}
-use Rattle.texts.specs.declared.print.Printing.TheVariants.{Length, Refused}
+use Rattle.num.specs.declared.refusal.Refusal.{Refusal}
+use Rattle.num.specs.declared.refusal.Refusal.TheVariants.{BadStation, ShortCardBuffer}
 
 -- ## Numbers
 
@@ -70,15 +70,15 @@ unfolding of_bits neg text_of lines_text line_text settings_text setting_text wh
 chains_hold = refl
 
 -- the answer for a chain of one pass on a buffer of n sevens, and the first thirty bytes of what is left of it
-abbrev pub printed : Record → ℕ → Printing × List ℕ
+abbrev pub printed : Record → ℕ → Result ℕ Refusal × List ℕ
 printed r n = let s = station_of (r ∷ []) in (print_reply s (replicate n 7), take 30 (print_into s (replicate n 7)))
 
 -- scanlines; on a buffer that is one byte short; scanlines with a strength of -1, which no card gives, also on a short buffer
-abbrev pub answers : List ((Printing × List ℕ) × (Printing × List ℕ))
+abbrev pub answers : List ((Result ℕ Refusal × List ℕ) × (Result ℕ Refusal × List ℕ))
 answers =
-    (printed lines 8192, (Length 28, ascii "scanlines, on: strength 0.5\n" ++ 7 ∷ 7 ∷ []))
-    ∷ (printed lines 8191, (Refused 14, replicate 30 7))
-    ∷ (printed (carded true (Scanlines (neg c1_0))) 30, (Refused 13, replicate 30 7))
+    (printed lines 8192, (Ok 28, ascii "scanlines, on: strength 0.5\n" ++ 7 ∷ 7 ∷ []))
+    ∷ (printed lines 8191, (Err ShortCardBuffer, replicate 30 7))
+    ∷ (printed (carded true (Scanlines (neg c1_0))) 30, (Err BadStation, replicate 30 7))
     ∷ []
 
 pub answers_hold : Hold answers

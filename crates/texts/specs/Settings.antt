@@ -1,5 +1,5 @@
 -- The settings of a pass in words: what each may be, and what a line says. Assumes nothing.
-use Rattle.std.specs.Prelude.{ℕ, ◌+◌, ◌*◌, Bool, true, false, cond, ◌||◌, List, [], ◌∷◌, ltb, Float, get_or}
+use Rattle.std.specs.Prelude.{ℕ, ◌+◌, ◌*◌, cond, ◌||◌, List, [], ◌∷◌, Option, Some, None, Result, Ok, Err, ltb, Float, get_or, slice_get}
 use Rattle.std.specs.Float.Ieee.{lt, neg}
 use Rattle.num.specs.Const.{c0_0, c0_01, c0_5, c0_95, c1_0, c4_0}
 use Rattle.num.specs.Steps.{limit_of}
@@ -10,93 +10,88 @@ use Rattle.inspect.specs.declared.settings.Setting.TheVariants as S
 use Rattle.texts.specs.Names.{preset_names, setting_name, found}
 use Rattle.texts.specs.Numbers.{decimal_of}
 use Rattle.texts.specs.Words.{is, word_of}
+use Rattle.texts.specs.declared.mistake.Mistake.{Mistake}
+use Rattle.texts.specs.declared.mistake.Mistake.TheVariants.{OtherName, NoNumber, OutOfRange}
 use Rattle.texts.specs.declared.numbers.Decimal.{Decimal}
 use Rattle.texts.specs.declared.settings.Slot.{Slot}
-use Rattle.texts.specs.declared.settings.Slot.TheVariants.{Real, Whole, Preset, Nothing}
-use Rattle.texts.specs.declared.settings.Value.{Value}
-use Rattle.texts.specs.declared.settings.Value.TheVariants.{Is, Wrong}
+use Rattle.texts.specs.declared.settings.Slot.TheVariants.{Real, Whole, Preset}
 
--- what may stand at the four places of each kind, in the card's order
+-- what may stand at the places of each kind, in the card's order
 abbrev pub unit : Slot
 unit = Real c0_0 c1_0
-
-abbrev pub four : (a b c d : Slot) → List Slot
-four a b c d = a ∷ b ∷ c ∷ d ∷ []
 
 abbrev pub slots : List (List Slot)
 slots =
     []
-    ∷ four unit (Whole 1 64) Nothing Nothing
-    ∷ four (Whole 0 255) unit (Whole 1 64) Nothing
-    ∷ four unit unit unit Nothing
-    ∷ four (Real c0_0 c0_95) (Whole 1 8) Nothing Nothing
-    ∷ four Preset unit Nothing Nothing
-    ∷ four (Real c0_0 c0_5) Nothing Nothing Nothing
-    ∷ four (Real (neg c1_0) c1_0) (Real c0_0 c4_0) (Real c0_0 c4_0) (Real c0_01 c4_0)
-    ∷ four unit Nothing Nothing Nothing
-    ∷ four unit Nothing Nothing Nothing
-    ∷ four unit Nothing Nothing Nothing
+    ∷ (unit ∷ Whole 1 64 ∷ [])
+    ∷ (Whole 0 255 ∷ unit ∷ Whole 1 64 ∷ [])
+    ∷ (unit ∷ unit ∷ unit ∷ [])
+    ∷ (Real c0_0 c0_95 ∷ Whole 1 8 ∷ [])
+    ∷ (Preset ∷ unit ∷ [])
+    ∷ (Real c0_0 c0_5 ∷ [])
+    ∷ (Real (neg c1_0) c1_0 ∷ Real c0_0 c4_0 ∷ Real c0_0 c4_0 ∷ Real c0_01 c4_0 ∷ [])
+    ∷ (unit ∷ [])
+    ∷ (unit ∷ [])
+    ∷ (unit ∷ [])
     ∷ []
 
-abbrev pub slot_of : (kind j : ℕ) → Slot
-slot_of kind j = get_or (get_or slots kind []) j Nothing
+-- none past the last one
+abbrev pub slot_of : (kind j : ℕ) → Option Slot
+slot_of kind j = slice_get (get_or slots kind []) j
 
--- what is wrong: 6, another word than the setting's name; 7, no number; 8, a number out of its range
-unfoldable pub real_of : (low high : Float) → Decimal → Value
-real_of low high d =
-    cond d.ok (cond (lt d.nearest low || lt high d.nearest) (Wrong 8) (Is (S.Real (limit_of d.nearest low high)))) (Wrong 7)
+unfoldable pub real_of : (low high : Float) → Option Decimal → Result Setting Mistake
+real_of low high None = Err NoNumber
+real_of low high (Some d) = cond (lt d.nearest low || lt high d.nearest) (Err OutOfRange) (Ok (S.Real (limit_of d.nearest low high)))
 
-unfoldable pub whole_of : (least most : ℕ) → Decimal → Value
-whole_of least most d = cond d.plain (cond (ltb d.whole least || ltb most d.whole) (Wrong 8) (Is (S.Whole d.whole))) (Wrong 7)
+unfoldable pub whole_of : (least most : ℕ) → Option Decimal → Result Setting Mistake
+whole_of least most None = Err NoNumber
+whole_of least most (Some d) = cond d.plain (cond (ltb d.whole least || ltb most d.whole) (Err OutOfRange) (Ok (S.Whole d.whole))) (Err NoNumber)
 
 -- by name or by number
-unfoldable pub preset_of : List ℕ → Value
-preset_of word = cond (ltb (found preset_names word 0) 7) (Is (S.Whole (found preset_names word 0))) (whole_of 0 6 (decimal_of word))
+unfoldable pub preset_of : List ℕ → Result Setting Mistake
+preset_of word = cond (ltb (found preset_names word 0) 7) (Ok (S.Whole (found preset_names word 0))) (whole_of 0 6 (decimal_of word))
 
-abbrev pub value_of : Slot → List ℕ → Value
+abbrev pub value_of : Slot → List ℕ → Result Setting Mistake
 value_of (Real low high) word = real_of low high (decimal_of word)
 value_of (Whole least most) word = whole_of least most (decimal_of word)
 value_of Preset word = preset_of word
-value_of Nothing word = Is S.Absent
 
-abbrev pub is_nothing : Slot → Bool
-is_nothing (Real low high) = false
-is_nothing (Whole least most) = false
-is_nothing Preset = false
-is_nothing Nothing = true
+-- the setting that a place has, where its word is one
+abbrev pub placed : Result Setting Mistake → Result (Option Setting) Mistake
+placed (Ok s) = Ok (Some s)
+placed (Err m) = Err m
+
+-- what may stand there, the word for its name and the word for its value
+abbrev pub setting_at : Option Slot → (kind j : ℕ) → (name value : List ℕ) → Result (Option Setting) Mistake
+setting_at None kind j name value = Ok None
+setting_at (Some slot) kind j name value = cond (is name (setting_name kind j)) (placed (value_of slot value)) (Err OtherName)
 
 -- the setting at place j, as a line has it: its name is word 2 + 2 * j, and its value the next one
-unfoldable pub setting_in : (line : List ℕ) → (kind j : ℕ) → Value
-setting_in line kind j =
-    cond (is_nothing (slot_of kind j)) (Is S.Absent)
-    (cond (is (word_of line (2 + 2 * j)) (setting_name kind j)) (value_of (slot_of kind j) (word_of line (3 + 2 * j))) (Wrong 6))
+unfoldable pub setting_in : (line : List ℕ) → (kind j : ℕ) → Result (Option Setting) Mistake
+setting_in line kind j = setting_at (slot_of kind j) kind j (word_of line (2 + 2 * j)) (word_of line (3 + 2 * j))
 
--- what is wrong with it, 0 for nothing; and the setting, where nothing is
-abbrev pub wrong_of : Value → ℕ
-wrong_of (Is s) = 0
-wrong_of (Wrong k) = k
-
-abbrev pub taken : Value → Setting
-taken (Is s) = s
-taken (Wrong k) = S.Absent
+-- the setting, where nothing is wrong with it
+abbrev pub taken : Result (Option Setting) Mistake → Option Setting
+taken (Ok s) = s
+taken (Err m) = None
 
 -- how many settings a kind has
 abbrev pub arity : ℕ → ℕ
 arity kind = get_or (0 ∷ 2 ∷ 3 ∷ 3 ∷ 2 ∷ 2 ∷ 1 ∷ 4 ∷ 1 ∷ 1 ∷ 1 ∷ []) kind 0
 
-abbrev pub real_in : Setting → Float
-real_in (S.Real x) = x
-real_in (S.Whole v) = c0_0
-real_in S.Absent = c0_0
+abbrev pub real_in : Option Setting → Float
+real_in (Some (S.Real x)) = x
+real_in (Some (S.Whole v)) = c0_0
+real_in None = c0_0
 
-abbrev pub whole_in : Setting → ℕ
-whole_in (S.Real x) = 0
-whole_in (S.Whole v) = v
-whole_in S.Absent = 0
+abbrev pub whole_in : Option Setting → ℕ
+whole_in (Some (S.Real x)) = 0
+whole_in (Some (S.Whole v)) = v
+whole_in None = 0
 
 -- the pass of a kind by its settings
 abbrev pub Maker : Type 0
-Maker = Setting → Setting → Setting → Setting → Pass
+Maker = Option Setting → Option Setting → Option Setting → Option Setting → Pass
 
 abbrev pub last : Maker
 last a b c d = Scanlines (real_in a)

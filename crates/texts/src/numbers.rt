@@ -12,30 +12,21 @@ use inspect::nearest::nearest;
 fn is_digit(b: u8) -> bool
     ensures { result ≡ is_digit b }
 {
-    if b < b'0' {
-        return false;
-    }
-    b <= b'9'
+    matches!(b, b'0'..=b'9')
 }
 
 // The value of a digit, 0 for any other byte.
 fn digit(b: u8) -> u8
     ensures { (result ≡ digit_of b) × (result ≤ 9) }
 {
-    if b < b'0' {
-        return 0;
-    }
-    if b'9' < b {
-        return 0;
-    }
-    b - b'0'
+    if is_digit(b) { b - b'0' } else { 0 }
 }
 
 // The byte at a place, 0 past the end.
 fn byte_at(word: &[u8], i: usize) -> u8
     ensures { result ≡ get_or word.now i 0 }
 {
-    if i < word.len() { word[i] } else { 0 }
+    word.get(i).copied().unwrap_or(0)
 }
 
 // Where the digits from a place on end.
@@ -43,14 +34,11 @@ fn digits_end(word: &[u8], from: usize) -> usize
     requires { from ≤ length word.now }
     ensures { (result ≡ from + front is_digit (drop from word.now)) × (result ≤ length word.now) }
 {
-    let mut i = from;
-    while i < word.len() {
-        if !is_digit(word[i]) {
-            return i;
-        }
-        i += 1;
-    }
-    i
+    let rest = &word[from..];
+    from + rest
+        .iter()
+        .position(|b| !is_digit(*b))
+        .unwrap_or(rest.len())
 }
 
 // The number of up to seven digits.
@@ -59,10 +47,8 @@ fn whole(digits: &[u8]) -> u32
     ensures { (result ≡ worth 0 digits.now) × (result < 2 ^ 24) }
 {
     let mut v: u32 = 0;
-    let mut i: usize = 0;
-    while i < digits.len() {
-        v = v * 10 + digit(digits[i]) as u32;
-        i += 1;
+    for b in digits {
+        v = v * 10 + digit(*b) as u32;
     }
     v
 }
@@ -73,10 +59,8 @@ fn lay(fraction: &[u8], out: &mut [u8])
     ensures { Digits out.new
         × (number out.new ≡ worth 0 fraction.now * 10 ^ (150 - length fraction.now)) }
 {
-    let mut i: usize = 0;
-    while i < 150 {
+    for i in 0..150 {
         out[149 - i] = digit(byte_at(fraction, i));
-        i += 1;
     }
 }
 
@@ -108,20 +92,14 @@ fn is_minus(word: &[u8]) -> bool
 fn is_sign(b: u8) -> bool
     ensures { result ≡ is_sign b }
 {
-    if b == b'+' {
-        return true;
-    }
-    b == b'-'
+    b == b'+' || b == b'-'
 }
 
 // Where the digits begin: behind the sign, if there is one.
 fn start_of(word: &[u8]) -> usize
     ensures { (result ≡ start_of word.now) × (result ≤ length word.now) }
 {
-    if word.len() == 0 {
-        return 0;
-    }
-    if is_sign(word[0]) { 1 } else { 0 }
+    if is_sign(byte_at(word, 0)) { 1 } else { 0 }
 }
 
 // Where the digits behind the point begin; those before it end at `point`, and if no point is there no digit is.
@@ -129,10 +107,7 @@ fn behind_of(word: &[u8], point: usize) -> usize
     requires { point ≤ length word.now }
     ensures { (result ≡ behind_of word.now point) × (point ≤ result) × (result ≤ length word.now) }
 {
-    if point == word.len() {
-        return point;
-    }
-    if word[point] == b'.' {
+    if byte_at(word, point) == b'.' {
         point + 1
     } else {
         point
@@ -161,13 +136,7 @@ fn is_number(s: Shape, long: usize) -> bool
 {
     let before = s.point - s.start;
     let after = s.end - s.behind;
-    if s.end != long {
-        return false;
-    }
-    if 7 < before {
-        return false;
-    }
-    if 150 < after {
+    if s.end != long || 7 < before || 150 < after {
         return false;
     }
     0 < before + after
@@ -177,17 +146,12 @@ fn is_number(s: Shape, long: usize) -> bool
 fn is_plain(s: Shape, long: usize) -> bool
     ensures { result ≡ is_plain s long }
 {
-    if s.start != 0 {
-        return false;
-    }
-    s.point == long
+    s.start == 0 && s.point == long
 }
 
 // What a word is as a number.
 #[derive(Clone, Copy)]
 pub struct Decimal {
-    // Whether it is one.
-    pub ok: bool,
     // Whether it is digits alone, without sign and point.
     pub plain: bool,
     // The number before the point.
@@ -196,26 +160,19 @@ pub struct Decimal {
     pub nearest: f32,
 }
 
-pub fn number_of(word: &[u8]) -> Decimal
+// None for a word that is no number.
+pub fn number_of(word: &[u8]) -> Option<Decimal>
     ensures { result ≡ decimal_of word.now }
 {
     let s = shape_of(word);
     if !is_number(s, word.len()) {
-        return Decimal {
-            ok: false,
-            plain: false,
-            whole: 0,
-            nearest: 0.0,
-        };
+        return None;
     }
-    let start = s.start;
-    let point = s.point;
-    let behind = s.behind;
-    let end = s.end;
-    Decimal {
-        ok: true,
+    let before = &word[s.start..s.point];
+    let after = &word[s.behind..s.end];
+    Some(Decimal {
         plain: is_plain(s, word.len()),
-        whole: whole(&word[start..point]),
-        nearest: valued(is_minus(word), &word[start..point], &word[behind..end]),
-    }
+        whole: whole(before),
+        nearest: valued(is_minus(word), before, after),
+    })
 }

@@ -1,5 +1,5 @@
 // A station's chain as text, into a buffer: a line for each pass. What the text is: specs/Print.antt.
-ghost use Rattle.std.specs.Prelude.{◌≡◌, ◌+◌, ◌≤◌, length, take};
+ghost use Rattle.std.specs.Prelude.{◌≡◌, ◌+◌, ◌≤◌, length};
 ghost use Rattle.inspect.specs.Decimal.{Digits};
 ghost use Rattle.texts.specs.Names.{kind_name, preset_name, setting_name};
 ghost use Rattle.texts.specs.Print.{down, pointed, sign_text, real_text, whole_text, count_text, value_text, mark_text, label_text, setting_text, place_text};
@@ -8,22 +8,18 @@ ghost use Rattle.texts.specs.Words.{Begins};
 
 use super::names::{kind_name, preset_name, setting_name};
 use cards::check::is_good;
-use cards::station::{Pass, Record, Station, kind_of};
+use cards::station::{Pass, Record, Station, few, kind_of};
 use inspect::decimal::exact;
 use inspect::settings::{Setting, setting_at};
+use num::refusal::Refusal;
 
 // A text, and the place behind it.
 fn put(out: &mut [u8], at: usize, text: &[u8]) -> usize
     requires { at + length text.now ≤ length out.old }
     ensures { Puts text.now (length text.now) at out.old result out.new }
 {
-    let mut to = at;
-    let mut i: usize = 0;
-    while i < text.len() {
-        out[to] = text[i];
-        to += 1;
-        i += 1;
-    }
+    let to = at + text.len();
+    out[at..to].copy_from_slice(text);
     to
 }
 
@@ -33,10 +29,8 @@ fn digits_down(out: &mut [u8], at: usize, digits: &[u8], places: usize) -> usize
     ensures { Puts (down places digits.now) places at out.old result out.new }
 {
     let mut to = at;
-    let mut i = places;
-    while 0 < i {
-        i -= 1;
-        out[to] = 48 + digits[i];
+    for i in (0..places).rev() {
+        out[to] = b'0' + digits[i];
         to += 1;
     }
     to
@@ -47,7 +41,7 @@ fn put_point(out: &mut [u8], at: usize, digits: &[u8], places: usize) -> usize
     requires { Digits digits.now × (places ≤ 149) × (at + 151 ≤ length out.old) }
     ensures { Puts (pointed places digits.now) 151 at out.old result out.new }
 {
-    let one = put(out, at, &[48 + digits[places]]);
+    let one = put(out, at, &[b'0' + digits[places]]);
     if places == 0 {
         return one;
     }
@@ -79,10 +73,8 @@ fn put_real(out: &mut [u8], at: usize, x: f32) -> usize
 {
     let mut digits = zeros();
     let point = exact(x, &mut digits);
-    let negative = point.negative;
-    let places = point.places;
-    let one = put_sign(out, at, negative);
-    put_point(out, one, &digits, places)
+    let one = put_sign(out, at, point.negative);
+    put_point(out, one, &digits, point.places)
 }
 
 fn put_whole(out: &mut [u8], at: usize, v: u8) -> usize
@@ -90,12 +82,16 @@ fn put_whole(out: &mut [u8], at: usize, v: u8) -> usize
     ensures { Puts (whole_text v) 3 at out.old result out.new }
 {
     if v < 10 {
-        return put(out, at, &[48 + v]);
+        return put(out, at, &[b'0' + v]);
     }
     if v < 100 {
-        return put(out, at, &[48 + v / 10, 48 + v % 10]);
+        return put(out, at, &[b'0' + v / 10, b'0' + v % 10]);
     }
-    put(out, at, &[48 + v / 100, 48 + v / 10 % 10, 48 + v % 10])
+    put(
+        out,
+        at,
+        &[b'0' + v / 100, b'0' + v / 10 % 10, b'0' + v % 10],
+    )
 }
 
 // The pass of that kind, by its name.
@@ -103,27 +99,21 @@ fn put_kind(out: &mut [u8], at: usize, kind: u8) -> usize
     requires { at + 11 ≤ length out.old }
     ensures { Puts (kind_name kind) 11 at out.old result out.new }
 {
-    let mut name = [0u8; 16];
-    let n = kind_name(kind, &mut name);
-    put(out, at, &name[..n])
+    put(out, at, kind_name(kind))
 }
 
 fn put_preset(out: &mut [u8], at: usize, preset: u8) -> usize
     requires { at + 13 ≤ length out.old }
     ensures { Puts (preset_name preset) 13 at out.old result out.new }
 {
-    let mut name = [0u8; 16];
-    let n = preset_name(preset, &mut name);
-    put(out, at, &name[..n])
+    put(out, at, preset_name(preset))
 }
 
 fn put_name(out: &mut [u8], at: usize, kind: u8, j: usize) -> usize
     requires { at + 10 ≤ length out.old }
     ensures { Puts (setting_name kind j) 10 at out.old result out.new }
 {
-    let mut name = [0u8; 16];
-    let n = setting_name(kind, j, &mut name);
-    put(out, at, &name[..n])
+    put(out, at, setting_name(kind, j))
 }
 
 // What stands before the first setting, and before another.
@@ -158,38 +148,34 @@ fn put_count(out: &mut [u8], at: usize, kind: u8, v: u8) -> usize
     put_whole(out, at, v)
 }
 
-fn put_value(out: &mut [u8], at: usize, kind: u8, s: Setting) -> usize
+fn put_value(out: &mut [u8], at: usize, kind: u8, s: Option<Setting>) -> usize
     requires { at + 152 ≤ length out.old }
     ensures { Puts (value_text kind s) 152 at out.old result out.new }
 {
     match s {
-        Setting::Real(x) => put_real(out, at, x),
-        Setting::Whole(v) => put_count(out, at, kind, v),
-        Setting::Absent => at,
+        Some(Setting::Real(x)) => put_real(out, at, x),
+        Some(Setting::Whole(v)) => put_count(out, at, kind, v),
+        None => at,
     }
 }
 
 // The value of a setting of that kind of pass at the start of the buffer, and its length.
-pub fn value(kind: u8, s: Setting, out: &mut [u8; 152]) -> usize
+pub fn value(kind: u8, s: Option<Setting>, out: &mut [u8; 152]) -> usize
     ensures { Begins (value_text kind s) result out.new }
 {
     put_value(out, 0, kind, s)
 }
 
-fn put_setting(out: &mut [u8], at: usize, kind: u8, j: usize, s: Setting) -> usize
+fn put_setting(out: &mut [u8], at: usize, kind: u8, j: usize, s: Option<Setting>) -> usize
     requires { at + 165 ≤ length out.old }
     ensures { Puts (setting_text kind j s) 165 at out.old result out.new }
 {
     match s {
-        Setting::Real(x) => {
+        Some(_) => {
             let to = put_label(out, at, kind, j);
-            put_real(out, to, x)
+            put_value(out, to, kind, s)
         }
-        Setting::Whole(v) => {
-            let to = put_label(out, at, kind, j);
-            put_count(out, to, kind, v)
-        }
-        Setting::Absent => at,
+        None => at,
     }
 }
 
@@ -198,9 +184,7 @@ fn put_place(out: &mut [u8], at: usize, pass: Pass, j: usize) -> usize
     requires { at + 165 ≤ length out.old }
     ensures { Puts (place_text pass j) 165 at out.old result out.new }
 {
-    let kind = kind_of(pass);
-    let s = setting_at(pass, j);
-    put_setting(out, at, kind, j, s)
+    put_setting(out, at, kind_of(pass), j, setting_at(pass, j))
 }
 
 fn put_settings(out: &mut [u8], at: usize, pass: Pass) -> usize
@@ -224,56 +208,44 @@ fn put_switch(out: &mut [u8], at: usize, on: bool) -> usize
 }
 
 // The line of a pass.
-fn put_record(out: &mut [u8], at: usize, r: Record) -> usize
+fn put_record(out: &mut [u8], at: usize, r: &Record) -> usize
     requires { at + 677 ≤ length out.old }
-    ensures { Puts (line_text r) 677 at out.old result out.new }
+    ensures { Puts (line_text r.now) 677 at out.old result out.new }
 {
-    let pass = r.pass;
-    let on = r.on;
-    let one = put_kind(out, at, kind_of(pass));
+    let one = put_kind(out, at, kind_of(r.pass));
     let two = put(out, one, b", ");
-    let three = put_switch(out, two, on);
-    let four = put_settings(out, three, pass);
+    let three = put_switch(out, two, r.on);
+    let four = put_settings(out, three, r.pass);
     put(out, four, b"\n")
 }
 
-// The lines of the first n records.
-fn put_chain(out: &mut [u8], records: [Record; 12], n: usize) -> usize
-    requires { (n ≤ 12) × (8192 ≤ length out.old) }
-    ensures { Puts (lines_text (take n records)) 8192 0 out.old result out.new }
+// The lines of a chain.
+fn put_chain(out: &mut [u8], chain: &[Record]) -> usize
+    requires { (length chain.now ≤ 12) × (8192 ≤ length out.old) }
+    ensures { Puts (lines_text chain.now) 8192 0 out.old result out.new }
 {
-    let mut to: usize = 0;
-    let mut i: usize = 0;
-    while i < n {
-        let r = records[i];
+    let mut to = 0;
+    for r in chain {
         to = put_record(out, to, r);
-        i += 1;
     }
     to
 }
 
-// What a printing answers: the text's length, or a refusal's number.
-#[derive(Clone, Copy)]
-pub enum Printing {
-    Length(usize),
-    Refused(u8),
-}
-
-// The text of the station's chain at the start of the buffer, and its length; 13 for a bad station, 14 for a buffer that may be too short: of fewer than 8,192
-// bytes. No text is longer.
-pub fn print(station: Station, out: &mut [u8]) -> Printing
+// The text of the station's chain at the start of the buffer, and its length; refused for a bad station, and for a buffer that may be too short: of fewer than
+// 8,192 bytes. No text is longer.
+pub fn print(station: Station, out: &mut [u8]) -> Result<usize, Refusal>
     ensures { (result ≡ print_reply station out.old) × (out.new ≡ print_into station out.old) }
 {
     if !is_good(station) {
-        return Printing::Refused(13);
+        return Err(Refusal::BadStation);
     }
     if out.len() < 8192 {
-        return Printing::Refused(14);
+        return Err(Refusal::ShortCardBuffer);
     }
-    let n = station.n;
-    let records = station.records;
-    if n == 0 {
-        return Printing::Length(put(out, 0, b"none\n"));
+    let chain = &station.records[..few(station.n)];
+    if chain.is_empty() {
+        Ok(put(out, 0, b"none\n"))
+    } else {
+        Ok(put_chain(out, chain))
     }
-    Printing::Length(put_chain(out, records, n))
 }

@@ -1,28 +1,26 @@
 // A text: its lines one after another, each without its comment; the station that it makes, or its first fault.
-ghost use Rattle.std.specs.Prelude.{◌≡◌, ◌+◌, ◌≤◌, not, eqb, length, drop};
-ghost use Rattle.texts.specs.Read.{in_text, begun as begun_of, wrong_with, appended as appended_of, with_pass, with_none, with_line, made as made_from};
-ghost use Rattle.texts.specs.Read.{failed as failed_at, finished as finished_at, uncommented, made_of};
+ghost use Rattle.std.specs.Prelude.{◌≡◌, ◌+◌, ◌≤◌, Ok, not, eqb, length, drop};
+ghost use Rattle.texts.specs.Read.{in_text, begun as begun_of, appended as appended_of, with_pass, with_none, with_line};
+ghost use Rattle.texts.specs.Read.{finished as finished_at, uncommented, made_of};
 ghost use Rattle.texts.specs.Words.{front};
 ghost use Rattle.texts.specs.Lines.{line_of};
 
 use super::lines::{Fault, Line, faulty, line_of};
+use super::mistake::Mistake;
 use cards::check::is_good;
 use cards::reader::filler;
 use cards::station::{Pending, Record, Station, kind_of};
 
-// What is read so far: the station with the passes, and whether it was said that there is none. A fault has a number other than 0.
+// What is read so far: the station with the passes, and whether it was said that there is none.
 #[derive(Clone, Copy)]
 pub struct Draft {
     pub station: Station,
     pub bare: bool,
-    pub fault: Fault,
 }
 
-// The station that a text makes; or, where `ok` is false, the line, counted from 0, and what is wrong with it. The station is an empty one then.
-#[derive(Clone, Copy)]
-pub struct Made {
-    pub ok: bool,
-    pub station: Station,
+// Why a text makes no station: the line, counted from 0, and what is wrong with it.
+#[derive(Clone, Copy, Debug, PartialEq, Eq)]
+pub struct Misread {
     pub line: usize,
     pub fault: Fault,
 }
@@ -31,28 +29,13 @@ pub struct Made {
 fn begun() -> Draft
     ensures { result ≡ begun_of }
 {
-    let f = filler();
-    let records = [f; 12];
-    let station = Station {
-        records,
-        n: 0,
-        pending: Pending::Nothing,
-    };
     Draft {
-        station,
+        station: Station {
+            records: [filler(); 12],
+            n: 0,
+            pending: Pending::Nothing,
+        },
         bare: false,
-        fault: faulty(0, 0, 0, 0),
-    }
-}
-
-fn wrong_with(d: Draft, fault: Fault) -> Draft
-    ensures { result ≡ wrong_with d fault }
-{
-    let station = d.station;
-    Draft {
-        station,
-        bare: d.bare,
-        fault,
     }
 }
 
@@ -61,99 +44,67 @@ fn appended(s: Station, r: Record) -> Station
     requires { s.n ≤ 11 }
     ensures { result ≡ appended_of s r }
 {
-    let n = s.n;
     let mut records = s.records;
-    records[n] = r;
+    records[s.n] = r;
     Station {
         records,
-        n: n + 1,
+        n: s.n + 1,
         pending: Pending::Nothing,
     }
 }
 
-fn with_pass(d: Draft, r: Record) -> Draft
+fn with_pass(d: Draft, r: Record) -> Result<Draft, Fault>
     ensures { result ≡ with_pass d r }
 {
-    let pass = r.pass;
-    let kind = kind_of(pass);
-    let station = d.station;
+    let kind = kind_of(r.pass);
     if d.bare {
-        return wrong_with(d, faulty(4, 0, kind, 0));
+        return Err(faulty(Mistake::PassBesideNone, 0, kind, 0));
     }
-    if 12 <= station.n {
-        return wrong_with(d, faulty(3, 0, kind, 0));
+    if 12 <= d.station.n {
+        return Err(faulty(Mistake::TooManyPasses, 0, kind, 0));
     }
-    let s = appended(station, r);
-    if !is_good(s) {
-        return wrong_with(d, faulty(2, 0, kind, 0));
+    let station = appended(d.station, r);
+    if !is_good(station) {
+        return Err(faulty(Mistake::PassOutOfPlace, 0, kind, 0));
     }
-    Draft {
-        station: s,
+    Ok(Draft {
+        station,
         bare: false,
-        fault: faulty(0, 0, 0, 0),
-    }
+    })
 }
 
-fn with_none(d: Draft) -> Draft
+fn with_none(d: Draft) -> Result<Draft, Fault>
     ensures { result ≡ with_none d }
 {
-    let station = d.station;
-    if station.n != 0 {
-        return wrong_with(d, faulty(4, 0, 0, 0));
+    if d.station.n != 0 {
+        return Err(faulty(Mistake::PassBesideNone, 0, 0, 0));
     }
-    Draft {
-        station,
+    Ok(Draft {
+        station: d.station,
         bare: true,
-        fault: faulty(0, 0, 0, 0),
-    }
+    })
 }
 
-fn with_line(d: Draft, line: Line) -> Draft
-    ensures { result ≡ with_line d line }
+fn with_line(d: Draft, line: Line) -> Result<Draft, Fault>
+    ensures { result ≡ with_line d (Ok line) }
 {
     match line {
-        Line::Blank => d,
+        Line::Blank => Ok(d),
         Line::Bare => with_none(d),
         Line::Pass(r) => with_pass(d, r),
-        Line::Wrong(f) => wrong_with(d, f),
     }
 }
 
-fn accepted(station: Station) -> Made
-    ensures { result ≡ made_from station }
-{
-    Made {
-        ok: true,
-        station,
-        line: 0,
-        fault: faulty(0, 0, 0, 0),
-    }
-}
-
-fn failed(line: usize, fault: Fault) -> Made
-    ensures { result ≡ failed_at line fault }
-{
-    let b = begun();
-    let station = b.station;
-    Made {
-        ok: false,
-        station,
-        line,
-        fault,
-    }
-}
-
-fn finished(line: usize, d: Draft) -> Made
+fn finished(line: usize, d: Draft) -> Result<Station, Misread>
     ensures { result ≡ finished_at line d }
 {
-    let station = d.station;
-    if station.n != 0 {
-        return accepted(station);
+    if d.station.n == 0 && !d.bare {
+        return Err(Misread {
+            line,
+            fault: faulty(Mistake::NoPass, 0, 0, 0),
+        });
     }
-    if d.bare {
-        return accepted(station);
-    }
-    failed(line, faulty(10, 0, 0, 0))
+    Ok(d.station)
 }
 
 // The first place from `at` on where a line ends, or the text does.
@@ -161,51 +112,42 @@ fn line_end(text: &[u8], at: usize) -> usize
     requires { at ≤ length text.now }
     ensures { (result ≡ at + front (λ b. not (eqb b 10)) (drop at text.now)) × (result ≤ length text.now) }
 {
-    let mut i = at;
-    while i < text.len() {
-        if text[i] == b'\n' {
-            return i;
-        }
-        i += 1;
-    }
-    i
+    let rest = &text[at..];
+    at + rest.iter().position(|b| *b == b'\n').unwrap_or(rest.len())
 }
 
 // How much of a line stands before its comment.
 fn comment(line: &[u8]) -> usize
     ensures { (result ≡ front in_text line.now) × (result ≤ length line.now) }
 {
-    let mut i: usize = 0;
-    while i < line.len() {
-        if line[i] == b'#' {
-            return i;
-        }
-        i += 1;
-    }
-    i
+    line.iter().position(|b| *b == b'#').unwrap_or(line.len())
 }
 
 // A line, with its comment, after those that are read.
-fn with_text(d: Draft, line: &[u8]) -> Draft
+fn with_text(d: Draft, line: &[u8]) -> Result<Draft, Fault>
     ensures { result ≡ with_line d (line_of (uncommented line.now)) }
 {
-    let n = comment(line);
-    with_line(d, line_of(&line[..n]))
+    let said = line_of(&line[..comment(line)])?;
+    with_line(d, said)
 }
 
 // The station that a text makes, or its first fault.
-pub fn read(text: &[u8]) -> Made
+pub fn read(text: &[u8]) -> Result<Station, Misread>
     ensures { result ≡ made_of text.now }
 {
     let mut d = begun();
-    let mut at: usize = 0;
-    let mut line: usize = 0;
+    let mut at = 0;
+    let mut line = 0;
+    // No `for` over the pieces between line ends: behind the last line end stands no line.
     while at < text.len() {
         let end = line_end(text, at);
-        d = with_text(d, &text[at..end]);
-        let fault = d.fault;
-        if fault.number != 0 {
-            return failed(line, fault);
+        match with_text(d, &text[at..end]) {
+            Ok(next) => {
+                d = next;
+            }
+            Err(fault) => {
+                return Err(Misread { line, fault });
+            }
         }
         at = end + 1;
         line += 1;

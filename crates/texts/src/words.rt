@@ -1,6 +1,6 @@
 // The words of a line: what stands between blanks. A comma, a colon and an equals sign are blanks too.
 ghost use Rattle.std.specs.Prelude.{◌≡◌, ◌+◌, ◌≤◌, length, drop};
-ghost use Rattle.texts.specs.Words.{is_blank, is_letter, front, next_word, span_of, small as small_of, is as is_of};
+ghost use Rattle.texts.specs.Words.{is_blank, is_letter, front, next_word, span_of, word_of, is as is_of};
 
 // From where to where a word stands in its line.
 #[derive(Clone, Copy)]
@@ -12,22 +12,7 @@ pub struct Span {
 fn is_blank(b: u8) -> bool
     ensures { result ≡ is_blank b }
 {
-    if b == b'\t' {
-        return true;
-    }
-    if b == b'\r' {
-        return true;
-    }
-    if b == b' ' {
-        return true;
-    }
-    if b == b',' {
-        return true;
-    }
-    if b == b':' {
-        return true;
-    }
-    b == b'='
+    matches!(b, b'\t' | b'\r' | b' ' | b',' | b':' | b'=')
 }
 
 // The first place from `at` on that is no blank.
@@ -35,14 +20,11 @@ fn skip(line: &[u8], at: usize) -> usize
     requires { at ≤ length line.now }
     ensures { (result ≡ at + front is_blank (drop at line.now)) × (result ≤ length line.now) }
 {
-    let mut i = at;
-    while i < line.len() {
-        if !is_blank(line[i]) {
-            return i;
-        }
-        i += 1;
-    }
-    i
+    let rest = &line[at..];
+    at + rest
+        .iter()
+        .position(|b| !is_blank(*b))
+        .unwrap_or(rest.len())
 }
 
 // The first blank from `at` on, or the line's end.
@@ -50,14 +32,8 @@ fn stop(line: &[u8], at: usize) -> usize
     requires { at ≤ length line.now }
     ensures { (result ≡ at + front is_letter (drop at line.now)) × (result ≤ length line.now) }
 {
-    let mut i = at;
-    while i < line.len() {
-        if is_blank(line[i]) {
-            return i;
-        }
-        i += 1;
-    }
-    i
+    let rest = &line[at..];
+    at + rest.iter().position(|b| is_blank(*b)).unwrap_or(rest.len())
 }
 
 // The next word from `at` on.
@@ -75,40 +51,23 @@ pub fn nth(line: &[u8], i: usize) -> Span
     ensures { (result ≡ span_of line.now i) × (result.from ≤ result.to) × (result.to ≤ length line.now) }
 {
     let mut word = next(line, 0);
-    let mut k: usize = 0;
-    while k < i {
+    for _ in 0..i {
         word = next(line, word.to);
-        k += 1;
     }
     word
 }
 
-// A letter without its case.
-fn small(b: u8) -> u8
-    ensures { result ≡ small_of b }
+// The bytes of that word.
+pub fn word(line: &[u8], i: usize) -> &[u8]
+    ensures { result.now ≡ word_of line.now i }
 {
-    if b < b'A' {
-        return b;
-    }
-    if b'Z' < b {
-        return b;
-    }
-    b + 32
+    let Span { from, to } = nth(line, i);
+    &line[from..to]
 }
 
 // Whether a word is a name, whatever the case of either.
 pub(crate) fn is(word: &[u8], name: &[u8]) -> bool
     ensures { result ≡ is_of word.now name.now }
 {
-    if word.len() != name.len() {
-        return false;
-    }
-    let mut i = 0;
-    while i < word.len() {
-        if small(word[i]) != small(name[i]) {
-            return false;
-        }
-        i += 1;
-    }
-    true
+    word.eq_ignore_ascii_case(name)
 }

@@ -1,10 +1,10 @@
 // The areas that the arguments give.
-ghost use Rattle.std.specs.Prelude.{◌≡◌, ◌+◌, ◌<◌, ◌≤◌, length};
+ghost use Rattle.std.specs.Prelude.{◌≡◌, ◌+◌, ◌<◌, ◌≤◌, length, IfSome};
 
 use cli::stream::STDERR_FILENO;
 use cli::{input, says};
 use frames::area;
-use frames::area::Named;
+use frames::area::{Named, NotAnArea};
 
 // Four numbers for each of 64 areas.
 pub fn room() -> [u16; 256]
@@ -21,7 +21,7 @@ pub fn is_area(rt: HostRuntime, i: usize) -> bool {
 }
 
 // The area that argument i gives.
-fn named(rt: HostRuntime, i: usize) -> Named {
+fn named(rt: HostRuntime, i: usize) -> Result<Named, NotAnArea> {
     let mut text = io::buffer();
     let loaded = input::argument(rt, i, &mut text);
     let n = loaded.length;
@@ -37,27 +37,11 @@ fn not_four(rt: HostRuntime, i: usize) {
     says::text(b"\n");
 }
 
-fn not_named(rt: HostRuntime, i: usize, fault: u8) {
+fn not_named(rt: HostRuntime, i: usize, why: NotAnArea) {
     says::name(rt, STDERR_FILENO, i);
-    match fault {
-        1 => not_four(rt, i),
-        _ => says::text(b"no area: a number is above 65535\n"),
-    }
-}
-
-// Whether the arguments could be taken, and how many numbers the areas have.
-#[derive(Clone, Copy)]
-pub struct Taken {
-    pub ok: bool,
-    pub numbers: usize,
-}
-
-fn refused() -> Taken
-    ensures { result.numbers ≡ 0 }
-{
-    Taken {
-        ok: false,
-        numbers: 0,
+    match why {
+        NotAnArea::NotFour => not_four(rt, i),
+        NotAnArea::TooLarge => says::text(b"no area: a number is above 65535\n"),
     }
 }
 
@@ -65,42 +49,36 @@ fn refused() -> Taken
 fn take(rt: HostRuntime, i: usize, n: usize, out: &mut [u16]) -> bool
     requires { n + 3 < length out.old }
 {
-    let area = named(rt, i);
-    match area {
-        Named::Area(left, top, width, height) => {
-            out[n] = left;
-            out[n + 1] = top;
-            out[n + 2] = width;
-            out[n + 3] = height;
+    match named(rt, i) {
+        Ok(area) => {
+            out[n] = area.left;
+            out[n + 1] = area.top;
+            out[n + 2] = area.width;
+            out[n + 3] = area.height;
             true
         }
-        Named::Fault(k) => {
-            not_named(rt, i, k);
+        Err(why) => {
+            not_named(rt, i, why);
             false
         }
     }
 }
 
-// The arguments from `first` on, as areas.
-pub fn areas(rt: HostRuntime, first: usize, count: usize, out: &mut [u16]) -> Taken
+// The arguments from `first` on, as areas: how many numbers they have, if all of them could be taken.
+pub fn areas(rt: HostRuntime, first: usize, count: usize, out: &mut [u16]) -> Option<usize>
     requires { 256 ≡ length out.old }
-    ensures { result.numbers ≤ length out.new }
+    ensures { IfSome result (λ n. n ≤ length out.new) }
 {
     let mut n: usize = 0;
-    let mut i = first;
-    while i < count {
+    for i in first..count {
         if 252 < n {
             says::text(b"too many areas: at most 64\n");
-            return refused();
+            return None;
         }
         if !take(rt, i, n, out) {
-            return refused();
+            return None;
         }
         n += 4;
-        i += 1;
     }
-    Taken {
-        ok: true,
-        numbers: n,
-    }
+    Some(n)
 }

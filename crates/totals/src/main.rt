@@ -24,9 +24,8 @@ fn one(rt: HostRuntime, first: usize, areas: &[u16])
     let mut file = memory::file();
     let mut words = memory::words();
     let mut totals = measured::room();
-    let read = measured::totals(rt, 1, first, &mut file, &mut words, areas, &mut totals);
-    if read.ok {
-        output::told(shown::all(rt, first, areas, &totals, read.words));
+    if let Some(read) = measured::totals(rt, 1, first, &mut file, &mut words, areas, &mut totals) {
+        output::told(shown::all(rt, first, areas, &totals, read));
     }
 }
 
@@ -36,13 +35,11 @@ fn two(rt: HostRuntime, first: usize, areas: &[u16])
     let mut file = memory::file();
     let mut words = memory::words();
     let mut totals = measured::room();
-    let read = measured::totals(rt, 1, first, &mut file, &mut words, areas, &mut totals);
-    if !read.ok {
+    if measured::totals(rt, 1, first, &mut file, &mut words, areas, &mut totals).is_none() {
         return;
     }
     let mut others = measured::room();
-    let read = measured::totals(rt, 2, first, &mut file, &mut words, areas, &mut others);
-    if read.ok {
+    if measured::totals(rt, 2, first, &mut file, &mut words, areas, &mut others).is_some() {
         output::told(shown::differences(rt, first, areas, &totals, &others));
     }
 }
@@ -56,11 +53,9 @@ fn run(rt: HostRuntime, first: usize, count: usize)
         return;
     }
     let mut areas = given::room();
-    let taken = given::areas(rt, first, count, &mut areas);
-    if !taken.ok {
+    let Some(n) = given::areas(rt, first, count, &mut areas) else {
         return;
-    }
-    let n = taken.numbers;
+    };
     if first == 2 {
         one(rt, first, &areas[..n]);
     } else {

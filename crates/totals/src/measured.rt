@@ -4,7 +4,8 @@ ghost use Rattle.std.specs.Prelude.{◌≡◌, ◌≤◌, length};
 use cli::stream::STDERR_FILENO;
 use cli::{input, says, words};
 use frames::judge;
-use frames::judge::Judged;
+use frames::judge::NoTotals;
+use raster::ppm::NotAFrame;
 
 // Three totals for each of 64 areas.
 pub fn room() -> [u64; 192]
@@ -13,28 +14,11 @@ pub fn room() -> [u64; 192]
     [0; 192]
 }
 
-// Whether the picture has the areas, and how many words were read.
-#[derive(Clone, Copy)]
-pub struct Measured {
-    pub ok: bool,
-    pub words: u32,
-}
-
-fn refused() -> Measured {
-    Measured {
-        ok: false,
-        words: 0,
-    }
-}
-
 // Whether the one area is refused.
 fn leaves(file: &[u8], words: &mut [u32], area: &[u16]) -> bool {
     let mut totals = room();
     let judged = judge::totals(file, words, area, &mut totals);
-    match judged {
-        Judged::Refused(_) => true,
-        _ => false,
-    }
+    matches!(judged, Err(NoTotals::Refused(_)))
 }
 
 // Says behind argument k, an area, that it leaves the picture that argument i names.
@@ -49,18 +33,21 @@ fn bad_area(rt: HostRuntime, i: usize, k: usize) {
 fn outside(rt: HostRuntime, i: usize, first: usize, file: &[u8], words: &mut [u32], areas: &[u16])
     requires { first ≤ 3 }
 {
-    let n = areas.len() / 4;
-    for k in 0..n {
-        let at = 4 * k;
-        let end = at + 4;
-        if leaves(file, words, &areas[at..end]) {
+    for k in 0..areas.len() / 4 {
+        if leaves(file, words, &areas[4 * k..4 * k + 4]) {
             bad_area(rt, i, first + k);
             return;
         }
     }
 }
 
-// The totals of the picture that argument i names; or a line that says why there are none.
+// A file that is no frame.
+fn no_frame(rt: HostRuntime, i: usize, why: NotAFrame) {
+    says::name(rt, STDERR_FILENO, i);
+    words::no_frame(STDERR_FILENO, why);
+}
+
+// The totals of the picture that argument i names, and how many words were read; or a line that says why there are none.
 pub fn totals(
     rt: HostRuntime,
     i: usize,
@@ -69,32 +56,27 @@ pub fn totals(
     words: &mut [u32],
     areas: &[u16],
     res: &mut [u64],
-) -> Measured
+) -> Option<u32>
     requires { first ≤ 3 }
 {
     let loaded = input::named(rt, i, file);
     if !loaded.ok {
-        return refused();
+        return None;
     }
     let n = loaded.length;
-    let more = loaded.more;
-    let fault = frames::fault(&file[..n], more, 61440);
-    if fault != 0 {
-        says::name(rt, STDERR_FILENO, i);
-        words::no_frame(STDERR_FILENO, fault);
-        return refused();
+    if let Some(why) = frames::fault(&file[..n], loaded.more, 61440) {
+        no_frame(rt, i, why);
+        return None;
     }
-    let judged = judge::totals(&file[..n], words, areas, res);
-    match judged {
-        Judged::Read(words) => Measured { ok: true, words },
-        Judged::NoFrame(k) => {
-            says::name(rt, STDERR_FILENO, i);
-            words::no_frame(STDERR_FILENO, k);
-            refused()
+    match judge::totals(&file[..n], words, areas, res) {
+        Ok(read) => Some(read),
+        Err(NoTotals::NoFrame(why)) => {
+            no_frame(rt, i, why);
+            None
         }
-        Judged::Refused(_) => {
+        Err(NoTotals::Refused(_)) => {
             outside(rt, i, first, &file[..n], words, areas);
-            refused()
+            None
         }
     }
 }

@@ -66,13 +66,7 @@ pub fn all(
 fn same(k: usize, a: &[u64; 192], b: &[u64; 192]) -> bool
     requires { k < 64 }
 {
-    if a[3 * k] != b[3 * k] {
-        return false;
-    }
-    if a[3 * k + 1] != b[3 * k + 1] {
-        return false;
-    }
-    a[3 * k + 2] == b[3 * k + 2]
+    a[3 * k] == b[3 * k] && a[3 * k + 1] == b[3 * k + 1] && a[3 * k + 2] == b[3 * k + 2]
 }
 
 // 1 where area k differs, else 0.

@@ -1,10 +1,6 @@
 -- `areas::block::running` meets its contract: column after column. Assumes nothing.
-use Prim.Native.Nat.{◌-◌}
 use Rattle.areas.proofs.Blocks.{Running}
 use Rattle.areas.proofs.block.running.Given as goal
 
 abbrev pub invariant-loop-t : goal.invariant-loop-t
-invariant-loop-t l = Running l.columns l.from l.to l.t l.i l.red l.green l.blue l.sums
-
-abbrev pub decreases-loop-t : goal.decreases-loop-t
-decreases-loop-t l = l.to - l.t
+invariant-loop-t l = Running l.columns l.from l.t l.red l.green l.blue l.sums

@@ -1,10 +1,7 @@
 -- `areas::share::share` meets its contract: rectangle after rectangle. Assumes nothing.
-use Prim.Native.Nat.{◌-◌}
-use Rattle.areas.proofs.Sharing.{Sharing}
+use Prim.Native.Nat.{◌*◌}
+use Rattle.areas.proofs.Sharing.{Shared}
 use Rattle.areas.proofs.share.share.Given as goal
 
 abbrev pub invariant-loop-k : goal.invariant-loop-k
-invariant-loop-k l = Sharing l.areas l.y l.sums l.initial.res l.k l.i l.res
-
-abbrev pub decreases-loop-k : goal.decreases-loop-k
-decreases-loop-k l = l.n - l.k
+invariant-loop-k l = Shared l.areas l.y l.sums (3 * l.k) l.initial.res l.res

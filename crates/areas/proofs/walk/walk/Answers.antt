@@ -21,7 +21,7 @@ clear-requires c = (omega arith, omega arith)
 pub loop-y-init : goal.loop-y-init
 loop-y-init c = (
   begun c.requires c.clear.ensures,
-  record { for_ends = c.place_line-ends.ensures; for_columns = c.place_line-columns.ensures; for_sums = c.sum_line-sums.ensures },
+  record { for_ends = c.line-ends.ensures; for_columns = c.line-columns.ensures; for_sums = c.line-sums.ensures },
 )
 
 pub band_end-end-requires : goal.band_end-end-requires

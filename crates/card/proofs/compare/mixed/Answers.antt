@@ -1,12 +1,13 @@
--- `card::compare::mixed` is safe and ends: twelve places at most, each of at most 255. Assumes nothing.
+-- `card::compare::mixed` is safe: twelve passes at most, each of a depth of at most 255. Assumes nothing.
 use native.Mathlib.Omega.{arith}
+use Rattle.std.proofs.lemmas.List.{length-take}
 use Rattle.card.proofs.compare.mixed.Goals as goal
 
-pub loop-i-init : goal.loop-i-init
-loop-i-init c = (omega arith, omega arith)
+pub loop-r-init : goal.loop-r-init
+loop-r-init c = (omega (arith, length-take c.few.result c.args.station.records, c.few.ensures.1), omega arith)
 
 pub overflow_add-depths : goal.overflow_add-depths
-overflow_add-depths c = omega (arith, c.depth_at-depths.ensures, c.loop-i.invariant.1)
+overflow_add-depths c = omega (arith, c.loop-r.invariant, c.depth-depths.ensures)
 
-pub loop-i-preserved : goal.loop-i-preserved
-loop-i-preserved c = (omega arith, omega (arith, c.depth_at-depths.ensures, c.loop-i.invariant.1))
+pub loop-r-preserved : goal.loop-r-preserved
+loop-r-preserved c = (c.loop-r.invariant.0, omega (arith, c.loop-r.invariant.1, c.depth-depths.ensures))

@@ -1,76 +1,46 @@
--- `frames::judge::totals` meets its contract: a frame that is taken lies whole in the file, and its words in the scratch. The frame in the file as in `filter`.
--- Assumes nothing.
+-- `frames::judge::totals` meets its contract: a frame that is taken lies whole in the file, and its words in the scratch. Assumes nothing.
 use Prim.Native.Nat.{ℕ, ◌*◌}
 use mathlib.Core.List.{List, ◌++◌}
 use mathlib.Core.Path.{◌≡◌, sym, ap, ◌∙◌}
 use native.Mathlib.Omega.{arith}
 use lib.ListN.{length, drop}
-use Rattle.raster.specs.Claims.{Whole}
-use Rattle.raster.specs.Ppm.{parse_of}
-use Rattle.raster.specs.declared.ppm.Parsed.{Parsed}
-use Rattle.raster.proofs.Taken.{taken-whole}
-use Rattle.frames.specs.Frames.{number_of}
-use Rattle.frames.specs.Judge.{measured_of, among, by_frame, in_file}
-use Rattle.frames.specs.declared.judge.Judged.{Judged}
-use Rattle.frames.specs.declared.judge.Judged.TheVariants.{NoFrame}
-use Rattle.frames.proofs.Parts.{few, lent, pixels, pixels_room}
+use Rattle.std.proofs.lemmas.Result.{err_from_is_err_and}
+use Rattle.raster.specs.Ppm.{Parsed, parse_of}
+use Rattle.frames.specs.Judge.{Judged, measured_of, among, by_frame, in_file}
+use Rattle.frames.proofs.Parts.{whole, few, lent, pixels, room}
 use Rattle.frames.proofs.judge.totals.Goals as goal
-use Rattle.frames.proofs.judge.totals.Lts as lts
-use Rattle.frames.proofs.judge.totals.Reads as reads
-use Rattle.frames.proofs.judge.totals.Tie as tie
 
-module _ (words file areas result : List ℕ) {p : Parsed} (e : p ≡ parse_of (length words) file) where
-  by-parsed : by_frame p words file areas result ≡ in_file words file areas result
+module _ (words file areas result : List ℕ) where
+  by-parsed : {p : Parsed} → p ≡ parse_of (length words) file → by_frame p words file areas result ≡ in_file words file areas result
   unfolding in_file
-  by-parsed = ap (λ (q : Parsed). by_frame q words file areas result) e
+  by-parsed e = ap (λ (q : Parsed). by_frame q words file areas result) e
 
-  no_frame : {k number : ℕ} → p ≡ Parsed.Refused k → number ≡ number_of p → (NoFrame number, words, result) ≡ in_file words file areas result
-  no_frame {k} {number} is n =
-      ap (λ (m : ℕ). (NoFrame m, words, result)) (n ∙ ap number_of is) ∙ ap (λ (q : Parsed). by_frame q words file areas result) (sym is) ∙ by-parsed
-
-  measured : {w h start : ℕ} {pixels : List ℕ} {r : Judged} {words' result' : List ℕ} → p ≡ Parsed.Frame w h start → pixels ≡ drop start file
+  measured : {w h start : ℕ} {pixels : List ℕ} {r : Judged} {words' result' : List ℕ} → Parsed.Frame w h start ≡ parse_of (length words) file → pixels ≡ drop start file
       → (r, words', result') ≡ measured_of w h pixels areas result → (r, words' ++ drop (h * w) words, result') ≡ in_file words file areas result
-  measured {w} {h} {start} is part g =
-      ap (among (h * w) words) g ∙ ap (λ (xs : List ℕ). among (h * w) words (measured_of w h xs areas result)) part
-      ∙ ap (λ (q : Parsed). by_frame q words file areas result) (sym is) ∙ by-parsed
+  measured {w} {h} e part g =
+      ap (among (h * w) words) g ∙ ap (λ (xs : List ℕ). among (h * w) words (measured_of w h xs areas result)) part ∙ by-parsed e
 
--- a frame was taken
-module _ (c : lts.Past-After-known_told tie.the-claims reads.Pre reads.Post) where
-  abbrev start : lts.Start tie.the-claims reads.Pre reads.Post
-  start = c.before.before.before.before.before.before
-
-  abbrev width : ℕ
-  width = c.in-Frame.width
-
-  abbrev height : ℕ
-  height = c.in-Frame.height
-
-  abbrev from : ℕ
-  from = c.in-Frame.start
-
-  whole : Whole (length start.args.words.now) start.args.file.now width height from
-  whole = taken-whole _ _ _ _ _ (sym c.parse-r.ensures ∙ c.in-Frame.is)
-
-pub returns-in_default : goal.returns-in_default
-returns-in_default c = no_frame _ _ _ _ c.parse-r.ensures c.in_default.is c.number.ensures
+pub returns-in_err-width : goal.returns-in_err-width
+returns-in_err-width c = let p = err_from_is_err_and c.from_residual.result c.from_residual.ensures.1 in
+    rw (p.1, p.2) (by-parsed _ _ _ _ c.in_err-width.ensures)
 
 pub overflow_mul-count : goal.overflow_mul-count
-overflow_mul-count c = omega (arith, few _ _ _ _ _ (whole c.before))
+overflow_mul-count c = omega (arith, few _ _ c.in_ok-width.ensures)
 
 pub slice_bounds-measure-count : goal.slice_bounds-measure-count
-slice_bounds-measure-count c = omega (arith, (whole c.before).ends)
+slice_bounds-measure-count c = omega (arith, (whole _ _ c.in_ok-width.ensures).ends)
 
 pub slice_bounds-measure-start : goal.slice_bounds-measure-start
-slice_bounds-measure-start c = omega (arith, (whole c.before).ends)
+slice_bounds-measure-start c = omega (arith, (whole _ _ c.in_ok-width.ensures).ends)
 
 pub slice_bounds-measure-end-2 : goal.slice_bounds-measure-end-2
-slice_bounds-measure-end-2 c = omega (arith, (whole c.before.before).few)
+slice_bounds-measure-end-2 c = (whole _ _ c.in_ok-width.ensures).few
 
 pub slice_bounds-measure-end-3 : goal.slice_bounds-measure-end-3
-slice_bounds-measure-end-3 c = sym (lent c.args.words.now _ (whole c.before.before.before))
+slice_bounds-measure-end-3 c = sym (lent _ _ c.in_ok-width.ensures)
 
 pub measure-requires : goal.measure-requires
-measure-requires c = record { words_room = lent c.args.words.now _ (whole c.before.before.before.before); pixels_room = pixels_room c.args.words.now _ (whole c.before.before.before.before) }
+measure-requires c = room _ _ c.in_ok-width.ensures
 
 pub returns : goal.returns
-returns c = measured _ _ _ _ c.parse-r.ensures c.in-Frame.is (pixels c.args.words.now _ (whole c.before.before.before.before.before.before.before.before.before)) c.measure.ensures
+returns c = measured _ _ _ _ c.in_ok-width.ensures (pixels _ _ c.in_ok-width.ensures) c.measure.ensures

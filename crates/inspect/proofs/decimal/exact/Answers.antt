@@ -20,10 +20,10 @@ returns-then-b-ge2139095040 c =
     record { value = valued _ h _ _ e; point = e.0; digits = e.1 }
 
 pub units-places-requires : goal.units-places-requires
-units-places-requires c = (search rules, c.decode-v.ensures.0, c.decode-v.ensures.1)
+units-places-requires c = (search rules, c.decode-m.ensures.0, c.decode-m.ensures.1)
 
 pub returns : goal.returns
 returns c =
     let h = held c.before.before.before.before.before in
-    let e = told_units _ h _ c.real_bits-bits.ensures _ _ c.decode-v.ensures.2 c.units-places.ensures in
+    let e = told_units _ h _ c.real_bits-bits.ensures _ _ c.decode-m.ensures.2 c.units-places.ensures in
     record { value = valued _ h _ _ e; point = e.0; digits = e.1 }

@@ -3,8 +3,8 @@ use Prim.Native.Nat.{◌*◌, ◌^◌, ◌≤◌}
 use mathlib.Core.Path.{◌≡◌}
 use Rattle.inspect.proofs.decimal.reduced.Given as goal
 
-abbrev pub invariant-loop-q : goal.invariant-loop-q
-invariant-loop-q l = (l.q ≤ l.p) × (l.m ≤ l.n) × (l.m * 2 ^ l.p ≡ l.n * 2 ^ l.q)
+abbrev pub invariant-loop-p : goal.invariant-loop-p
+invariant-loop-p l = (l.p ≤ l.fn.p) × (l.n ≤ l.fn.n) × (l.n * 2 ^ l.fn.p ≡ l.fn.n * 2 ^ l.p)
 
-abbrev pub decreases-loop-q : goal.decreases-loop-q
-decreases-loop-q l = l.q
+abbrev pub decreases-loop-p : goal.decreases-loop-p
+decreases-loop-p l = l.p

@@ -26,7 +26,7 @@ pub spell-requires-2 : goal.spell-requires-2
 spell-requires-2 c = c.requires.0
 
 pub scale-requires-2 : goal.scale-requires-2
-scale-requires-2 c = (c.spell-2.ensures.0, omega arith, omega arith, low_room _ _ _ _ c.spell-2.ensures.1 c.reduced-f.ensures.1 c.requires.1 (omega (arith, c.reduced-f.ensures.0)))
+scale-requires-2 c = (c.spell-2.ensures.0, omega arith, omega arith, low_room _ _ _ _ c.spell-2.ensures.1 c.reduced-n.ensures.1 c.requires.1 (omega (arith, c.reduced-n.ensures.0)))
 
 pub shape_of-digits : goal.shape_of-digits
 shape_of-digits c = c.scale-2.ensures.0.long ∙ sym c.requires.0
@@ -34,7 +34,7 @@ shape_of-digits c = c.scale-2.ensures.0.long ∙ sym c.requires.0
 pub returns : goal.returns
 returns c = record {
   digits = c.scale-2.ensures.0;
-  few = omega (arith, c.reduced-f.ensures.0);
-  size = below _ _ _ _ _ _ c.if-e-gt149.false c.reduced-f.ensures.2 c.spell-2.ensures.1 c.scale-2.ensures.1;
-  odd = λ h. ap (λ (k : ℕ). k % 2) (c.scale-2.ensures.1 ∙ ap (λ (k : ℕ). k * 5 ^ c.reduced-f.result.p) c.spell-2.ensures.1) ∙ odd_fives _ _ (c.reduced-f.ensures.3 h);
+  few = omega (arith, c.reduced-n.ensures.0);
+  size = below _ _ _ _ _ _ c.if-e-gt149.false c.reduced-n.ensures.2 c.spell-2.ensures.1 c.scale-2.ensures.1;
+  odd = λ h. ap (λ (k : ℕ). k % 2) (c.scale-2.ensures.1 ∙ ap (λ (k : ℕ). k * 5 ^ c.reduced-n.result.p) c.spell-2.ensures.1) ∙ odd_fives _ _ (c.reduced-n.ensures.3 h);
 }

@@ -1,11 +1,7 @@
 -- `inspect::difference::settings_difference` meets its contract: place by place, and past the fourth there is none. Assumes nothing.
-use Prim.Native.Nat.{◌-◌}
 use Rattle.inspect.specs.Settings.{settings_of}
 use Rattle.inspect.proofs.Compared.{Compared}
 use Rattle.inspect.proofs.difference.settings_difference.Given as goal
 
 abbrev pub invariant-loop-j : goal.invariant-loop-j
 invariant-loop-j l = Compared l.i (settings_of l.p) (settings_of l.q) l.j
-
-abbrev pub decreases-loop-j : goal.decreases-loop-j
-decreases-loop-j l = 4 - l.j

@@ -1,48 +1,52 @@
 -- `inspect::extent::parse` meets its contract: what was read, test by test. Assumes nothing.
 use Prim.Native.Nat.{ℕ}
-use mathlib.Core.Bool.{true, false}
+use mathlib.Core.Bool.{true, false, ◌||◌}
 use mathlib.Core.List.{List}
 use mathlib.Core.Path.{◌≡◌, sym, ap, ◌∙◌}
-use borrow.Author.Tests.{eq-eqb, ne_eqb}
 use Rattle.num.specs.Refusals.{bad_side}
+use Rattle.std.specs.Prelude.{Option, Some, None}
 use Rattle.inspect.specs.Extent.{unread, read_of, extent_by, extent_of}
-use Rattle.inspect.specs.declared.extent.Extent.{Extent}
-use Rattle.inspect.specs.declared.extent.Extent.TheVariants.{Sides, NoSize}
 use Rattle.inspect.specs.declared.extent.Reading.{Reading}
+use Rattle.inspect.specs.declared.extent.Reading.TheVariants.{Width, Height}
+use Rattle.inspect.proofs.extent.parse.Goals.{then-bad_side-via-then-bad_side, then-bad_side-via-else-bad_side+then-bad_side-2}
 use Rattle.inspect.proofs.extent.parse.Goals as goal
 
-module _ (text : List ℕ) {r : Reading} (e : r ≡ read_of unread text) where
-  so : {x : Extent} → x ≡ extent_by r → x ≡ extent_of text
+module _ (text : List ℕ) {o : Option Reading} (e : o ≡ read_of (Some unread) text) where
+  by : extent_by o ≡ extent_of text
   unfolding extent_of
-  so h = h ∙ ap extent_by e
+  by = ap extent_by e
 
-  torn : (r.crosses ≡ 1 → ⊥) → NoSize ≡ extent_of text
+  torn : o ≡ None → None ≡ extent_of text
   unfolding extent_by
-  torn n = so (simp (ne_eqb r.crosses 1 n))
+  torn n = sym (ap extent_by n) ∙ by
 
-  module _ (one : r.crosses ≡ 1) where
-    bad_width : bad_side r.width ≡ true → NoSize ≡ extent_of text
+  one : (width : ℕ) → o ≡ Some (Width width) → None ≡ extent_of text
+  unfolding extent_by
+  one width n = sym (ap extent_by n) ∙ by
+
+  module _ (width height : ℕ) (n : o ≡ Some (Height width height)) where
+    bad : bad_side width || bad_side height ≡ true → None ≡ extent_of text
     unfolding extent_by
-    bad_width w = so (simp (eq-eqb r.crosses 1 one, w))
+    bad w = sym (ap extent_by n ∙ rw w) ∙ by
 
-    bad_height : bad_side r.width ≡ false → bad_side r.value ≡ true → NoSize ≡ extent_of text
+    sides : bad_side width || bad_side height ≡ false → Some (record { width = width; height = height }) ≡ extent_of text
     unfolding extent_by
-    bad_height w h = so (simp (eq-eqb r.crosses 1 one, w, h))
+    sides w = sym (ap extent_by n ∙ rw w) ∙ by
 
-    sides : bad_side r.width ≡ false → bad_side r.value ≡ false → Sides r.width r.value ≡ extent_of text
-    unfolding extent_by
-    sides w h = so (simp (eq-eqb r.crosses 1 one, w, h))
+pub returns-in_err-width : goal.returns-in_err-width
+returns-in_err-width c = c.from_residual.ensures ∙ torn _ c.read.ensures c.in_err-width.was
 
-pub returns-then-r-ne1 : goal.returns-then-r-ne1
-returns-then-r-ne1 c = torn _ c.read-r.ensures c.if-r-ne1.true
+pub returns-in_default : goal.returns-in_default
+returns-in_default c = one _ c.read.ensures c.in_default.field-0 (c.in_ok-width.was ∙ ap Some c.in_default.is)
 
 pub returns-then-bad_side : goal.returns-then-bad_side
-returns-then-bad_side c = bad_width _ c.read-r.ensures c.if-r-ne1.false (sym c.bad_side.ensures ∙ c.if-bad_side.true)
-
-pub returns-then-bad_side-2 : goal.returns-then-bad_side-2
-returns-then-bad_side-2 c = bad_height _ c.read-r.ensures c.if-r-ne1.false (sym c.bad_side.ensures ∙ c.if-bad_side.false)
-    (sym c.bad_side-2.ensures ∙ c.if-bad_side-2.true)
+returns-then-bad_side c =
+    let found = bad _ c.read.ensures c.in-Height.width c.in-Height.height (c.in_ok-width.was ∙ ap Some c.in-Height.is) in
+    elim c.then-bad_side.branch [
+      | then-bad_side-via-then-bad_side w ↦ found (rw (sym c.bad_side.ensures ∙ w.if-bad_side.true))
+      | then-bad_side-via-else-bad_side+then-bad_side-2 w ↦ found (rw (sym c.bad_side.ensures ∙ w.if-bad_side.false) (sym w.bad_side-else-bad_side.ensures ∙ w.if-bad_side-2.true))
+    ]
 
 pub returns : goal.returns
-returns c = sides _ c.read-r.ensures c.if-r-ne1.false (sym c.bad_side.ensures ∙ c.if-bad_side.false)
-    (sym c.bad_side-2.ensures ∙ c.if-bad_side-2.false)
+returns c = sides _ c.read.ensures c.in-Height.width c.in-Height.height (c.in_ok-width.was ∙ ap Some c.in-Height.is)
+    (rw (sym c.bad_side.ensures ∙ c.if-bad_side.false) (sym c.bad_side-else-bad_side.ensures ∙ c.if-bad_side-2.false))

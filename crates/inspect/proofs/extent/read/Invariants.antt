@@ -1,12 +1,11 @@
 -- `inspect::extent::read` meets its contract: byte after byte. Assumes nothing.
-use Prim.Native.Nat.{◌-◌, ◌≤◌}
+use Prim.Native.Nat.{◌≤◌}
 use mathlib.Core.Path.{◌≡◌}
-use lib.ListN.{length, drop}
+use lib.ListN.{drop}
+use Rattle.std.specs.Prelude.{Some}
 use Rattle.inspect.specs.Extent.{unread, read_of}
+use Rattle.inspect.specs.Private.{present}
 use Rattle.inspect.proofs.extent.read.Given as goal
 
-abbrev pub invariant-loop-i : goal.invariant-loop-i
-invariant-loop-i l = (read_of l.r (drop l.i l.text) ≡ read_of unread l.text) × (l.r.value ≤ 10249)
-
-abbrev pub decreases-loop-i : goal.decreases-loop-i
-decreases-loop-i l = length l.text - l.i
+abbrev pub invariant-loop-b : goal.invariant-loop-b
+invariant-loop-b l = (read_of (Some l.r) (drop l.b-index l.text) ≡ read_of (Some unread) l.text) × (present l.r ≤ 10249)

@@ -1,45 +1,38 @@
--- `inspect::extent::step` meets its contract: each test went as the definition's. Assumes nothing.
-use Prim.Native.Nat.{ℕ, ◌≤◌, ◌<◌}
-use mathlib.Core.Bool.{cond, ◌&&◌}
-use mathlib.Core.Path.{◌≡◌, ap, ◌∙◌}
+-- `inspect::extent::step` meets its contract: a decimal digit, the `x`, or another byte. Assumes nothing.
+use Prim.Native.Nat.{ℕ, ◌<◌}
 use native.Mathlib.Omega.{arith}
-use borrow.Author.Tests.{lt-ltb, le-ltb, eq-eqb, ne_eqb}
-use lib.Dec.{ltb, eqb}
-use Rattle.inspect.specs.Extent.{grow, with_digit, crossed, broken, step_of}
+use mathlib.Core.Bool.{false, cond}
+use mathlib.Core.Path.{◌≡◌, ap, sym, subst, ◌∙◌}
+use borrow.Author.Tests.{lt-ltb, eq-eqb, ne_eqb}
+use lib.Dec.{eqb, ltb}
+use Rattle.std.specs.Prelude.{Option, Some, None}
 use Rattle.inspect.specs.Hexadecimal.{digit_of}
+use Rattle.inspect.specs.Extent.{with_digit, crossed, step_of}
 use Rattle.inspect.specs.declared.extent.Reading.{Reading}
+use Rattle.inspect.proofs.Ranges.{figure, no_figure}
 use Rattle.inspect.proofs.extent.step.Goals as goal
 
--- the step by the value of the byte as a digit
-abbrev by : Reading → (b d : ℕ) → Reading
-by r b d = cond (ltb d 10) (with_digit r d) (cond (eqb b 120 && eqb r.crosses 0) (crossed r) broken)
+module _ (r : Reading) (b : ℕ) where
+  by : ℕ → Option Reading
+  by d = cond (ltb d 10) (Some (with_digit r d)) (cond (eqb b 120) (crossed r) None)
 
-module _ (r : Reading) (b : ℕ) {d : ℕ} (e : d ≡ digit_of b) where
-  so : {s : Reading} → s ≡ by r b d → s ≡ step_of r b
+  of_digit : (d : ℕ) → digit_of b ≡ d → d < 10 → Some (with_digit r d) ≡ step_of r b
+  unfolding step_of by
+  of_digit d e l = subst (λ (n : ℕ). Some (with_digit r d) ≡ by n) (sym e) (rw (lt-ltb d 10 l))
+
+  other : ltb (digit_of b) 10 ≡ false → step_of r b ≡ cond (eqb b 120) (crossed r) None
   unfolding step_of
-  so h = h ∙ ap (by r b) e
+  other e = rw e
 
-  digit : {v : ℕ} → v ≡ grow r.value d → d < 10 → record { width = r.width; value = v; crosses = r.crosses } ≡ step_of r b
-  digit g l = ap (λ (v : ℕ). record { width = r.width; value = v; crosses = r.crosses }) g ∙ so (simp (lt-ltb d 10 l))
+pub returns-in-48-to-57 : goal.returns-in-48-to-57
+returns-in-48-to-57 c = (ap Some c.with_digit.ensures.0 ∙ of_digit _ c.args.b _ (figure c.args.b (omega arith) (omega arith)) (omega arith), c.with_digit.ensures.1)
 
-  module _ (l : 10 ≤ d) where
-    first : b ≡ 120 → r.crosses ≡ 0 → crossed r ≡ step_of r b
-    first x n = so (simp (le-ltb d 10 l, eq-eqb b 120 x, eq-eqb r.crosses 0 n))
+pub returns-in-120 : goal.returns-in-120
+returns-in-120 c =
+    (c.crossed.ensures.0 ∙ sym (other _ c.args.b (no_figure c.args.b (λ x y. omega (arith, c.in-120.is))) ∙ rw (eq-eqb c.args.b 120 c.in-120.is)), c.crossed.ensures.1)
 
-    second : b ≡ 120 → (r.crosses ≡ 0 → ⊥) → broken ≡ step_of r b
-    second x n = so (simp (le-ltb d 10 l, eq-eqb b 120 x, ne_eqb r.crosses 0 n))
+pub returns-in_default : goal.returns-in_default
+returns-in_default c = (sym (other _ c.args.b (no_figure c.args.b (λ x y. omega arith)) ∙ rw (ne_eqb c.args.b 120 (λ e. omega arith))), tt)
 
-    other : (b ≡ 120 → ⊥) → broken ≡ step_of r b
-    other x = so (simp (le-ltb d 10 l, ne_eqb b 120 x))
-
-pub returns-then-d-lt10 : goal.returns-then-d-lt10
-returns-then-d-lt10 c = (digit _ _ c.digit-d.ensures c.grown-value.ensures.0 c.if-d-lt10.true, c.grown-value.ensures.1)
-
-pub returns-then-r-eq0 : goal.returns-then-r-eq0
-returns-then-r-eq0 c = (first _ _ c.digit-d.ensures c.if-d-lt10.false c.if-b-eq120.true c.if-r-eq0.true, omega arith)
-
-pub returns-else-r-eq0 : goal.returns-else-r-eq0
-returns-else-r-eq0 c = (second _ _ c.digit-d.ensures c.if-d-lt10.false c.if-b-eq120.true c.if-r-eq0.false, omega arith)
-
-pub returns-else-b-eq120 : goal.returns-else-b-eq120
-returns-else-b-eq120 c = (other _ _ c.digit-d.ensures c.if-d-lt10.false c.if-b-eq120.false, omega arith)
+pub returns-in_default-2 : goal.returns-in_default-2
+returns-in_default-2 c = (sym (other _ c.args.b (no_figure c.args.b (λ x y. omega arith)) ∙ rw (ne_eqb c.args.b 120 (λ e. omega arith))), tt)

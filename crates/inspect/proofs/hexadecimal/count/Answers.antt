@@ -4,7 +4,7 @@ use mathlib.Core.List.{[], ◌∷◌}
 use mathlib.Core.Path.{refl, ap, sym, ◌∙◌}
 use lib.ListN.{length-append}
 use Rattle.inspect.specs.Private.{count_of}
-use Rattle.inspect.specs.declared.hexadecimal.Counted.TheVariants.{Bytes}
+use Rattle.std.specs.Prelude.{Some}
 use Rattle.inspect.proofs.Tokens.{read_none, read-space, read_pair, read-other, read_all}
 use Rattle.inspect.proofs.hexadecimal.count.Goals as goal
 
@@ -15,7 +15,7 @@ pub loop-at-preserved-in-Space : goal.loop-at-preserved-in-Space
 loop-at-preserved-in-Space c = let i = c.loop-at.invariant in
     record {
       done = i.done;
-      read = read-space i.read c.loop-at-test.true (sym c.in-Space.is ∙ c.token_at.ensures);
+      read = read-space i.read c.loop-at-test.true (ap Some (sym c.in-Space.is) ∙ sym c.in_ok-token_at.was ∙ c.token_at.ensures);
       many = i.many;
       less = omega (arith, i.less);
     }
@@ -27,14 +27,14 @@ pub loop-at-preserved : goal.loop-at-preserved
 loop-at-preserved c = let i = c.loop-at.invariant in
     record {
       done = _;
-      read = read_pair i.read c.loop-at-test.true _ (sym c.in-Pair.is ∙ c.token_at.ensures);
+      read = read_pair i.read c.loop-at-test.true _ (ap Some (sym c.in-Pair.is) ∙ sym c.in_ok-token_at.was ∙ c.token_at.ensures);
       many = omega (arith, i.many, length-append i.done (c.in-Pair.field-0 ∷ []));
       less = omega (arith, i.less);
     }
 
-pub returns-in-Other : goal.returns-in-Other
-returns-in-Other c = sym (ap count_of (read-other c.loop-at.invariant.read c.loop-at-test.true (sym c.in-Other.is ∙ c.token_at.ensures)))
-
 pub returns : goal.returns
 returns c = let i = c.loop-at.invariant in
-    sym (ap count_of (read_all i.read c.loop-at-test.false) ∙ ap Bytes i.many)
+    sym (ap count_of (read_all i.read c.loop-at-test.false) ∙ ap Some i.many)
+
+pub returns-in_err-token_at : goal.returns-in_err-token_at
+returns-in_err-token_at c = c.from_residual.ensures ∙ sym (ap count_of (read-other c.loop-at.invariant.read c.loop-at-test.true (sym c.in_err-token_at.was ∙ c.token_at.ensures)))

@@ -15,6 +15,6 @@ pub returns-then-bit-w-3 : goal.returns-then-bit-w-3
 unfolding setting_in
 returns-then-bit-w-3 c = simp (le-ltb _ _ c.if-bit-w.false, le-ltb _ _ c.if-bit-w-2.false, lt-ltb _ _ c.if-bit-w-3.true)
 
-pub returns : goal.returns
+pub returns-else-bit-w-3 : goal.returns-else-bit-w-3
 unfolding setting_in
-returns c = simp (le-ltb _ _ c.if-bit-w.false, le-ltb _ _ c.if-bit-w-2.false, le-ltb _ _ c.if-bit-w-3.false)
+returns-else-bit-w-3 c = simp (le-ltb _ _ c.if-bit-w.false, le-ltb _ _ c.if-bit-w-2.false, le-ltb _ _ c.if-bit-w-3.false)

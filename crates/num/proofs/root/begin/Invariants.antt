@@ -1,5 +1,5 @@
 -- `num::root::begin` meets its contract: each turn has one value more. Assumes nothing.
-use Prim.Native.Nat.{ℕ, ◌-◌}
+use Prim.Native.Nat.{ℕ}
 use mathlib.Core.List.{List}
 use lib.ListN.{length, get_or}
 use lib.Ieee.{Float, nan}
@@ -12,6 +12,3 @@ Ready xs k m power = Readied (get_or xs k nan) m power
 
 abbrev pub invariant-loop-i : goal.invariant-loop-i
 invariant-loop-i l = Paired (length l.xs) l.i (Ready l.xs) (λ _ _ _. Unit {0}) l.rest l.power
-
-abbrev pub decreases-loop-i : goal.decreases-loop-i
-decreases-loop-i l = length l.xs - l.i

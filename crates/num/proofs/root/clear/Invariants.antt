@@ -1,11 +1,6 @@
 -- `num::root::clear` meets its contract. Assumes nothing.
-use Prim.Native.Nat.{◌-◌}
-use lib.ListN.{length}
 use Rattle.num.specs.Laws.Rewrite.{Rewritten}
 use Rattle.num.proofs.root.clear.Given as goal
 
 abbrev pub invariant-loop-i : goal.invariant-loop-i
 invariant-loop-i l = Rewritten l.i (λ k x. 0) l.initial.line l.line
-
-abbrev pub decreases-loop-i : goal.decreases-loop-i
-decreases-loop-i l = length l.initial.line - l.i

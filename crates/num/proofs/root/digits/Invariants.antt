@@ -1,6 +1,6 @@
 -- `num::root::digits` meets its contract: each turn has two digits of one root more. Assumes nothing.
 use mathlib.Core.Path.{◌≡◌}
-use Prim.Native.Nat.{ℕ, ◌-◌, ◌*◌}
+use Prim.Native.Nat.{ℕ, ◌*◌}
 use mathlib.Core.List.{List}
 use lib.ListN.{length, get_or}
 use Rattle.num.specs.Private.{Further}
@@ -16,6 +16,3 @@ Still rest twice k r t = (r ≡ get_or rest k 0) × (t ≡ get_or twice k 0)
 
 abbrev pub invariant-loop-i : goal.invariant-loop-i
 invariant-loop-i l = Paired (length l.initial.rest) l.i (Done l.place l.initial.rest l.initial.twice) (Still l.initial.rest l.initial.twice) l.rest l.twice
-
-abbrev pub decreases-loop-i : goal.decreases-loop-i
-decreases-loop-i l = length l.initial.rest - l.i

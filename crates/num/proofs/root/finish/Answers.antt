@@ -6,7 +6,7 @@ use native.Mathlib.Omega.{arith}
 use mathlib.Core.List.{List}
 use lib.ListN.{get_or}
 use lib.Ieee.{Float, nan}
-use Rattle.num.specs.Laws.Rewrite.{Rewritten, none, more, all, get_d_rewrite-rest}
+use Rattle.num.specs.Laws.Rewrite.{Rewritten, none, more, get_d_rewrite-rest}
 use Rattle.num.specs.Private.{Answers}
 use Rattle.num.proofs.root.finish.Goals as goal
 
@@ -22,10 +22,7 @@ put-requires c = let v = c.loop-i in
     subst
     (λ (x : Float). Answers x (get_or c.args.twice.now v.i 0 / 2) (get_or c.args.power.now v.i 0))
     (sym (still v.invariant))
-    (c.requires.2 v.i (omega (arith, v.invariant.kept, c.loop-i-test.true)))
+    (c.requires.2 v.i c.loop-i-test.true)
 
 pub loop-i-preserved : goal.loop-i-preserved
-loop-i-preserved c = more c.loop-i.invariant nan c.loop-i-test.true c.put.ensures
-
-pub returns : goal.returns
-returns c = all c.loop-i.invariant c.loop-i-test.false
+loop-i-preserved c = more c.loop-i.invariant nan (omega (arith, c.loop-i.invariant.kept, c.loop-i-test.true)) c.put.ensures

@@ -1,12 +1,7 @@
 -- `num::root::finish` meets its contract: each turn has put one root more together. Assumes nothing.
-use Prim.Native.Nat.{◌-◌}
-use lib.ListN.{length}
 use Rattle.num.specs.Laws.Rewrite.{Rewritten}
 use Rattle.num.specs.Root.{root_of}
 use Rattle.num.proofs.root.finish.Given as goal
 
 abbrev pub invariant-loop-i : goal.invariant-loop-i
 invariant-loop-i l = Rewritten l.i (λ k. root_of) l.initial.xs l.xs
-
-abbrev pub decreases-loop-i : goal.decreases-loop-i
-decreases-loop-i l = length l.initial.xs - l.i

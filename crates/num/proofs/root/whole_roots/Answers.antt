@@ -1,14 +1,14 @@
 -- `num::root::whole_roots` meets its contract: each turn has two digits of every root more, and after the last the place is 1. Assumes nothing.
 use mathlib.Core.Path.{◌≡◌, refl, sym, ap, ◌∙◌, subst}
-use Prim.Native.Nat.{ℕ, zero, suc, ◌-◌, ◌*◌, ◌/◌, ◌^◌, ◌≤◌, ◌<◌}
+use Rattle.num.specs.Rewrite.{fill}
+use Rattle.num.specs.Laws.Rewrite.{get_d_fill, length-rewrite}
+use Prim.Native.Nat.{ℕ, zero, suc, ◌+◌, ◌-◌, ◌*◌, ◌/◌, ◌^◌, ◌≤◌, ◌<◌}
 use native.Mathlib.Numerals.{sub-one}
 use native.Mathlib.Nat.{pow-succ'}
 use native.Mathlib.Omega.{arith}
 use mathlib.Core.List.{List}
 use lib.Arith.{le-zero}
 use lib.ListN.{length, get_or}
-use Rattle.num.specs.Rewrite.{fill}
-use Rattle.num.specs.Laws.Rewrite.{get_d_fill, length-rewrite}
 use Rattle.num.specs.Private.{Digits, AllDigits, MoreDigits, Wholes, WholeRoots}
 use Rattle.num.proofs.FoundDigits.{last}
 use Rattle.num.proofs.root.whole_roots.Invariants.{Found}
@@ -57,22 +57,18 @@ ends ms rest twice place left z e f =
     let one : place ≡ 1 = e ∙ ap (λ (k : ℕ). 4 ^ k) (le-zero z) in
     (f.second, λ k l. last (subst (Digits (get_or ms k 0 * 2 ^ 25) (get_or rest k 0) (get_or twice k 0)) one (f.digits k l)))
 
-pub loop-left-init : goal.loop-left-init
-loop-left-init c = (refl, subst (Found c.args.rest.now (2 ^ 26) c.args.rest.now) (sym c.clear.ensures) (starts c.args.rest.now c.args.twice.now c.requires))
+pub loop-pass-init : goal.loop-pass-init
+loop-pass-init c = (refl, subst (Found c.args.rest.now (2 ^ 26) c.args.rest.now) (sym c.clear.ensures) (starts c.args.rest.now c.args.twice.now c.requires))
 
 pub digits-requires : goal.digits-requires
-digits-requires c = let v = c.loop-left in
-    asks v.left c.loop-left-test.true v.invariant.0 v.invariant.1
+digits-requires c = let v = c.loop-pass in asks (13 - v._pass) (omega arith) v.invariant.0 v.invariant.1
 
-pub loop-left-preserved : goal.loop-left-preserved
-loop-left-preserved c = let v = c.loop-left in
-    (below v.left c.loop-left-test.true v.invariant.0 v.invariant.1, goes_on v.left c.loop-left-test.true v.invariant.0 v.invariant.1 _ _ c.digits.ensures)
-
-pub shape_of-rest : goal.shape_of-rest
-shape_of-rest c = c.loop-left.invariant.1.first
-
-pub shape_of-twice : goal.shape_of-twice
-shape_of-twice c = c.loop-left.invariant.1.second ∙ sym c.requires.0
+pub loop-pass-preserved : goal.loop-pass-preserved
+loop-pass-preserved c = let v = c.loop-pass in
+    let next : 13 - v._pass - 1 ≡ 13 - (v._pass + 1) = omega arith in (
+      below (13 - v._pass) (omega arith) v.invariant.0 v.invariant.1 ∙ ap (λ (k : ℕ). 4 ^ k) next,
+      goes_on (13 - v._pass) (omega arith) v.invariant.0 v.invariant.1 _ _ c.digits.ensures,
+    )
 
 pub returns : goal.returns
-returns c = let v = c.loop-left in ends _ _ _ v.place v.left c.loop-left-test.false v.invariant.0 v.invariant.1
+returns c = let v = c.loop-pass in ends _ _ _ v.place (13 - v._pass) (omega arith) v.invariant.0 v.invariant.1

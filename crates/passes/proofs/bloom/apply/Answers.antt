@@ -4,7 +4,7 @@ use lib.Ieee.{Float}
 use Rattle.num.specs.F32.{whole}
 use Rattle.passes.specs as Text
 use Rattle.passes.specs.Rows.{placed}
-use Rattle.passes.specs.Laws.Rows.{frame_small, placed_ext}
+use Rattle.passes.specs.Laws.Rows.{placed_ext}
 use Rattle.passes.specs.Plain.Blur.{weight_sum, down}
 use Rattle.passes.specs.Plain.Bloom.{composite, vertical, sample, horizontal}
 use Rattle.passes.proofs.Offsets.{front, weight-at, blur_by_lem, blur_same}
@@ -22,7 +22,7 @@ three-wide : (n h w : ℕ) → n ≡ h * w → 3 * n ≡ h * (3 * w)
 three-wide n h w e = ap (λ (m : ℕ). 3 * m) e ∙ sym (mul_assoc 3 h w) ∙ ap (λ (m : ℕ). m * w) (mul_comm 3 h) ∙ mul_assoc h 3 w
 
 -- once the lines are made: what is lent of them and of the scratch
-module _ (c : lts.After-line3 tie.the-claims reads.Pre reads.Post tie.handed_clauses) where
+module _ (c : lts.After-line2 tie.the-claims reads.Pre reads.Post tie.handed_clauses) where
   abbrev start : lts.Start tie.the-claims reads.Pre reads.Post tie.handed_clauses
   start = c.before.before.before.before.before
 
@@ -38,12 +38,12 @@ module _ (c : lts.After-line3 tie.the-claims reads.Pre reads.Post tie.handed_cla
   abbrev row_long : (line : List Float) → length line ≡ 1024 → length (take start.args.width line) ≡ start.args.width
   row_long line e = front line 1024 start.args.width e start.requires.fact_1.wide
 
-  sums_long : length (take (3 * start.args.width) c.line3-sums.result) ≡ 3 * start.args.width
-  sums_long = front c.line3-sums.result 3072 (3 * start.args.width) c.line3-sums.ensures (omega (arith, start.requires.fact_1.wide))
+  sums_long : length (take (3 * start.args.width) c.line-sums.result) ≡ 3 * start.args.width
+  sums_long = front c.line-sums.result 3072 (3 * start.args.width) c.line-sums.ensures (omega (arith, start.requires.fact_1.wide))
 
 -- once the planes are written
 module _ (c : lts.After-horizontal tie.the-claims reads.Pre reads.Post tie.handed_clauses) where
-  abbrev lines : lts.After-line3 tie.the-claims reads.Pre reads.Post tie.handed_clauses
+  abbrev lines : lts.After-line2 tie.the-claims reads.Pre reads.Post tie.handed_clauses
   lines = c.before.before.before.before.before
 
   written : length c.horizontal-across.new.planes ≡ words lines
@@ -88,19 +88,6 @@ module _ (c : lts.After-slice_known5 tie.the-claims reads.Pre reads.Post tie.han
         rows_few s.args.height s.args.width s.args.radius s.requires.fact_1.high s.requires.fact_1.wide s.requires.fact_2.0 crossed.horizontal-across.ensures.1,
         rows_few s.args.width s.args.height s.args.radius s.requires.fact_1.wide s.requires.fact_1.high s.requires.fact_2.0 downed.composite_rows-down.ensures.1,
       )
-
-pub horizontal-across-requires : goal.horizontal-across-requires
-horizontal-across-requires c = let p = c.requires in
-    record {
-      fact_1 = (p.fact_2.0, planes_long c.before.before.before.before.before ∙ planes_sized c.before.before.before.before.before, row_long c.before.before.before.before.before _ c.line-line.ensures, row_long c.before.before.before.before.before _ c.weight_line-w.ensures.long);
-      fact_2 = p.fact_1;
-    }
-
-pub composite_rows-down-requires : goal.composite_rows-down-requires
-composite_rows-down-requires c = record { fact_1 = (c.requires.fact_2.0, ap length (shared c.before.before.before.before.before.before) ∙ written c.before.before.before.before.before.before ∙ planes_sized c.before.before.before.before.before.before.before.before.before.before.before, sums_long c.before.before.before.before.before.before.before.before.before.before.before); fact_2 = c.requires.fact_1 }
-
-pub collect-clipped-requires : goal.collect-clipped-requires
-collect-clipped-requires c = omega (arith, c.composite_rows-down.auto.frame, frame_small c.requires.fact_1)
 
 pub overflow_add-result : goal.overflow_add-result
 overflow_add-result c = omega (arith, few c.before)

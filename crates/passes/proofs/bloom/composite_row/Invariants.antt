@@ -1,5 +1,5 @@
 -- `passes::bloom::composite_row` meets its contract. Assumes nothing.
-use Rattle.std.proofs.Common.{◌+◌, ◌-◌, ◌*◌, length}
+use Rattle.std.proofs.Common.{◌+◌, ◌*◌, length}
 use Rattle.passes.specs.Plain.Pixel.{rgb}
 use Rattle.num.specs.Laws.Rewrite.{Rewritten}
 use Rattle.passes.specs.Plain.Blur.{quotient}
@@ -9,6 +9,3 @@ use Rattle.passes.proofs.bloom.composite_row.Given as goal
 
 abbrev pub invariant-loop-x : goal.invariant-loop-x
 invariant-loop-x l = Rewritten l.x (λ k p. mark_clamped (composite l.strength (rgb (quotient (at l.sums k) l.w) (quotient (at l.sums (length l.initial.row + k)) l.w) (quotient (at l.sums (2 * length l.initial.row + k)) l.w)) p)) l.initial.row l.row
-
-abbrev pub decreases-loop-x : goal.decreases-loop-x
-decreases-loop-x l = length l.initial.row - l.x

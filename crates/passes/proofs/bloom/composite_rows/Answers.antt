@@ -1,5 +1,5 @@
 -- `passes::bloom::composite_rows` meets its contract: row by row, with the sums of each row over the columns. Assumes nothing.
-use Rattle.std.proofs.Common.{◌≡◌, ℕ, ◌+◌, ◌-◌, ◌*◌, ◌<◌, ◌≤◌, List, length, take, drop, sym, ap, ◌∙◌, one-mul, zero-mul, arith}
+use Rattle.std.proofs.Common.{◌≡◌, ℕ, ◌+◌, ◌-◌, ◌*◌, ◌<◌, List, length, take, drop, sym, ap, ◌∙◌, one-mul, zero-mul, arith}
 use lib.Ieee.{Float, nan}
 use Rattle.passes.specs.Plain.Pixel.{rgb}
 use Rattle.num.specs.Rewrite.{fill}
@@ -7,15 +7,11 @@ use Rattle.num.specs.Laws.Rewrite.{get_d_fill}
 use Rattle.passes.specs.Plain.Blur.{weighted, weight_sum, quotient, down}
 use Rattle.passes.specs.Plain.Bloom.{composite}
 use Rattle.num.specs.Laws.Sums.{sum-zero}
-use Rattle.passes.specs.Samples.{samples as samples_of}
 use Rattle.passes.specs.Private.{at, cell, mark_clamped}
 use Rattle.passes.proofs.Counted.{above_on, above-few, above_all, rows_few}
-use Rattle.passes.proofs.RowLoops.{no_rows, row_in, row_length, row_by, rows_all}
+use Rattle.passes.proofs.RowLoops.{begin_rows, row_length, next_row_by, rows_all}
 use Rattle.passes.proofs.Planes.{same_composite}
 use Rattle.passes.proofs.bloom.composite_rows.Goals as goal
-use Rattle.passes.proofs.bloom.composite_rows.Lts as lts
-use Rattle.passes.proofs.bloom.composite_rows.Reads as reads
-use Rattle.passes.proofs.bloom.composite_rows.Tie as tie
 
 -- a place of the sums, divided by the row's sum of weights, is a sample blurred along its column
 sum-down : (planes before sums : List Float) (w h radius y i j : ℕ) (q : Float) → length before ≡ 3 * w
@@ -28,29 +24,8 @@ sum-down planes before sums w h radius y i j q e f g d l =
     ∙ ap (λ (n : ℕ). quotient (weighted (λ k. cell planes n j k) h radius y) q) e
     ∙ ap (quotient (weighted (λ k. cell planes (3 * w) j k) h radius y)) g
 
-module _ (c : lts.In-loop tie.the-claims reads.Pre reads.Post goal.the-invariant-loop-y goal.the-decreases-loop-y tie.handed_clauses) where
-  abbrev start : lts.Start tie.the-claims reads.Pre reads.Post goal.the-invariant-loop-y goal.the-decreases-loop-y tie.handed_clauses
-  start = c.before.before.before.before.before
-
-  abbrev frame_in_lem : c.loop-y.at + start.args.width ≤ length start.args.frame.now
-  frame_in_lem = row_in c.loop-y.invariant.2 c.loop-y-test.true
-
--- the rows' count is that of a column
-all-taken : (c : lts.After-loop tie.the-claims reads.Pre reads.Post goal.the-invariant-loop-y goal.the-decreases-loop-y tie.handed_clauses) → let a = c.args in c.loop-y.taken ≡ samples_of a.height a.radius
-all-taken c =
-    let l = c.loop-y in
-    let a = c.args in
-    above_all a.height a.radius l.y (omega (arith, l.invariant.2.rows, c.loop-y-test.false)) l.invariant.1
-
 pub loop-y-init : goal.loop-y-init
-loop-y-init c = let p = c.requires in (p.fact_1.2, sym (sum-zero _), no_rows _ p.fact_2.area)
-
-pub overflow_add-end : goal.overflow_add-end
-overflow_add-end c = omega (arith, frame_in_lem c.before)
-
-pub accumulate_rows-taken-requires : goal.accumulate_rows-taken-requires
-accumulate_rows-taken-requires c = let p = c.requires in
-    (p.fact_1.0, c.loop-y-test.true, p.fact_2.high, p.fact_1.1 ∙ ap (λ (m : ℕ). c.args.height * m) (sym c.loop-y.invariant.0))
+loop-y-init c = let p = c.requires in (p.fact_1.2, sym (sum-zero _), begin_rows _ p.fact_2.area)
 
 pub overflow_add-taken : goal.overflow_add-taken
 overflow_add-taken c = let o = c.loop-y in
@@ -60,21 +35,12 @@ overflow_add-taken c = let o = c.loop-y in
     (above_on a.height a.radius o.y o.invariant.1 c.accumulate_rows-taken.ensures.1) in
     omega (arith, few)
 
-pub offset_bounds-frame-at : goal.offset_bounds-frame-at
-offset_bounds-frame-at c = omega (arith, frame_in_lem c.before.before.before.before.before.before)
-
-pub slice_bounds-composite_row-end : goal.slice_bounds-composite_row-end
-slice_bounds-composite_row-end c = omega (arith, frame_in_lem c.before.before.before.before.before.before)
-
-pub composite_row-requires : goal.composite_row-requires
-composite_row-requires c = c.accumulate_rows-taken.auto.acc ∙ c.loop-y.invariant.0 ∙ ap (λ (m : ℕ). 3 * m) (sym (row_length c.loop-y.invariant.2 c.loop-y-test.true))
-
 pub loop-y-preserved : goal.loop-y-preserved
 loop-y-preserved c = let o = c.loop-y in
     let a = c.args in
     let w = a.width in
     let t = c.loop-y-test.true in
-    let part = take (o.at + w - o.at) (drop o.at o.frame) in
+    let part = take (o.y * w + w - o.y * w) (drop (o.y * w) o.frame) in
     let sums = c.accumulate_rows-taken.new.acc in
     let g = c.weight_sum-w.result in
     let n : length part ≡ w = row_length o.invariant.2 t in
@@ -82,7 +48,7 @@ loop-y-preserved c = let o = c.loop-y in
     = λ i j d l. sum-down a.planes.now o.sums sums w a.height a.radius o.y i j g o.invariant.0 c.accumulate_rows-taken.ensures.0 c.weight_sum-w.ensures d l in (
       c.accumulate_rows-taken.auto.acc ∙ o.invariant.0,
       above_on a.height a.radius o.y o.invariant.1 c.accumulate_rows-taken.ensures.1,
-      row_by o.invariant.2 (λ x p. mark_clamped (composite a.strength (rgb (quotient (at sums x) g) (quotient (at sums (length part + x)) g) (quotient (at sums (2 * length part + x)) g)) p)) _ t
+      next_row_by o.invariant.2 (λ x p. mark_clamped (composite a.strength (rgb (quotient (at sums x) g) (quotient (at sums (length part + x)) g) (quotient (at sums (2 * length part + x)) g)) p)) _ t
           (λ x p l. ap mark_clamped (same_composite a.strength p
           (down-at x (0 * w + x) (omega (arith, zero-mul w)) (omega (arith, zero-mul w)))
           (down-at (length part + x) (1 * w + x) (omega (arith, one-mul w)) (omega (arith, one-mul w)))
@@ -92,13 +58,10 @@ loop-y-preserved c = let o = c.loop-y in
 
 pub overflow_mul-result : goal.overflow_mul-result
 overflow_mul-result c = let few = rows_few c.args.width c.args.height c.args.radius c.requires.fact_2.wide c.requires.fact_2.high c.requires.fact_1.0
-    (ap (λ (m : ℕ). c.args.width * m) (all-taken c.before)) in
+    (ap (λ (m : ℕ). c.args.width * m) (above_all c.args.height c.args.radius c.loop-y.y (omega arith) c.loop-y.invariant.1)) in
     omega (arith, few)
-
-pub shape_of-frame : goal.shape_of-frame
-shape_of-frame c = c.loop-y.invariant.2.so_far.kept
 
 pub returns : goal.returns
 returns c = let l = c.loop-y in
     let a = c.args in
-    (rows_all l.invariant.2 c.loop-y-test.false, ap (λ (m : ℕ). a.width * m) (all-taken c.before))
+    (rows_all l.invariant.2 c.loop-y-test.false, ap (λ (m : ℕ). a.width * m) (above_all c.args.height c.args.radius c.loop-y.y (omega arith) c.loop-y.invariant.1))

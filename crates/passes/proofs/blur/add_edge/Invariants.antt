@@ -1,5 +1,5 @@
 -- `passes::blur::add_edge` meets its contract. Assumes nothing.
-use Rattle.std.proofs.Common.{◌≡◌, ◌+◌, ◌-◌, length}
+use Rattle.std.proofs.Common.{◌≡◌, ◌+◌, length}
 use Rattle.num.specs.F32.{◌⊗◌}
 use Rattle.num.specs.Laws.Rewrite.{Rewritten}
 use Rattle.num.specs.Sums.{sum}
@@ -9,6 +9,3 @@ use Rattle.passes.proofs.blur.add_edge.Given as goal
 abbrev pub invariant-loop-i : goal.invariant-loop-i
 invariant-loop-i l = Rewritten l.i (λ i. onward (λ j v. at l.src j ⊗ v) (length l.src) l.radius (l.start + i) l.k 4) l.initial.part l.part
     × (l.samples ≡ sum l.i (λ i. insides (length l.src) l.radius l.k 4 (l.start + i)))
-
-abbrev pub decreases-loop-i : goal.decreases-loop-i
-decreases-loop-i l = length l.initial.part - l.i

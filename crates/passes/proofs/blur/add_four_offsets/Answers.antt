@@ -50,22 +50,14 @@ module _ (acc src : List Float) (radius k more less : ℕ) (e : length acc ≡ l
           ∙ right_none (length src) radius k (length src - less) (ap (λ (x : ℕ). length src - x) el) (omega arith),
     )
 
-pub add_edge-requires : goal.add_edge-requires
-add_edge-requires c = let a = c.args in (
-  c.requires.1,
-  c.requires.2,
-  fits a.acc.now a.src.now a.radius a.k c.monus.result c.monus-2.result c.requires.0 c.requires.3 c.monus.ensures c.monus-2.ensures c.add_to_edge-before.new.acc c.add_to_edge-before.ensures.0,
-  c.four_weights-w.ensures,
-)
-
 -- no place counts more than four
 pub overflow_add-result : goal.overflow_add-result
 overflow_add-result c = let a = c.args in
-    omega (arith, line-few (length a.src.now) a.radius a.k (length a.src.now) (omega arith) ((let a = c.args in let most = c.add_to_edge-before in let edge = c.add_edge in done a.acc.now a.src.now a.radius a.k c.monus.result c.monus-2.result c.requires.0 c.requires.3 c.monus.ensures c.monus-2.ensures most.new.acc most.ensures.0 edge.new.part edge.ensures.0 most.ensures.1 edge.ensures.1)).1)
+    omega (arith, line-few (length a.src.now) a.radius a.k (length a.src.now) (omega arith) ((let a = c.args in let most = c.add_to_edge-before in let edge = c.add_edge in done a.acc.now a.src.now a.radius a.k c.saturating_sub.result c.saturating_sub-2.result c.requires.0 c.requires.3 c.saturating_sub.ensures c.saturating_sub-2.ensures most.new.acc most.ensures.0 edge.new.part edge.ensures.0 most.ensures.1 edge.ensures.1)).1)
 
 pub returns : goal.returns
 returns c = let a = c.args in
     let most = c.add_to_edge-before in
     let edge = c.add_edge in
-    done a.acc.now a.src.now a.radius a.k c.monus.result c.monus-2.result c.requires.0 c.requires.3 c.monus.ensures c.monus-2.ensures
+    done a.acc.now a.src.now a.radius a.k c.saturating_sub.result c.saturating_sub-2.result c.requires.0 c.requires.3 c.saturating_sub.ensures c.saturating_sub-2.ensures
     most.new.acc most.ensures.0 edge.new.part edge.ensures.0 most.ensures.1 edge.ensures.1

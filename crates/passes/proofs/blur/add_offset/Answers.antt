@@ -5,8 +5,8 @@ use Rattle.passes.proofs.Offsets.{offset-some, offset_none}
 use Rattle.passes.proofs.blur.add_offset.Goals as goal
 
 pub returns-then-d-n : goal.returns-then-d-n
-returns-then-d-n c = let to = c.monus-to in
-    let from = c.monus-from in
+returns-then-d-n c = let to = c.saturating_sub-to in
+    let from = c.saturating_sub-from in
     let n = length c.args.src.now in
     let w = c.weight-w in
     let count = n - (to.result + from.result) in (

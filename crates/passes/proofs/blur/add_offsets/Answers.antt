@@ -4,9 +4,6 @@ use Rattle.passes.proofs.Counted.{line-one}
 use Rattle.passes.proofs.Offsets.{offset-onward}
 use Rattle.passes.proofs.blur.add_offsets.Goals as goal
 
-pub returns-then-outside-src : goal.returns-then-outside-src
-returns-then-outside-src c = let four = c.add_four_offsets-samples.ensures in (omega arith, omega arith, four.0, four.1)
-
 pub returns : goal.returns
 returns c = let a = c.args in
     let one = c.add_offset-samples.ensures in (

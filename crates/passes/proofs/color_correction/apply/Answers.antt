@@ -4,9 +4,6 @@ use Rattle.passes.specs.Plain.ColorCorrection.{colour, start}
 use Rattle.passes.proofs.Collected.{collected_unit}
 use Rattle.passes.proofs.color_correction.apply.Goals as goal
 
-pub paint-requires : goal.paint-requires
-paint-requires c = c.requires.fact_2
-
 pub returns : goal.returns
 unfolding Text.ColorCorrection.color_correction
 returns c = let a = c.args in

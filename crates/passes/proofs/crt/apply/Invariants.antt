@@ -1,11 +1,7 @@
 -- `passes::crt::apply` meets its contract: row by row. Assumes nothing.
-use Rattle.std.proofs.Common.{◌-◌}
 use Rattle.passes.specs.Plain.Crt.{word_at}
-use Rattle.passes.proofs.RowLoops.{Rowed}
+use Rattle.passes.proofs.RowLoops.{Rows}
 use Rattle.passes.proofs.crt.apply.Given as goal
 
 abbrev pub invariant-loop-y : goal.invariant-loop-y
-invariant-loop-y l = Rowed l.width l.height l.y l.at (word_at l.width l.height l.strength) l.initial.frame l.frame
-
-abbrev pub decreases-loop-y : goal.decreases-loop-y
-decreases-loop-y l = l.height - l.y
+invariant-loop-y l = Rows l.width l.height l.y (word_at l.width l.height l.strength) l.initial.frame l.frame

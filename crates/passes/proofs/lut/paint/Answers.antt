@@ -13,18 +13,6 @@ by_tables : (preset : ℕ) (strength : Float) {reds greens blues : List ℕ} (fr
     → out ≡ every (λ i. picked (λ k. get_or reds k 0) (λ k. get_or greens k 0) (λ k. get_or blues k 0)) frame → out ≡ every (λ i p. mark_unit (colour preset strength p)) frame
 by_tables preset strength frame a s t u o = o ∙ rewrite_ext (length frame) _ _ frame (λ i p l. picked-is preset strength a p s t u)
 
-pub by_greys-requires : goal.by_greys-requires
-by_greys-requires c = (c.table-reds.ensures.room, c.table-greens.ensures.room, c.table-blues.ensures.room)
-
-pub returns-in-3 : goal.returns-in-3
-returns-in-3 c = rw c.in-3.is c.by_composite.ensures
-
-pub returns-in-4 : goal.returns-in-4
-returns-in-4 c = rw c.in-4.is c.by_game_boy.ensures
-
-pub returns-in-5 : goal.returns-in-5
-returns-in-5 c = rw c.in-5.is c.by_amber.ensures
-
 pub returns-in_default : goal.returns-in_default
 returns-in_default c = let args = c.args in
     by_tables args.preset args.strength args.frame.now (alone args.preset (λ e. omega arith) (λ e. omega arith) (λ e. omega arith))

@@ -1,5 +1,5 @@
 -- `passes::lut::table` meets its contract. Assumes nothing.
-use Rattle.std.proofs.Common.{◌≡◌, ℕ, ◌*◌, ◌<◌, List, length, get_or, sym, ap, ◌∙◌, subst}
+use Rattle.std.proofs.Common.{◌≡◌, ℕ, ◌*◌, ◌<◌, List, length, get_or, replicate, refl, sym, ap, ◌∙◌, subst}
 use lib.Ieee.{Float}
 use Rattle.num.specs.Rewrite.{fill}
 use Rattle.num.specs.Laws.Rewrite.{get_d_fill, length-rewrite}
@@ -14,4 +14,4 @@ filled which preset strength xs ys l e = record {
 }
 
 pub returns : goal.returns
-returns c = filled _ _ _ c.room-words.result _ c.room-words.ensures c.greys.ensures
+returns c = filled _ _ _ (replicate 256 0) _ refl c.greys.ensures

@@ -1,5 +1,5 @@
 -- `passes::lut::transform` meets its contract: an arm for each preset. Assumes nothing.
-use Rattle.std.proofs.Common.{◌≡◌, ℕ, suc, ◌-◌, ◌≤◌, arith}
+use Rattle.std.proofs.Common.{◌≡◌, ℕ, suc, ◌-◌, ◌≤◌, arith, rules}
 use Rattle.passes.specs as Text
 use Rattle.passes.proofs.lut.transform.Goals as goal
 
@@ -32,4 +32,4 @@ returns-in-5 c = rw c.in-5.is (cc)
 
 pub returns-in_default : goal.returns-in_default
 unfolding Text.Lut.transform
-returns-in_default c = rw (from_6 c.args.preset (omega arith))
+returns-in_default c = rw (from_6 c.args.preset (omega arith)) (search rules)

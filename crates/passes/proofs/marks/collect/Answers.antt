@@ -1,5 +1,5 @@
 -- `passes::marks::collect` meets its contract: a mark is at most 255, so the sum fits. Assumes nothing.
-use Rattle.std.proofs.Common.{◌≡◌, ℕ, ◌+◌, ◌/◌, ◌%◌, ◌<◌, ◌≤◌, List, length, get_or, set, sym, refl, ap, ◌∙◌, ap₂, le_refl, arith}
+use Rattle.std.proofs.Common.{◌≡◌, ℕ, ◌+◌, ◌/◌, ◌%◌, ◌<◌, ◌≤◌, List, length, get_or, set, sym, refl, ap, ◌∙◌, ap₂, le_refl, arith, rules}
 use Rattle.num.specs.Laws.Rewrite.{none, more, all, get_d_rewrite-rest}
 use Rattle.num.specs.Sums.{sum}
 use Rattle.num.specs.Laws.Sums.{sum-zero, sum_more}
@@ -28,14 +28,11 @@ done {i} {xs} {ys} {n} t l =
     let e : i ≡ length xs = omega (arith, t.words.within, t.words.kept) in
     ap₂ painted (all t.words l) (t.marks ∙ ap (λ (k : ℕ). sum k (λ j. get_or xs j 0 / 16777216)) e)
 
-pub loop-i-init : goal.loop-i-init
-loop-i-init c = start _
+pub loop-word-init : goal.loop-word-init
+loop-word-init c = start _
 
-pub overflow_add-clipped : goal.overflow_add-clipped
-overflow_add-clipped c = omega (arith, c.slice_known-1.given c.loop-i.i)
-
-pub loop-i-preserved : goal.loop-i-preserved
-loop-i-preserved c = next c.loop-i.invariant c.loop-i-test.true (omega (arith, c.slice_known-1.given c.loop-i.i))
+pub loop-word-preserved : goal.loop-word-preserved
+loop-word-preserved c = next c.loop-word.invariant (omega arith) (search rules)
 
 pub returns : goal.returns
-returns c = done c.loop-i.invariant c.loop-i-test.false
+returns c = done c.loop-word.invariant (omega arith)

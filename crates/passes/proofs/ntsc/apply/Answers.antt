@@ -1,49 +1,17 @@
 -- `passes::ntsc::apply` meets its contract: local lines are lent up to the width, one of them with the sums of weights. Assumes nothing.
-use Rattle.std.proofs.Common.{◌≡◌, ℕ, List, length, take, sym, ap, ◌∙◌, arith}
+use Rattle.std.proofs.Common.{ℕ, take, ap, ◌∙◌, arith}
 use lib.Ieee.{Float}
 use Rattle.passes.specs as Text
 use Rattle.passes.specs.Rows.{placed}
-use Rattle.passes.specs.Laws.Rows.{frame_small, placed_ext}
+use Rattle.passes.specs.Laws.Rows.{placed_ext}
 use Rattle.passes.specs.Plain.Ntsc.{colour_at, sample}
-use Rattle.passes.proofs.Offsets.{front, weight-at, blur_by_lem}
+use Rattle.passes.proofs.Offsets.{weight-at, blur_by_lem}
 use Rattle.passes.specs.Private.{at, ntsc_by, mark_clamped}
 use Rattle.passes.specs.declared.pixel.Rgb.{Rgb}
 use Rattle.passes.proofs.Chroma.{same_pixel}
 use Rattle.passes.proofs.Collected.{collected_clamped}
 use Rattle.passes.proofs.Counted.{rows_few}
 use Rattle.passes.proofs.ntsc.apply.Goals as goal
-use Rattle.passes.proofs.ntsc.apply.Lts as lts
-use Rattle.passes.proofs.ntsc.apply.Reads as reads
-use Rattle.passes.proofs.ntsc.apply.Tie as tie
-
--- the front of each line is as long as a row
-module _ (c : lts.After-weight_line tie.the-claims reads.Pre reads.Post tie.handed_clauses) where
-  abbrev start : lts.Start tie.the-claims reads.Pre reads.Post tie.handed_clauses
-  start = c.before.before.before.before.before
-
-  abbrev row_long : (line : List Float) → length line ≡ 1024 → length (take start.args.width line) ≡ start.args.width
-  row_long line e = front line 1024 start.args.width e start.requires.fact_1.wide
-
-pub slice_bounds-rows-end : goal.slice_bounds-rows-end
-slice_bounds-rows-end c = sym (row_long c.before.before _ c.line-line.ensures)
-
-pub slice_bounds-rows-end-2 : goal.slice_bounds-rows-end-2
-slice_bounds-rows-end-2 c = sym (row_long c.before.before.before _ c.line-u.ensures)
-
-pub slice_bounds-rows-end-3 : goal.slice_bounds-rows-end-3
-slice_bounds-rows-end-3 c = sym (row_long c.before.before.before.before _ c.line-v.ensures)
-
-pub slice_bounds-rows-end-4 : goal.slice_bounds-rows-end-4
-slice_bounds-rows-end-4 c = sym (row_long c.before.before.before.before.before _ c.weight_line-w.ensures.long)
-
-pub rows-samples-requires : goal.rows-samples-requires
-rows-samples-requires c = record {
-  fact_1 = (c.requires.fact_2, row_long c.before.before.before.before.before _ c.line-line.ensures, row_long c.before.before.before.before.before _ c.line-u.ensures, row_long c.before.before.before.before.before _ c.line-v.ensures, row_long c.before.before.before.before.before _ c.weight_line-w.ensures.long);
-  fact_2 = c.requires.fact_1;
-}
-
-pub collect-clipped-requires : goal.collect-clipped-requires
-collect-clipped-requires c = omega (arith, c.rows-samples.auto.frame, frame_small c.requires.fact_1)
 
 pub overflow_cast-result : goal.overflow_cast-result
 overflow_cast-result c = let few = rows_few c.args.height c.args.width c.args.bleed c.requires.fact_1.high c.requires.fact_1.wide c.requires.fact_2 c.rows-samples.ensures.1 in

@@ -1,5 +1,5 @@
 -- `passes::persistence::add_line` meets its contract. Assumes nothing.
-use Rattle.std.proofs.Common.{◌-◌, length, get_or}
+use Rattle.std.proofs.Common.{get_or}
 use Rattle.num.specs.F32.{◌⊕◌, ◌⊗◌}
 use Rattle.num.specs.Laws.Rewrite.{Rewritten}
 use Rattle.passes.specs.Plain.Pixel.{channel, unpack}
@@ -7,6 +7,3 @@ use Rattle.passes.proofs.persistence.add_line.Given as goal
 
 abbrev pub invariant-loop-i : goal.invariant-loop-i
 invariant-loop-i l = Rewritten l.i (λ x v. v ⊕ channel l.which (unpack (get_or l.part x 0)) ⊗ l.w) l.initial.acc l.acc
-
-abbrev pub decreases-loop-i : goal.decreases-loop-i
-decreases-loop-i l = length l.initial.acc - l.i

@@ -30,13 +30,6 @@ front : (c : lts.After-follow-arg3 tie.the-claims reads.Pre reads.Post) → let 
     length (take (length a.frame.now) a.scratch.now) ≡ length a.frame.now
 front c = length-take-le _ _ (omega arith)
 
-pub slice_bounds-follow-end-then-same : goal.slice_bounds-follow-end-then-same
-slice_bounds-follow-end-then-same c = sym (front c)
-
-pub follow-clipped-requires : goal.follow-clipped-requires
-follow-clipped-requires c = let p = c.requires in
-    (p.0, p.1, front c, p.3)
-
 pub returns-then-same : goal.returns-then-same
 returns-then-same c = let a = c.args in (
   follows a.amount a.depth a.frame.now a.held a.size a.history.now c.same.ensures c.if-same.true c.follow-clipped.ensures.0 c.follow-clipped.ensures.1,

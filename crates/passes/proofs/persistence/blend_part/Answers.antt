@@ -1,19 +1,14 @@
 -- `passes::persistence::blend_part` meets its contract: three channels of the mix at each place are the mix. Assumes nothing.
-use Rattle.std.proofs.Common.{◌≡◌, ℕ, ◌≤◌, List, ◌++◌, length, take, drop, sym, ap, ◌∙◌, zero-add, arith}
+use Rattle.std.proofs.Common.{ℕ, ◌++◌, length, drop, ap, ◌∙◌}
 use lib.Ieee.{Float}
-use Rattle.num.specs.Rewrite.{fill}
-use Rattle.num.specs.Laws.Rewrite.{none, part, rewrite-at}
+use Rattle.num.specs.Laws.Rewrite.{rewrite-at}
 use Rattle.passes.specs.Private.{Begins, mark_clamped, blended_word, mixed_channel}
 use Rattle.passes.proofs.Mixes.{whole}
-use Rattle.passes.proofs.Offsets.{front, begun}
+use Rattle.passes.proofs.Offsets.{begins}
 use Rattle.passes.proofs.persistence.blend_part.Goals as goal
 use Rattle.passes.proofs.persistence.blend_part.Lts as lts
 use Rattle.passes.proofs.persistence.blend_part.Reads as reads
 use Rattle.passes.proofs.persistence.blend_part.Tie as tie
-
--- a line whose front was lent and came back filled
-begins : {f : ℕ → Float} {new : List Float} (line : List Float) (n : ℕ) → length line ≡ 64 → n ≤ 64 → new ≡ fill f (take n line) → Begins 64 n f (new ++ drop n line)
-begins line n e l h = begun e l (omega arith) (part n _ _ (none _ _) (omega arith) (λ x v l. rw zero-add) h)
 
 -- ---- the way back from one line to the one before, and to the start
 abbrev start : lts.After-mix_line tie.the-claims reads.Pre reads.Post → lts.Start tie.the-claims reads.Pre reads.Post
@@ -32,46 +27,14 @@ mixed s which = let a = s.args in mixed_channel a.w a.ws.now a.history.now a.par
 abbrev count : lts.Start tie.the-claims reads.Pre reads.Post → ℕ
 count s = length s.args.part.now
 
-reds : (c : lts.After-mix_line tie.the-claims reads.Pre reads.Post) → Begins 64 (count c.before.before.before.before.before.before) (mixed c.before.before.before.before.before.before 0) (c.mix_line.new.acc ++ drop (count c.before.before.before.before.before.before) c.short-r.result)
-reds c = begins _ _ c.short-r.ensures c.requires.0 c.mix_line.ensures
+reds : (c : lts.After-mix_line tie.the-claims reads.Pre reads.Post) → Begins 64 (count c.before.before.before.before.before.before) (mixed c.before.before.before.before.before.before 0) (c.mix_line.new.acc ++ drop (count c.before.before.before.before.before.before) c.line-r.result)
+reds c = begins _ _ c.line-r.ensures c.requires.0 c.mix_line.ensures
 
-greens : (c : lts.After-mix_line2 tie.the-claims reads.Pre reads.Post) → let s = start (first c) in Begins 64 (count s) (mixed s 1) (c.mix_line-2.new.acc ++ drop (count s) c.short-g.result)
-greens c = begins _ _ c.short-g.ensures (start (first c)).requires.0 c.mix_line-2.ensures
+greens : (c : lts.After-mix_line2 tie.the-claims reads.Pre reads.Post) → let s = start (first c) in Begins 64 (count s) (mixed s 1) (c.mix_line-2.new.acc ++ drop (count s) c.line-g.result)
+greens c = begins _ _ c.line-g.ensures (start (first c)).requires.0 c.mix_line-2.ensures
 
-blues : (c : lts.After-mix_line3 tie.the-claims reads.Pre reads.Post) → let s = start (first (second c)) in Begins 64 (count s) (mixed s 2) (c.mix_line-3.new.acc ++ drop (count s) c.short-b.result)
-blues c = begins _ _ c.short-b.ensures (start (first (second c))).requires.0 c.mix_line-3.ensures
-
-pub slice_bounds-mix_line-end : goal.slice_bounds-mix_line-end
-slice_bounds-mix_line-end c = sym (front _ _ _ c.short-r.ensures c.requires.0)
-
--- ---- the needs
-pub mix_line-requires : goal.mix_line-requires
-mix_line-requires c = let p = c.requires in (front _ _ _ c.short-r.ensures p.0, p.1, p.2)
-
-pub slice_bounds-mix_line-end-2 : goal.slice_bounds-mix_line-end-2
-slice_bounds-mix_line-end-2 c = sym (front _ _ _ c.short-g.ensures c.requires.0)
-
-pub mix_line-requires-2 : goal.mix_line-requires-2
-mix_line-requires-2 c = let p = c.requires in (front _ _ _ c.short-g.ensures p.0, p.1, p.2)
-
-pub slice_bounds-mix_line-end-3 : goal.slice_bounds-mix_line-end-3
-slice_bounds-mix_line-end-3 c = sym (front _ _ _ c.short-b.ensures c.requires.0)
-
-pub mix_line-requires-3 : goal.mix_line-requires-3
-mix_line-requires-3 c = let p = c.requires in (front _ _ _ c.short-b.ensures p.0, p.1, p.2)
-
-pub slice_bounds-finish_part-end : goal.slice_bounds-finish_part-end
-slice_bounds-finish_part-end c = sym (reds (first (second c.before.before.before.before))).long
-
-pub slice_bounds-finish_part-end-2 : goal.slice_bounds-finish_part-end-2
-slice_bounds-finish_part-end-2 c = sym (greens (second c.before.before.before.before.before)).long
-
-pub slice_bounds-finish_part-end-3 : goal.slice_bounds-finish_part-end-3
-slice_bounds-finish_part-end-3 c = sym (blues c.before.before.before.before.before.before).long
-
-pub finish_part-requires : goal.finish_part-requires
-finish_part-requires c = let l = (start (first (second c.before.before.before.before.before.before))).requires.0 in
-    (omega (arith, (reds (first (second c.before.before.before.before.before.before))).long), omega (arith, (greens (second c.before.before.before.before.before.before)).long), omega (arith, (blues c.before.before.before.before.before.before).long))
+blues : (c : lts.After-mix_line3 tie.the-claims reads.Pre reads.Post) → let s = start (first (second c)) in Begins 64 (count s) (mixed s 2) (c.mix_line-3.new.acc ++ drop (count s) c.line-b.result)
+blues c = begins _ _ c.line-b.ensures (start (first (second c))).requires.0 c.mix_line-3.ensures
 
 pub returns : goal.returns
 unfolding blended_word

@@ -1,24 +1,22 @@
 -- `passes::persistence::blend_parts` meets its contract: part by part. Assumes nothing.
-use Rattle.std.proofs.Common.{arith}
-use Rattle.num.specs.Laws.Rewrite.{none, all}
-use Rattle.num.specs.Laws.Rewrite.{further, further_long}
+use Rattle.std.proofs.Common.{◌≡◌, ℕ, ◌+◌, List, subst, arith}
+use Rattle.num.specs.Laws.Rewrite.{Rewritten, none, all, further}
 use Rattle.passes.proofs.persistence.blend_parts.Goals as goal
+
+as_many : {i j : ℕ} {f : ℕ → ℕ → ℕ} {xs ys : List ℕ} → i ≡ j → Rewritten i f xs ys → Rewritten j f xs ys
+as_many {f = f} {xs = xs} {ys = ys} e t = subst (λ (k : ℕ). Rewritten k f xs ys) e t
 
 pub loop-at-init : goal.loop-at-init
 loop-at-init c = none _ _
 
-pub part_end-end-requires : goal.part_end-end-requires
-part_end-end-requires c = c.loop-at-test.true
-
-pub blend_part-requires : goal.blend_part-requires
-blend_part-requires c = let s = further_long c.part_end-end.result c.loop-at.invariant c.part_end-end.ensures.1 in
-    (omega (arith, s), omega (arith, s), omega arith)
-
+-- the part was a whole one
 pub loop-at-preserved : goal.loop-at-preserved
-loop-at-preserved c = further c.part_end-end.result c.loop-at.invariant c.part_end-end.ensures.1 _ (omega arith) c.blend_part.ensures
+loop-at-preserved c = let l = c.loop-at in
+    let whole : l.at + c.min-count.result ≡ l.at + 64 = omega arith in
+    as_many whole (further (l.at + c.min-count.result) l.invariant (omega arith) _ (omega arith) c.blend_part.ensures)
 
-pub shape_of-frame : goal.shape_of-frame
-shape_of-frame c = c.loop-at.invariant.kept
-
-pub returns : goal.returns
-returns c = all c.loop-at.invariant (omega arith)
+-- it was the last
+pub returns-2 : goal.returns-2
+returns-2 c = let l = c.loop-at in
+    let done = further (l.at + c.min-count.result) l.invariant (omega arith) _ (omega arith) c.blend_part.ensures in
+    all done (omega (arith, done.kept))

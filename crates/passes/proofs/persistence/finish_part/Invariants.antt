@@ -1,5 +1,4 @@
 -- `passes::persistence::finish_part` meets its contract. Assumes nothing.
-use Rattle.std.proofs.Common.{◌-◌, length}
 use Rattle.num.specs.Laws.Rewrite.{Rewritten}
 use Rattle.passes.specs.Plain.Pixel.{rgb}
 use Rattle.passes.specs.Private.{at, mark_clamped}
@@ -7,6 +6,3 @@ use Rattle.passes.proofs.persistence.finish_part.Given as goal
 
 abbrev pub invariant-loop-i : goal.invariant-loop-i
 invariant-loop-i l = Rewritten l.i (λ x p. mark_clamped (rgb (at l.r x) (at l.g x) (at l.b x))) l.initial.part l.part
-
-abbrev pub decreases-loop-i : goal.decreases-loop-i
-decreases-loop-i l = length l.initial.part - l.i

@@ -1,5 +1,5 @@
 -- `passes::persistence::follow` meets its contract: the weights stand at the front of a local line. Assumes nothing.
-use Rattle.std.proofs.Common.{◌≡◌, ℕ, ◌*◌, ◌<◌, ◌≤◌, List, ◌++◌, length, get_or, take, drop, sym, refl, ap, ◌∙◌, subst, arith, length-append, length-take-le, take_at}
+use Rattle.std.proofs.Common.{◌≡◌, ℕ, ◌<◌, List, ◌++◌, length, get_or, take, drop, refl, ap, ◌∙◌, arith, length-take-le, take_at}
 use lib.Ieee.{Float, nan}
 use Rattle.num.specs.Const.{c1_0, c255_0}
 use Rattle.num.specs.F32.{◌⊘◌}
@@ -47,13 +47,6 @@ by_weights {picture} {ws} {sum} line amount k past frame l h e s =
     ∙ blended_same (c1_0 ⊘ sum) (λ j. get_or ws j nan) (weight amount sum) k past frame (λ j h. rw e (get_d_fill (weight amount sum) line j nan (omega arith)))
     ∙ ap (λ (t : Float). blended (c1_0 ⊘ t) (weight amount t) k past frame) s
 
--- the copy was made before the line
-abbrev copied : lts.After-line tie.the-claims reads.Pre reads.Post → lts.After-copy tie.the-claims reads.Pre reads.Post
-copied c = c.before.before.before.before
-
-abbrev start : lts.After-line tie.the-claims reads.Pre reads.Post → lts.Start tie.the-claims reads.Pre reads.Post
-start c = (copied c).before.before.before.before.before
-
 -- the part of the line that is lent
 part : (c : lts.After-line tie.the-claims reads.Pre reads.Post) → let k = c.args.depth in length (take k c.line-ws.result) ≡ k
 part c = length-take-le _ c.line-ws.result (omega (arith, c.line-ws.ensures, c.requires.0))
@@ -66,22 +59,6 @@ begins c = take_at c.weights.new.out _ _ (c.weights.auto.out ∙ part c.before.b
 many : (c : lts.After-weights tie.the-claims reads.Pre reads.Post) → let k = c.args.depth in
     length (take k (c.weights.new.out ++ drop k c.line-ws.result)) ≡ k
 many c = ap length (begins c) ∙ c.weights.auto.out ∙ part c.before.before
-
-pub slice_bounds-weights-end : goal.slice_bounds-weights-end
-slice_bounds-weights-end c = sym (part c.before.before)
-
-pub slice_bounds-ws-end-2 : goal.slice_bounds-ws-end-2
-slice_bounds-ws-end-2 c = simp length-append (omega (arith, c.weights.auto.out, part c.before.before.before.before.before))
-
-pub slice_bounds-blend_parts-end : goal.slice_bounds-blend_parts-end
-slice_bounds-blend_parts-end c = sym (many c.before.before.before.before)
-
-pub blend_parts-requires : goal.blend_parts-requires
-blend_parts-requires c = subst (λ (m : ℕ). m * length c.args.frame.now ≤ length c.args.history.now) (sym (many c.before.before.before.before)) c.requires.1
-
--- what is carried is the frame as it came
-pub shift-requires : goal.shift-requires
-shift-requires c = subst (λ (z : List ℕ). c.args.depth * length z ≤ length c.args.history.now) (sym c.copy.ensures) c.requires.1
 
 pub returns : goal.returns
 returns c = let a = c.args in (

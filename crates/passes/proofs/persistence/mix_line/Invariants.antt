@@ -1,12 +1,9 @@
 -- `passes::persistence::mix_line` meets its contract: at turn j each place has its channel of the mix with the j newest older frames. Assumes nothing.
-use Rattle.std.proofs.Common.{◌≡◌, ◌+◌, ◌-◌, ◌*◌, length, get_or}
+use Rattle.std.proofs.Common.{length, get_or}
 use lib.Ieee.{nan}
 use Rattle.passes.proofs.Mixes.{mixed}
 use Rattle.passes.proofs.Sums.{Summed}
 use Rattle.passes.proofs.persistence.mix_line.Given as goal
 
 abbrev pub invariant-loop-j : goal.invariant-loop-j
-invariant-loop-j l = (l.start ≡ l.j * l.n + l.at) × Summed (mixed l.w (λ k. get_or l.ws k nan) l.history l.part l.n l.at l.which) (length l.ws) l.j l.initial.acc l.acc
-
-abbrev pub decreases-loop-j : goal.decreases-loop-j
-decreases-loop-j l = length l.ws - l.j
+invariant-loop-j l = Summed (mixed l.w (λ k. get_or l.ws k nan) l.history l.part l.n l.at l.which) (length l.ws) l.j l.initial.acc l.acc

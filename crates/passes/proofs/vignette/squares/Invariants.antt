@@ -1,5 +1,4 @@
 -- `passes::vignette::squares` meets its contract. Assumes nothing.
-use Rattle.std.proofs.Common.{◌-◌, length}
 use Rattle.num.specs.F32.{◌⊕◌}
 use Rattle.num.specs.Laws.Rewrite.{Rewritten}
 use Rattle.passes.specs.Plain.Vignette.{offset_squared}
@@ -7,6 +6,3 @@ use Rattle.passes.proofs.vignette.squares.Given as goal
 
 abbrev pub invariant-loop-x : goal.invariant-loop-x
 invariant-loop-x l = Rewritten l.x (λ k _. offset_squared l.width k ⊕ l.yy) l.initial.line l.line
-
-abbrev pub decreases-loop-x : goal.decreases-loop-x
-decreases-loop-x l = length l.initial.line - l.x

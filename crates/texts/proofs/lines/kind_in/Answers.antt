@@ -1,15 +1,17 @@
--- `texts::lines::kind_in` meets its contract: by its name, or by its number. Assumes nothing.
-use mathlib.Core.Path.{ap, ◌∙◌}
-use native.Mathlib.Omega.{arith}
+-- `texts::lines::kind_in` meets its contract: a name, or else a number. Assumes nothing.
+use Prim.Native.Nat.{ℕ}
+use mathlib.Core.Path.{sym, ap, ◌∙◌}
+use Rattle.std.specs.Prelude.{Some}
 use Rattle.texts.specs.Lines.{numbered, kind_in}
-use Rattle.texts.proofs.Lining.{by_name, by_number_lem}
+use Rattle.texts.specs.Names.{kind_names, found}
+use Rattle.texts.proofs.Valuing.{named, unnamed}
 use Rattle.texts.proofs.lines.kind_in.Goals as goal
 
-pub returns-then-kind-lt11 : goal.returns-then-kind-lt11
+pub returns-in-Some : goal.returns-in-Some
 unfolding kind_in
-returns-then-kind-lt11 c = (by_name _ _ _ c.find_kind-kind.ensures.0 c.if-kind-lt11.true, omega (arith, c.if-kind-lt11.true))
+returns-in-Some c = named 11 _ (found kind_names c.args.word.now 0) (λ (k : ℕ). Some k) _ (sym c.find_kind.ensures ∙ c.in-Some.is)
 
-pub returns : goal.returns
+pub returns-in-None : goal.returns-in-None
 unfolding kind_in
-returns c = let kind = c.numbered.ensures in
-    (by_number_lem _ _ _ _ c.find_kind-kind.ensures.0 c.if-kind-lt11.false (kind.0 ∙ ap numbered c.number_of.ensures), kind.1)
+returns-in-None c =
+    c.numbered.ensures ∙ ap numbered c.number_of.ensures ∙ unnamed 11 (found kind_names c.args.word.now 0) (λ (k : ℕ). Some k) _ (sym c.find_kind.ensures ∙ c.in-None.is)

@@ -1,20 +1,25 @@
--- `texts::lines::line_of` meets its contract: each test went as the definition's. Assumes nothing.
-use Rattle.texts.proofs.Lining.{blank, unknown, many, bare, passed}
+-- `texts::lines::line_of` meets its contract: nothing, a pass, or that there is none. Assumes nothing.
+use mathlib.Core.Path.{ap, ◌∙◌}
+use Rattle.texts.specs.Lines.{kind_in}
+use Rattle.texts.proofs.Lining.{blank, unknown, passed, many, bare}
 use Rattle.texts.proofs.lines.line_of.Goals as goal
 
 pub returns-then-ended : goal.returns-then-ended
-returns-then-ended c = blank _ _ c.ended.ensures c.if-ended.true
+returns-then-ended c = blank _ c.ended.ensures c.if-ended.true
 
-pub returns-then-kind-gt10 : goal.returns-then-kind-gt10
-returns-then-kind-gt10 c = unknown _ _ c.ended.ensures c.if-ended.false _ c.kind_of-kind.ensures.0 _ c.if-kind-gt10.true c.faulty.ensures
+pub returns-in_default : goal.returns-in_default
+returns-in_default c = unknown _ c.ended.ensures c.if-ended.false (c.kind_in.ensures ∙ ap kind_in c.word.ensures) _ c.in_default.is c.faulty.ensures
+
+pub returns-then-kind-ne0 : goal.returns-then-kind-ne0
+returns-then-kind-ne0 c =
+    passed _ c.ended.ensures c.if-ended.false (c.kind_in.ensures ∙ ap kind_in c.word.ensures) _ c.in-Some.is c.if-kind-ne0.true c.pass_line.ensures
 
 pub returns-then-not-ended : goal.returns-then-not-ended
-returns-then-not-ended c = many _ _ c.ended.ensures c.if-ended.false _ c.kind_of-kind.ensures.0 c.if-kind-gt10.false _ _
-    c.ended-then-kind-eq0.ensures c.if-kind-eq0.true c.if-not-ended.true-raw c.faulty-then-not-ended.ensures
-
-pub returns-then-kind-eq0 : goal.returns-then-kind-eq0
-returns-then-kind-eq0 c = bare _ _ c.ended.ensures c.if-ended.false _ c.kind_of-kind.ensures.0 c.if-kind-gt10.false _
-    c.ended-then-kind-eq0.ensures c.if-kind-eq0.true c.if-not-ended.false-raw
+returns-then-not-ended c =
+    many _ c.ended.ensures c.if-ended.false (c.kind_in.ensures ∙ ap kind_in c.word.ensures) _ c.in-Some.is c.if-kind-ne0.false c.ended-2.ensures _
+    c.if-not-ended.true c.faulty-then-not-ended.ensures
 
 pub returns : goal.returns
-returns c = passed _ _ c.ended.ensures c.if-ended.false _ c.kind_of-kind.ensures.0 c.if-kind-gt10.false _ c.if-kind-eq0.false c.pass_line.ensures
+returns c =
+    bare _ c.ended.ensures c.if-ended.false (c.kind_in.ensures ∙ ap kind_in c.word.ensures) _ c.in-Some.is c.if-kind-ne0.false c.ended-2.ensures
+    c.if-not-ended.false

@@ -1,20 +1,13 @@
--- `texts::read::comment` meets its contract: byte after byte. Assumes nothing.
-use mathlib.Core.Bool.{not}
-use mathlib.Core.Path.{ap}
-use native.Mathlib.Omega.{arith}
-use borrow.Author.Tests.{eq-eqb, ne_eqb}
-use Rattle.texts.proofs.Fronts.{count_none, count_more, count-stops, count-ends}
-use Rattle.texts.proofs.Reading.{from_none}
+-- `texts::read::comment` meets its contract. Assumes nothing.
+use Rattle.std.proofs.Common.{rules, tests, ℕ, refl, eqb}
+use Rattle.std.proofs.lemmas.Iterator.{YieldsList-from_slice}
+use Rattle.std.proofs.lemmas.Iterator.Search.{position_from_yields_List}
+use Rattle.texts.specs.Read.{in_text}
+use Rattle.texts.proofs.Fronts.{ends}
 use Rattle.texts.proofs.read.comment.Goals as goal
 
-pub loop-i-init : goal.loop-i-init
-loop-i-init c = count_none _ 0 (omega arith)
-
-pub returns-then-line-i-eq35 : goal.returns-then-line-i-eq35
-returns-then-line-i-eq35 c = from_none (count-stops c.loop-i.invariant c.loop-i-test.true (ap not (eq-eqb _ 35 c.if-line-i-eq35.true)))
-
-pub loop-i-preserved : goal.loop-i-preserved
-loop-i-preserved c = count_more c.loop-i.invariant c.loop-i-test.true (ap not (ne_eqb _ 35 c.if-line-i-eq35.false))
-
 pub returns : goal.returns
-returns c = from_none (count-ends c.loop-i.invariant c.loop-i-test.false)
+returns c =
+    let stops = λ (b : ℕ). eqb b 35 in
+    let first = position_from_yields_List stops _ _ c.position.result c.position.ensures.ran (YieldsList-from_slice c.args.line.now cc) (λ x b q k. search (rules, tests)) in
+    ends in_text stops (λ b. refl) c.args.line.now first c.unwrap_or.ensures

@@ -1,18 +1,13 @@
--- `texts::read::line_end` meets its contract: byte after byte. Assumes nothing.
-use mathlib.Core.Bool.{not}
-use mathlib.Core.Path.{ap}
-use borrow.Author.Tests.{eq-eqb, ne_eqb}
-use Rattle.texts.proofs.Fronts.{count_none, count_more, count-stops, count-ends}
+-- `texts::read::line_end` meets its contract. Assumes nothing.
+use Rattle.std.proofs.Common.{rules, tests, ℕ, ◌-◌, length, take, drop, refl, eqb}
+use Rattle.std.proofs.lemmas.Iterator.{YieldsList-from_slice}
+use Rattle.std.proofs.lemmas.Iterator.Search.{position_from_yields_List}
+use Rattle.texts.proofs.Reading.{in_line}
+use Rattle.texts.proofs.Fronts.{ends_from}
 use Rattle.texts.proofs.read.line_end.Goals as goal
 
-pub loop-i-init : goal.loop-i-init
-loop-i-init c = count_none _ _ c.requires
-
-pub returns-then-text-i-eq10 : goal.returns-then-text-i-eq10
-returns-then-text-i-eq10 c = count-stops c.loop-i.invariant c.loop-i-test.true (ap not (eq-eqb _ 10 c.if-text-i-eq10.true))
-
-pub loop-i-preserved : goal.loop-i-preserved
-loop-i-preserved c = count_more c.loop-i.invariant c.loop-i-test.true (ap not (ne_eqb _ 10 c.if-text-i-eq10.false))
-
 pub returns : goal.returns
-returns c = count-ends c.loop-i.invariant c.loop-i-test.false
+returns c =
+    let stops = λ (b : ℕ). eqb b 10 in
+    let first = position_from_yields_List stops _ _ c.position.result c.position.ensures.ran (YieldsList-from_slice (take (length c.args.text.now - c.args.at) (drop c.args.at c.args.text.now)) cc) (λ x b q k. search (rules, tests)) in
+    ends_from in_line stops (λ b. refl) c.args.text.now c.args.at c.requires first c.unwrap_or.ensures

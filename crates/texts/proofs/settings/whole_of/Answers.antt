@@ -1,20 +1,19 @@
 -- `texts::settings::whole_of` meets its contract: each test went as the definition's. Assumes nothing.
-use Rattle.texts.specs.Settings.{whole_of}
-use Rattle.texts.proofs.Tests.{tests}
+use borrow.Author.Tests.{not-true, not-false}
+use Rattle.texts.proofs.Valuing.{no_count, not_plain, too_little, too_much, a_count}
 use Rattle.texts.proofs.settings.whole_of.Goals as goal
 
+pub returns-in_default : goal.returns-in_default
+returns-in_default c = no_count _ _ c.in_default.is
+
 pub returns-then-not-d : goal.returns-then-not-d
-unfolding whole_of
-returns-then-not-d c = search tests
+returns-then-not-d c = not_plain _ _ c.in-Some.d c.in-Some.is (not-true _ c.if-not-d.true)
 
 pub returns-then-d-least : goal.returns-then-d-least
-unfolding whole_of
-returns-then-d-least c = search tests
+returns-then-d-least c = too_little _ _ c.in-Some.d c.in-Some.is (not-false _ c.if-not-d.false) c.if-d-least.true
 
 pub returns-then-most-d : goal.returns-then-most-d
-unfolding whole_of
-returns-then-most-d c = search tests
+returns-then-most-d c = too_much _ _ c.in-Some.d c.in-Some.is (not-false _ c.if-not-d.false) c.if-d-least.false c.if-most-d.true
 
 pub returns : goal.returns
-unfolding whole_of
-returns c = search tests
+returns c = a_count _ _ c.in-Some.d c.in-Some.is (not-false _ c.if-not-d.false) c.if-d-least.false c.if-most-d.false

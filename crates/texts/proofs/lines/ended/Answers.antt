@@ -1,8 +1,0 @@
--- `texts::lines::ended` meets its contract: the word begins where it ends. Assumes nothing.
-use mathlib.Core.Path.{ap}
-use lib.Dec.{eqb}
-use Rattle.texts.specs.declared.words.Span.{Span}
-use Rattle.texts.proofs.lines.ended.Goals as goal
-
-pub returns : goal.returns
-returns c = ap (λ (s : Span). eqb s.from s.to) c.nth-word.ensures.0
