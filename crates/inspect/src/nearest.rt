@@ -32,6 +32,7 @@ fn draw(digits: &mut [u8], whole: u32) -> Leading
 {
     let mut a = whole;
     let mut k: u32 = 0;
+    // No `for`: how many bits are drawn is told as k, and both ends stand in one test.
     while a < 0x80_0000 && k < 149 {
         let bit = times(digits, 2, 0);
         a = 2 * a + bit as u32;

@@ -45,13 +45,7 @@ fn numbered(d: Option<Decimal>) -> Option<u8>
     ensures { result ≡ numbered_of d }
 {
     match d {
-        Some(
-            Decimal {
-                plain: true,
-                whole,
-                ..
-            },
-        ) if 1 <= whole && whole <= 10 => Some(whole as u8),
+        Some(d) if d.plain && 1 <= d.whole && d.whole <= 10 => Some(d.whole as u8),
         _ => None,
     }
 }

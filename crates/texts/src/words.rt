@@ -58,7 +58,7 @@ pub fn nth(line: &[u8], i: usize) -> Span
 }
 
 // The bytes of that word.
-pub fn word(line: &[u8], i: usize) -> &[u8]
+pub(crate) fn word(line: &[u8], i: usize) -> &[u8]
     ensures { result.now ≡ word_of line.now i }
 {
     let Span { from, to } = nth(line, i);
