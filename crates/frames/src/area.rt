@@ -1,6 +1,6 @@
 // A rectangle in words: LEFT,TOP,WIDTH,HEIGHT, four decimal numbers of at most 65535.
 ghost use Rattle.std.specs.Prelude.{◌≡◌, ◌≤◌};
-ghost use Rattle.frames.specs.Area.{grow, with_digit, next_number, broken, step_of, unread, read_of, is_large, named, named_of, begins_of};
+ghost use Rattle.frames.specs.Area.{grow, with_digit, next_number, step_of, unread, read_of, is_large, named, named_of, begins_of};
 
 use raster::ppm::is_digit;
 

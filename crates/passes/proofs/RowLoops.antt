@@ -1,7 +1,7 @@
 -- Loops that lend one part of a frame after another. A part is rewritten by a rule of its own places, which is the frame's rule there;
 -- what is done so far is a rewriting of the frame's first words, and the part makes it longer. A loop by rows is the case in which
 -- each part is a row, and the rule one of column and row: `Rowed` is its invariant, which holds of no rows, of one row more once the
--- row came back (`row_by`, `row_done`), and of all (`rows_all`). Assumes nothing.
+-- row came back (`row_by`), and of all (`rows_all`). Where the loop counts its rows alone, `Rows` is the invariant. Assumes nothing.
 use Rattle.std.proofs.Common.{◌≡◌, ℕ, ◌+◌, ◌-◌, ◌*◌, ◌<◌, ◌≤◌, List, ◌++◌, length, get_or, take, drop, sym, refl, ap, ◌∙◌, subst, zero-le, suc-mul, le_antisymm, zero-mul, add-one, arith, length-drop, length-take-le, get_or-drop, get_or-take}
 use Rattle.num.specs.Rewrite.{rewrite, every}
 use Rattle.num.specs.Laws.Rewrite.{get_d_rewrite-rest, Rewritten, none, part, all}
@@ -57,10 +57,6 @@ module _ {A : Type 0} where
               (λ x p r. same x p r ∙ sym (rw (t.begins, column w x y r, row w x y r)))
               (rw n at e));
         }
-
-    pub row_done : (new : List A) → y < h → new ≡ every (λ x. f x y) (take (k + w - k) (drop k ys))
-        → Rowed w h (y + 1) (k + w) f xs (take k ys ++ (new ++ drop (k + w - k) (drop k ys)))
-    row_done new l e = row_by (λ x. f x y) new l (λ x p r. refl) e
 
     -- all rows are done
     pub rows_all : h ≤ y → ys ≡ rewrite (length xs) (placed w f) xs

@@ -2,7 +2,6 @@
 // sums its own samples in ascending order. Where it can it takes four offsets at a time: the sums are then read and written once. What
 // is taken is counted where it is taken: an offset of a place, where it is inside.
 ghost use Rattle.std.specs.Prelude.{◌≡◌, ◌+◌, ◌-◌, ◌*◌, ◌<◌, ◌≤◌, length, take, drop};
-ghost use Rattle.num.specs.Const.{c0_0};
 ghost use Rattle.num.specs.F32.{◌⊕◌, ◌⊗◌};
 ghost use Rattle.num.specs.Rewrite.{rewrite, every, fill};
 ghost use Rattle.num.specs.Sums.{sum as sum_of};

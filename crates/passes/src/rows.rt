@@ -1,4 +1,7 @@
 // What passes by row and column share: where a place lies along a side, and a copy of a frame.
+// The loop over rows stands in each pass: one loop that is handed a closure would have each call state, at its closure, what the row's
+// function requires, which is longer than the loop. A frame comes as its words, width and height (`Frame` of specs/Rows.antt), and in no
+// struct, since the crates above call each `apply` so.
 ghost use Rattle.std.specs.Prelude.{◌≡◌, ◌-◌, ◌≤◌, max, length};
 ghost use Rattle.passes.specs.Plain.Position as Position;
 

@@ -1,5 +1,6 @@
 -- A station's chain as text: a line for each pass, with its switch and its settings. Assumes nothing.
-use Rattle.std.specs.Prelude.{ℕ, zero, suc, ◌+◌, ◌/◌, ◌%◌, ◌≤◌, Bool, cond, List, [], ◌∷◌, ◌++◌, ◌≡◌, Option, Some, None, Result, Ok, Err, eqb, ltb, Float, length, get_or, take, drop}
+use Rattle.std.specs.Prelude.{ℕ, zero, suc, ◌+◌, ◌/◌, ◌%◌, ◌≤◌, Bool, cond, List, [], ◌∷◌, ◌++◌, ◌≡◌, Float, length, get_or, take, drop}
+use Rattle.std.specs.Prelude.{Option, Some, None, Result, Ok, Err, eqb, ltb}
 use Rattle.cards.specs.Alike.{chain_of}
 use Rattle.cards.specs.Normal.{good_station}
 use Rattle.cards.specs.Passes.{kind_of}
