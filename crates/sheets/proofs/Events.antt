@@ -1,13 +1,19 @@
 -- The events of a sheet one after another: what the rest of it tells before and after one of them. Assumes nothing.
-use Prim.Native.Nat.{ℕ, suc}
+use Prim.Native.Nat.{ℕ, suc, ◌≤◌}
+use native.Mathlib.Omega.{arith}
 use mathlib.Core.Bool.{Bool, true, false, not, cond}
 use mathlib.Core.List.{List, [], ◌∷◌}
-use mathlib.Core.Path.{◌≡◌, refl, ap, ◌∙◌}
-use Rattle.cards.specs.Step.{Step, took, refused, stop, and_then, refuse_if}
+use mathlib.Core.Path.{◌≡◌, refl, sym, ap, ◌∙◌}
+use Rattle.cards.specs.Step.{Step, took, refused, stop, and_then, refuse_if, step}
 use Rattle.cards.specs.Bits.{field_at}
 use Rattle.cards.specs.Card.{ends_at, end_at}
 use Rattle.sheets.specs.Events.{Event, event_at, events_at, rest_at, sheet_at}
-use Rattle.sheets.specs.Promises.{is_taken}
+use Rattle.std.specs.Prelude.{Option, Some, None, Result, Ok, Err}
+use Rattle.std.specs.Result.{IsOk}
+use Rattle.cards.specs.declared.fields.Stop.{Stop}
+use Rattle.std.specs.Option.{is_some}
+use Rattle.sheets.specs.declared.event.Event as Declared
+use Rattle.sheets.specs.Promises.{told, Reads, is_taken}
 use Rattle.sheets.proofs.Reading.{on, off}
 
 -- a step that is gone on with is taken as it was
@@ -61,3 +67,21 @@ module _ (sheet : List ℕ) where
   pub counted : {n p : ℕ} → field_at 16 sheet 0 ≡ took n p → sheet_at sheet 0 ≡ rest_at n sheet p
   unfolding sheet_at
   counted e = on _ e
+
+-- ## What the code reads
+
+-- of a sheet that is whole the event count is read
+pub count_read : (sheet : List ℕ) (r : Result ℕ Stop) (m : ℕ) → step r m ≡ field_at 16 sheet 0 → is_taken (sheet_at sheet 0) ≡ true → IsOk r
+count_read sheet (Ok n) m e whole = refl
+count_read sheet (Err k) m e whole =
+    let z : ◌≡◌ {A = ℕ} 1 0 = ap (λ (b : Bool). cond b 1 0) (sym whole ∙ no_count sheet (ap is_taken (sym e))) in absurd (omega arith)
+
+module _ (sheet : List ℕ) (n p last next : ℕ) where
+  pub one_more : (r : Option Declared.Event) → is_some r ≡ true → Reads sheet last (event_at sheet p) r next
+      → (is_taken (rest_at (suc n) sheet p) ≡ is_taken (rest_at n sheet next)) × (next ≤ last)
+  one_more (Some e) h (same, within, near) = (ap is_taken (one_event sheet n p same) ∙ still (rest_at n sheet next) (λ es. told sheet e ∷ es), near)
+  one_more None h t = let z : ◌≡◌ {A = ℕ} 0 1 = ap (λ (b : Bool). cond b 1 0) h in absurd (omega arith)
+
+  pub none_left : (r : Option Declared.Event) → is_some r ≡ false → Reads sheet last (event_at sheet p) r next → is_taken (rest_at (suc n) sheet p) ≡ false
+  none_left (Some e) h t = let z : ◌≡◌ {A = ℕ} 1 0 = ap (λ (b : Bool). cond b 1 0) h in absurd (omega arith)
+  none_left None h t = no_event sheet n p t

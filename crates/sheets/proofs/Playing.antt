@@ -5,6 +5,7 @@ use native.Mathlib.Nat.{zero-max, le-max_left, le-max_right}
 use mathlib.Core.Bool.{Bool, true, false, not, cond}
 use mathlib.Core.List.{List, [], ◌∷◌}
 use mathlib.Core.Path.{◌≡◌, refl, sym, ap, ap₂, ◌∙◌, subst}
+use mir.Val.{bool_byte}
 use lib.Ieee.{Float}
 use lib.ListN.{length, drop}
 use lib.Seq.{drop-drop}
@@ -16,10 +17,15 @@ use Rattle.cards.specs.declared.station.Station.{Station}
 use Rattle.chain.specs.Agree.{opened}
 use Rattle.sheets.specs.Events.{Event, event_at, events_at, rest_at, sheet_at}
 use Rattle.sheets.specs.Play.{Lent, Playing, floats_of, ints_of, answer_of, turn, turns, begun, Outcome, outcome, played, played_of, play_of}
-use Rattle.sheets.specs.Promises.{is_taken, lent_of, Leaves, Turns, Plays}
+use Rattle.sheets.specs.Promises.{is_taken, Reads, lent_of, Leaves, Turns, Plays}
 use Rattle.sheets.specs.declared.play.Played.{Played}
-use Rattle.sheets.specs.declared.play.PlayAnswer.TheVariants as Answer
-use Rattle.sheets.specs.declared.play.Turn.{Turn}
+use Rattle.std.specs.Prelude.{Option, Some, None, Result, Ok, Err}
+use Rattle.std.specs.Option.{IsSome}
+use Rattle.sheets.specs.declared.event.Event as Declared
+use Rattle.std.specs.Result.{is_ok}
+use Rattle.num.specs.Refusals.{number_of}
+use Rattle.num.specs.declared.refusal.Refusal.{Refusal}
+use Rattle.num.specs.declared.refusal.Refusal.TheVariants as R
 use Rattle.sheets.proofs.Events.{still, no_event, one_event}
 
 -- ## Words that stay
@@ -39,14 +45,14 @@ module _ (l : Lent) (e : Event) (p : Playing) where
   here = begun p.state p.words
 
   -- the event leaves what it would leave then, and counts behind those before it
-  pub onward : (r : Turn) (words' past' : List ℕ) (floats₀ floats floats' : List Float) (ints₀ ints ints' : List ℕ)
+  pub onward : (r : Result (Unit {0}) Refusal) (u : Station) (words' past' : List ℕ) (floats₀ floats floats' : List Float) (ints₀ ints ints' : List ℕ)
       → drop p.free_floats floats ≡ drop p.free_floats floats₀ → drop p.free_ints ints ≡ drop p.free_ints ints₀
-      → Turns l e here r words' past' floats floats' ints ints'
-      → Leaves (turn l e p) r.station words' past' floats₀ floats' ints₀ ints'
-      × ((turn l e p).accepted ≡ p.accepted + cond r.ok 1 0)
-      × ((turn l e p).refused ≡ p.refused + cond r.ok 0 1)
+      → Turns l e here r u words' past' floats floats' ints ints'
+      → Leaves (turn l e p) u words' past' floats₀ floats' ints₀ ints'
+      × ((turn l e p).accepted ≡ p.accepted + cond (is_ok r) 1 0)
+      × ((turn l e p).refused ≡ p.refused + cond (is_ok r) 0 1)
   unfolding turn
-  onward r words' past' floats₀ floats floats' ints₀ ints ints' f i t =
+  onward r u words' past' floats₀ floats floats' ints₀ ints ints' f i t =
       let room_floats : ℕ = cond (ok (answer_of l e p)) (floats_of e) 0 in
       let room_ints : ℕ = cond (ok (answer_of l e p)) (ints_of e) 0 in (
         record {
@@ -106,6 +112,11 @@ going l sheet n at s words past floats ints h = record {
   tells = refl;
 }
 
+-- a bool as a number
+pub as_number : (b : Bool) → bool_byte b ≡ cond b 1 0
+as_number true = refl
+as_number false = refl
+
 pub at_most : (b : Bool) → cond b 1 0 ≤ 1
 at_most true = omega arith
 at_most false = omega arith
@@ -123,25 +134,30 @@ module _ {l : Lent} {sheet : List ℕ} {o : Outcome} {i left next : ℕ} {s : St
   pub there : is_taken (event_at sheet next) ≡ false → ⊥
   there none = let z : ◌≡◌ {A = ℕ} 1 0 = ap (λ (b : Bool). cond b 1 0) (sym g.rest-taken ∙ no_event sheet left next none) in absurd (omega arith)
 
+  -- so that reading gives it
+  pub is_there : (last q : ℕ) (r : Option Declared.Event) → Reads sheet last (event_at sheet next) r q → IsSome r
+  is_there last q (Some e) t = refl
+  is_there last q None t = absurd (there t)
+
   begins : begun (opened s past) words ≡ begun p.state p.words
   begins =
       ap₂ (λ (t : Station) (h : List ℕ). begun (opened t h) words) g.leaves.station g.leaves.past ∙ ap (λ (w : List ℕ). begun p.state w) g.leaves.words
 
   -- and was made
-  pub goes_on : (e : Event) (q : ℕ) (l' : Lent) (r : Turn) (words' past' : List ℕ) (floats' : List Float) (ints' : List ℕ) → event_at sheet next ≡ took e q → l' ≡ l
-      → Turns l' e (begun (opened s past) words) r words' past' floats floats' ints ints'
-      → Going l sheet o (i + 1) left q r.station words' past' floats₀ floats' ints₀ ints' (accepted + cond r.ok 1 0)
-  goes_on e q l' r words' past' floats' ints' h same t =
-      let t' = subst (λ (b : Playing). Turns l e b r words' past' floats floats' ints ints') begins
-      (subst (λ (m : Lent). Turns m e (begun (opened s past) words) r words' past' floats floats' ints ints') same t) in
-      let x = onward l e p r words' past' floats₀ floats floats' ints₀ ints ints' g.leaves.floats_stay g.leaves.ints_stay t' in
+  pub goes_on : (e : Event) (q : ℕ) (l' : Lent) (r : Result (Unit {0}) Refusal) (u : Station) (words' past' : List ℕ) (floats' : List Float) (ints' : List ℕ) → event_at sheet next ≡ took e q → l' ≡ l
+      → Turns l' e (begun (opened s past) words) r u words' past' floats floats' ints ints'
+      → Going l sheet o (i + 1) left q u words' past' floats₀ floats' ints₀ ints' (accepted + cond (is_ok r) 1 0)
+  goes_on e q l' r u words' past' floats' ints' h same t =
+      let t' = subst (λ (b : Playing). Turns l e b r u words' past' floats floats' ints ints') begins
+      (subst (λ (m : Lent). Turns m e (begun (opened s past) words) r u words' past' floats floats' ints ints') same t) in
+      let x = onward l e p r u words' past' floats₀ floats floats' ints₀ ints ints' g.leaves.floats_stay g.leaves.ints_stay t' in
       let after_it = one_event sheet left next h in
       let taken : is_taken (rest_at left sheet q) ≡ true = sym (ap is_taken after_it ∙ still (rest_at left sheet q) (λ es. e ∷ es)) ∙ g.rest-taken in
       record {
         playing = turn l e p;
         leaves = x.0;
-        so_many = x.1 ∙ ap (λ (n : ℕ). n + cond r.ok 1 0) g.so_many;
-        all_counted = omega (arith, x.1, x.2, one r.ok, g.all_counted);
+        so_many = x.1 ∙ ap (λ (n : ℕ). n + cond (is_ok r) 1 0) g.so_many;
+        all_counted = omega (arith, x.1, x.2, one (is_ok r), g.all_counted);
         rest-taken = taken;
         tells = g.tells ∙ ap (λ (z : Step (List Event)). played_of l z p) after_it ∙ played-on l e p (rest_at left sheet q) taken;
       }
@@ -170,12 +186,12 @@ lent_alike past past' floats floats' ints ints' curve e f h =
 -- after the last
 pub ended : {l : Lent} {sheet : List ℕ} {o : Outcome} {n next : ℕ} {s : Station} {words past : List ℕ} {floats₀ floats : List Float} {ints₀ ints : List ℕ} {accepted : ℕ}
     → Going l sheet o n 0 next s words past floats₀ floats ints₀ ints accepted
-    → Plays o (record { answer = Answer.Played accepted (n - accepted); station = s }) words past floats₀ floats ints₀ ints
+    → Plays o (Ok (record { accepted = accepted; refused = n - accepted })) s words past floats₀ floats ints₀ ints
 ended {l} {sheet} {o} {n} {next} {s} {words} {past} {floats₀} {floats} {ints₀} {ints} {accepted} g =
     let p = g.playing in
     let all : o ≡ played p = g.tells ∙ played-last l sheet next p g.rest-taken in
     let others : n - accepted ≡ p.refused = omega (arith, g.so_many, g.all_counted) in
-    subst (λ (x : Outcome). Plays x (record { answer = Answer.Played accepted (n - accepted); station = s }) words past floats₀ floats ints₀ ints) (sym all)
+    subst (λ (x : Outcome). Plays x (Ok (record { accepted = accepted; refused = n - accepted })) s words past floats₀ floats ints₀ ints) (sym all)
     (record { leaves = g.leaves; answers = ap₂ (λ (a r : ℕ). acceptance (a ∷ r ∷ [])) (sym g.so_many) others })
 
 -- ## What is not played
@@ -185,22 +201,22 @@ module _ (l : Lent) (sheet : List ℕ) (s : Station) (words past : List ℕ) (fl
   beginning = begun (opened s past) words
 
   -- nothing changes
-  kept : (k : ℕ) (o : Outcome) → o ≡ outcome (refusal k) beginning → Plays o (record { answer = Answer.Refused k; station = s }) words past floats floats ints ints
+  kept : (k : Refusal) (o : Outcome) → o ≡ outcome (refusal (number_of k)) beginning → Plays o (Err k) s words past floats floats ints ints
   kept k o e =
-      subst (λ (x : Outcome). Plays x (record { answer = Answer.Refused k; station = s }) words past floats floats ints ints) (sym e)
+      subst (λ (x : Outcome). Plays x (Err k) s words past floats floats ints ints) (sym e)
       (record { leaves = record { station = refl; words = refl; past = refl; floats_stay = refl; ints_stay = refl }; answers = refl })
 
-  pub bad_station : good_station s ≡ false → Plays (play_of l sheet (opened s past) words) (record { answer = Answer.Refused 13; station = s }) words past floats floats ints ints
+  pub bad_station : good_station s ≡ false → Plays (play_of l sheet (opened s past) words) (Err R.BadStation) s words past floats floats ints ints
   unfolding play_of
-  bad_station h = kept 13 _ (ap (λ (b : Bool). cond (not b) (outcome (refusal 13) beginning) (played_of l (sheet_at sheet 0) beginning)) h)
+  bad_station h = kept R.BadStation _ (ap (λ (b : Bool). cond (not b) (outcome (refusal 13) beginning) (played_of l (sheet_at sheet 0) beginning)) h)
 
   module _ (good : good_station s ≡ true) where
     goes_by : play_of l sheet (opened s past) words ≡ played_of l (sheet_at sheet 0) beginning
     unfolding play_of
     goes_by = ap (λ (b : Bool). cond (not b) (outcome (refusal 13) beginning) (played_of l (sheet_at sheet 0) beginning)) good
 
-    pub bad_sheet : is_taken (sheet_at sheet 0) ≡ false → Plays (play_of l sheet (opened s past) words) (record { answer = Answer.Refused 20; station = s }) words past floats floats ints ints
-    bad_sheet h = kept 20 _ (goes_by ∙ none (sheet_at sheet 0) h)
+    pub bad_sheet : is_taken (sheet_at sheet 0) ≡ false → Plays (play_of l sheet (opened s past) words) (Err R.BadSheet) s words past floats floats ints ints
+    bad_sheet h = kept R.BadSheet _ (goes_by ∙ none (sheet_at sheet 0) h)
       where
         none : (z : Step (List Event)) → is_taken z ≡ false → played_of l z beginning ≡ outcome (refusal 20) beginning
         none (took es q) e = let z : ◌≡◌ {A = ℕ} 1 0 = ap (λ (b : Bool). cond b 1 0) e in absurd (omega arith)
@@ -210,6 +226,6 @@ module _ (l : Lent) (sheet : List ℕ) (s : Station) (words past : List ℕ) (fl
     good_sheet n at e = goes_by ∙ ap (λ (z : Step (List Event)). played_of l z beginning) e
 
 -- of the same outcome
-pub same_outcome : {o o' : Outcome} {r : Played} {words' past' : List ℕ} {floats floats' : List Float} {ints ints' : List ℕ} → o' ≡ o
-    → Plays o r words' past' floats floats' ints ints' → Plays o' r words' past' floats floats' ints ints'
-same_outcome {o} {o'} {r} {words'} {past'} {floats} {floats'} {ints} {ints'} e t = subst (λ (x : Outcome). Plays x r words' past' floats floats' ints ints') (sym e) t
+pub same_outcome : {o o' : Outcome} {r : Result Played Refusal} {u : Station} {words' past' : List ℕ} {floats floats' : List Float} {ints ints' : List ℕ} → o' ≡ o
+    → Plays o r u words' past' floats floats' ints ints' → Plays o' r u words' past' floats floats' ints ints'
+same_outcome {o} {o'} {r} {u} {words'} {past'} {floats} {floats'} {ints} {ints'} e t = subst (λ (x : Outcome). Plays x r u words' past' floats floats' ints ints') (sym e) t

@@ -8,19 +8,15 @@ use mathlib.Core.Path.{◌≡◌, refl, sym, ap, ◌∙◌, subst}
 use lib.Dec.{leb, eqb}
 use lib.ListN.{length, get_or}
 use borrow.Author.Tests.{leb-true}
-use Rattle.cards.specs.Step.{Step, took, refused, stop, refuse, and_then, field_step, byte_step}
+use Rattle.std.specs.Prelude.{Option, Some, None, Result, Ok, Err}
+use Rattle.std.specs.Result.{result_ok}
+use Rattle.cards.specs.Step.{Step, took, refused, stop, refuse, and_then, step}
 use Rattle.cards.specs.Bits.{value_at, field_at}
-use Rattle.cards.specs.declared.fields.Refusal.{Refusal}
-use Rattle.cards.specs.declared.fields.FieldRead.{FieldRead}
-use Rattle.cards.specs.declared.fields.FieldRead.TheVariants as F
-use Rattle.cards.specs.declared.fields.ByteRead.{ByteRead}
-use Rattle.cards.specs.declared.fields.ByteRead.TheVariants as B
+use Rattle.cards.specs.declared.fields.Stop.{Stop}
 use Rattle.cards.proofs.Bits.{value_at_lt, taken, whole}
 use Rattle.sheets.specs.Events.{Event, frame, words_at, frame_at, switch_at, by_number, event_at}
 use Rattle.sheets.specs.Promises.{is_taken, values_at, told, Within, Reads}
 use Rattle.sheets.specs.declared.event.Event as Declared
-use Rattle.sheets.specs.declared.event.EventRead.{EventRead}
-use Rattle.sheets.specs.declared.event.EventRead.TheVariants as Read
 
 -- ## Steps
 
@@ -34,14 +30,14 @@ off (refused k) f e = refl
 
 -- ## Fields
 
-pub field_took : {r : FieldRead} {s : Step ℕ} {v n : ℕ} → field_step r ≡ s → r ≡ F.Value v n → s ≡ took v n
-field_took e h = sym e ∙ ap field_step h
+-- what the code took or refused is what the definition does
+pub answer_took : {A : Type 0} (r : Result A Stop) (s : Step A) (m : ℕ) (a : A) → step r m ≡ s → result_ok r ≡ Some a → s ≡ took a m
+answer_took (Ok b) s m a e h = let same : b ≡ a = cc in sym e ∙ ap (λ (x : _). took x m) same
+answer_took (Err k) s m a e h = cc
 
-pub field_not : {r : FieldRead} {s : Step ℕ} {k : Refusal} → field_step r ≡ s → r ≡ F.Refused k → is_taken s ≡ false
-field_not e h = ap is_taken (sym e ∙ ap field_step h)
-
-pub byte-not : {r : ByteRead} {s : Step ℕ} {k : Refusal} → byte_step r ≡ s → r ≡ B.Refused k → is_taken s ≡ false
-byte-not e h = ap is_taken (sym e ∙ ap byte_step h)
+pub answer_not : {A : Type 0} (r : Result A Stop) (s : Step A) (m : ℕ) → step r m ≡ s → result_ok r ≡ None → is_taken s ≡ false
+answer_not (Ok b) s m e h = cc
+answer_not (Err k) s m e h = ap is_taken (sym e)
 
 module _ (sheet : List ℕ) where
   -- a field that is taken: its value is small, and its end is on the sheet
@@ -147,14 +143,15 @@ unknown sheet n (suc (suc (suc (suc (suc zero))))) h0 h1 h2 h3 h4 h5 = absurd (h
 unknown sheet n (suc (suc (suc (suc (suc (suc k)))))) h0 h1 h2 h3 h4 h5 = refl
 
 -- what is read behind the number is read of the event
-pub same_read : (sheet : List ℕ) (last last' : ℕ) {s t : Step Event} (r : EventRead) → t ≡ s → last ≤ last' → Reads sheet last s r → Reads sheet last' t r
-same_read sheet last last' (Read.Value e next) h l (same, within, near) = (h ∙ same, within, omega (arith, near, l))
-same_read sheet last last' Read.Bad h l e = ap is_taken h ∙ e
+pub same_read : (sheet : List ℕ) (last last' : ℕ) {s t : Step Event} (r : Option Declared.Event) (next : ℕ) → t ≡ s → last ≤ last' → Reads sheet last s r next
+    → Reads sheet last' t r next
+same_read sheet last last' (Some e) next h l (same, within, near) = (h ∙ same, within, omega (arith, near, l))
+same_read sheet last last' None next h l e = ap is_taken h ∙ e
 
 -- by the case of what was read
-pub read_took : (sheet : List ℕ) (last : ℕ) (s : Step Event) (r : EventRead) (e : Declared.Event) (n : ℕ) → r ≡ Read.Value e n → Reads sheet last s r
+pub read_took : (sheet : List ℕ) (last : ℕ) (s : Step Event) (r : Option Declared.Event) (e : Declared.Event) (n : ℕ) → r ≡ Some e → Reads sheet last s r n
     → (s ≡ took (told sheet e) n) × Within sheet e × (n ≤ last)
-read_took sheet last s r e n h t = subst (Reads sheet last s) h t
+read_took sheet last s r e n h t = subst (λ (x : Option Declared.Event). Reads sheet last s x n) h t
 
-pub read-not : (sheet : List ℕ) (last : ℕ) (s : Step Event) (r : EventRead) → r ≡ Read.Bad → Reads sheet last s r → is_taken s ≡ false
-read-not sheet last s r h t = subst (Reads sheet last s) h t
+pub read-not : (sheet : List ℕ) (last : ℕ) (s : Step Event) (r : Option Declared.Event) (n : ℕ) → r ≡ None → Reads sheet last s r n → is_taken s ≡ false
+read-not sheet last s r n h t = subst (λ (x : Option Declared.Event). Reads sheet last s x n) h t

@@ -8,25 +8,26 @@ use mathlib.Core.Path.{◌≡◌, refl, sym, ap, ap₂, ◌∙◌, subst}
 use lib.Ieee.{Float}
 use lib.ListN.{length, take, drop, length-append, length-take, length-drop, take-append-drop, drop_of_length-le}
 use lib.Seq.{take_all, length-take-le, drop_at}
+use Rattle.std.specs.Prelude.{Result, Ok, Err}
+use Rattle.std.specs.Result.{is_ok}
+use Rattle.num.specs.Refusals.{code, number_of}
+use Rattle.num.specs.declared.refusal.Refusal.{Refusal}
 use Rattle.num.specs.Laws.Refusals.{refuses, accepts}
 use Rattle.num.specs.Rewrite.{rewrite, fill}
 use Rattle.num.specs.Laws.Rewrite.{rewrite_ext}
-use Rattle.cards.specs.Answers.{ok, Reply}
+use Rattle.cards.specs.Answers.{ok, Reply, reported_by}
 use Rattle.cards.specs.Bits.{value_at}
 use Rattle.cards.specs.declared.station.Station.{Station}
 use Rattle.chain.specs.Agree.{opened}
 use Rattle.chain.specs.Answers.{reported_frame, free, Applies}
 use Rattle.chain.specs.Calls.{Framed, framed, refusing_frame, float_room, stops, frame_reply_by, frame_reply, shown_by, shown}
 use Rattle.chain.specs.Machine.{Done, call, after, picture, still}
-use Rattle.chain.specs.declared.pipeline.Applied.{Applied}
-use Rattle.chain.specs.declared.pipeline.FrameAnswer.{FrameAnswer}
-use Rattle.chain.specs.declared.pipeline.FrameAnswer.TheVariants as Frame
+use Rattle.passes.specs.declared.blur.Counts.{Counts}
 use Rattle.chain.proofs.Goes.{goes}
 use Rattle.chain.proofs.Untouched.{untouched}
 use Rattle.sheets.specs.Events.{Event, frame}
 use Rattle.sheets.specs.Play.{Lent, Playing, laid, call_of, floats_of, ints_of, answer_of, turn, begun}
-use Rattle.sheets.specs.Promises.{values_at, lent_of, Leaves, refused_by, Answered, Turns}
-use Rattle.sheets.specs.declared.play.Turn.{Turn}
+use Rattle.sheets.specs.Promises.{values_at, lent_of, Leaves, refused_by, Turns}
 
 -- ## The words of a frame in the framebuffer
 
@@ -56,6 +57,28 @@ laid-length pixels words =
 -- where it has room for all of them they stand before the rest
 pub laid-is : (pixels words : List ℕ) → length pixels ≤ length words → laid pixels words ≡ pixels ++ drop (length pixels) words
 laid-is pixels words h = ap (λ (l : List ℕ). l ++ drop (length pixels) words) (take_all (length words) pixels h)
+
+-- words that were written over the first `count` of a framebuffer
+pub laid_by : (count p : ℕ) (sheet words written : List ℕ) → count ≤ length words → written ≡ fill (λ i. value_at sheet (p + 24 * i) 24) (take count words)
+    → written ++ drop count words ≡ laid (values_at count sheet p) words
+laid_by count p sheet words written enough e =
+    let pixels = values_at count sheet p in
+    let long : length pixels ≡ count = values_length count sheet p in
+    ap (λ (l : List ℕ). l ++ drop count words)
+    (e ∙ filled sheet p (take count words) ∙ ap (λ (n : ℕ). values_at n sheet p) (length-take-le count words enough))
+    ∙ ap (λ (n : ℕ). pixels ++ drop n words) (sym long) ∙ sym (laid-is pixels words (omega (arith, long, enough)))
+
+-- ## Answers
+
+-- an answer without what it reports
+module _ {A : Type 0} (f : A → List ℕ) where
+  pub is_ok_of : (r : Result A Refusal) → is_ok r ≡ ok (reported_by f r)
+  is_ok_of (Ok a) = refl
+  is_ok_of (Err k) = refl
+
+  pub code_of : (r : Result A Refusal) → code r ≡ refused_by (reported_by f r)
+  code_of (Ok a) = refl
+  code_of (Err k) = refl
 
 -- ## A frame
 
@@ -106,15 +129,15 @@ module _ (w h : ℕ) (s : Station) (pixels words past : List ℕ) (floats : List
     number = asks ∙ ap (λ (n : ℕ). stops s w h n (length past) (length floats) (length ints) curve) (sym (laid-length pixels words))
 
     -- the station refuses it
-    pub unshown : (k ≡ 0 → ⊥) → Turns lent (frame w h pixels) beginning (record { station = s; ok = false; refusal = k }) words past floats floats ints ints
+    pub unshown : (e : Refusal) → number_of e ≡ k → (k ≡ 0 → ⊥) → Turns lent (frame w h pixels) beginning (Err e) s words past floats floats ints ints
     unfolding frame_reply_by
-    unshown some =
+    unshown by same some =
         let e : replied ≡ refusing_frame s given past k = sym (refuses k (refusing_frame s given past) (shown w h s given past curve) number some) in
         record {
           leaves = subst (λ (p : Playing). Gives p s words past floats ints) (sym (is_turned ∙ ap (λ (r : Framed). after_it r []) e))
               (record { station = refl; words = refl; past = sym (append-nil past); floats_stay = refl; ints_stay = refl });
           answers =
-              let a = is-answered ∙ ap (λ (r : Framed). r.answer) e in (sym (ap ok a), sym (ap refused_by a));
+              let a = is-answered ∙ ap (λ (r : Framed). r.answer) e in (sym (ap ok a), same ∙ sym (ap refused_by a));
         }
 
     -- it took it
@@ -124,11 +147,11 @@ module _ (w h : ℕ) (s : Station) (pixels words past : List ℕ) (floats : List
         let e : replied ≡ shown w h s given past curve = sym (accepts k (refusing_frame s given past) (shown w h s given past curve) number none) in
         (ap (λ (r : Framed). ok r.answer) e, ap (λ (r : Framed). refused_by r.answer) e)
 
-    module _ (none : k ≡ 0) (r : Applied) (words' past' : List ℕ) (floats' : List Float) (ints' : List ℕ) (all : length pixels ≡ h * w)
-        (lent-words : List ℕ) (written : lent-words ≡ given) (did : Applies w h s lent-words past floats ints curve r words' past' floats' ints')
+    module _ (none : k ≡ 0) (r : Result Counts Refusal) (u : Station) (words' past' : List ℕ) (floats' : List Float) (ints' : List ℕ) (all : length pixels ≡ h * w)
+        (lent-words : List ℕ) (written : lent-words ≡ given) (did : Applies w h s lent-words past floats ints curve r u words' past' floats' ints')
         (left : length words' ≡ length lent-words) where
-      a : Applies w h s given past floats ints curve r words' past' floats' ints'
-      a = subst (λ (g : List ℕ). Applies w h s g past floats ints curve r words' past' floats' ints') written did
+      a : Applies w h s given past floats ints curve r u words' past' floats' ints'
+      a = subst (λ (g : List ℕ). Applies w h s g past floats ints curve r u words' past' floats' ints') written did
 
       kept : length words' ≡ length given
       kept = left ∙ ap length written
@@ -148,31 +171,34 @@ module _ (w h : ℕ) (s : Station) (pixels words past : List ℕ) (floats : List
           ap (λ (n : ℕ). take (h * w) words' ++ drop n words) long ∙ ap (λ (l : List ℕ). take (h * w) words' ++ l) (sym (rest ∙ behind))
           ∙ take-append-drop (h * w) words'
 
-      settled : (b : FrameAnswer) (t : Station) → ok (reported_frame b) ≡ true → drop (free b (float_room w h)) floats' ≡ drop (free b (float_room w h)) floats
+      settled : (b : Result Counts Refusal) (t : Station) → ok (reported_frame b) ≡ true → drop (free b (float_room w h)) floats' ≡ drop (free b (float_room w h)) floats
           → drop (free b (h * w)) ints' ≡ drop (free b (h * w)) ints → Gives (after_it (framed (reported_frame b) t words' past') []) t words' past' floats' ints'
-      settled (Frame.Shown clipped samples) t e f i = record {
+      settled (Ok c) t e f i = record {
         station = refl;
         words = sym joined;
         past = sym (append-nil past');
         floats_stay = subst (λ (n : ℕ). drop n floats' ≡ drop n floats) (sym (zero-max (float_room w h))) f;
         ints_stay = subst (λ (n : ℕ). drop n ints' ≡ drop n ints) (sym (zero-max (h * w))) i;
       }
-      settled (Frame.Refused n) t e f i = let z : ◌≡◌ {A = ℕ} 0 1 = ap (λ (b : Bool). cond b 1 0) e in absurd (omega arith)
+      settled (Err n) t e f i = let z : ◌≡◌ {A = ℕ} 0 1 = ap (λ (b : Bool). cond b 1 0) e in absurd (omega arith)
 
       -- the call on its words left the rest
-      pub shows : Turns lent (frame w h pixels) beginning (record { station = r.station; ok = true; refusal = 0 }) words' past' floats floats' ints ints'
-      shows = record {
-        leaves = subst (λ (p : Playing). Gives p r.station words' past' floats' ints')
+      pub shows : (x : Result (Unit {0}) Refusal) → is_ok x ≡ is_ok r → code x ≡ code r → Turns lent (frame w h pixels) beginning x u words' past' floats floats' ints ints'
+      shows x i c = record {
+        leaves = subst (λ (p : Playing). Gives p u words' past' floats' ints')
             (sym (is_turned ∙ ap (λ (q : Framed). after_it q []) (sym a.replies)))
-            (settled r.answer r.station (ap (λ (q : Framed). ok q.answer) a.replies ∙ (accepted none).0) a.floats_stay a.ints_stay);
-        answers = (sym (ap ok is-answered ∙ (accepted none).0), sym (ap refused_by is-answered ∙ (accepted none).1));
+            (settled r u (ap (λ (q : Framed). ok q.answer) a.replies ∙ (accepted none).0) a.floats_stay a.ints_stay);
+        answers = (
+          i ∙ is_ok_of _ r ∙ ap (λ (q : Framed). ok q.answer) a.replies ∙ sym (ap ok is-answered),
+          c ∙ code_of _ r ∙ ap (λ (q : Framed). refused_by q.answer) a.replies ∙ sym (ap refused_by is-answered),
+        );
       }
 
 -- of the same event
-pub same_event : {l : Lent} {e e' : Event} {b : Playing} {r : Turn} {words' past' : List ℕ} {floats floats' : List Float} {ints ints' : List ℕ} → e' ≡ e
-    → Turns l e b r words' past' floats floats' ints ints' → Turns l e' b r words' past' floats floats' ints ints'
-same_event {l} {e} {e'} {b} {r} {words'} {past'} {floats} {floats'} {ints} {ints'} one t =
-    subst (λ (x : Event). Turns l x b r words' past' floats floats' ints ints') (sym one) t
+pub same_event : {l : Lent} {e e' : Event} {b : Playing} {r : Result (Unit {0}) Refusal} {u : Station} {words' past' : List ℕ} {floats floats' : List Float} {ints ints' : List ℕ} → e' ≡ e
+    → Turns l e b r u words' past' floats floats' ints ints' → Turns l e' b r u words' past' floats floats' ints ints'
+same_event {l} {e} {e'} {b} {r} {u} {words'} {past'} {floats} {floats'} {ints} {ints'} one t =
+    subst (λ (x : Event). Turns l x b r u words' past' floats floats' ints ints') (sym one) t
 
 -- ## Every other event
 
@@ -188,17 +214,18 @@ after_call l e p d = record {
 }
 
 -- e' is the event e, whose call answered q, which is the definition's, and wrote no word
-pub made : (e e' : Event) (s : Station) (words past : List ℕ) (floats : List Float) (ints : List ℕ) (curve : List Float) (r : Turn) (q q' : Reply)
-    → e' ≡ e → q ≡ q' → call (call_of (lent_of past floats ints curve) words e) (opened s past) ≡ still past q' → Answered r q.station q.answer
-    → Turns (lent_of past floats ints curve) e' (begun (opened s past) words) r words past floats floats ints ints
+pub made : (e e' : Event) (s : Station) (words past : List ℕ) (floats : List Float) (ints : List ℕ) (curve : List Float) (r : Result (Unit {0}) Refusal) (q q' : Reply)
+    → e' ≡ e → q ≡ q' → call (call_of (lent_of past floats ints curve) words e) (opened s past) ≡ still past q'
+    → is_ok r ≡ ok q.answer → code r ≡ refused_by q.answer
+    → Turns (lent_of past floats ints curve) e' (begun (opened s past) words) r q.station words past floats floats ints ints
 unfolding turn after
-made e e' s words past floats ints curve r q q' one same is t =
+made e e' s words past floats ints curve r q q' one same is i c =
     let l : Lent = lent_of past floats ints curve in
     let b : Playing = begun (opened s past) words in
     let d = is ∙ ap (still past) (sym same) in
     same_event one
     (record {
-      leaves = subst (λ (p : Playing). Leaves p r.station words past floats floats ints ints) (sym (ap (after_call l e b) d))
-          (record { station = t.0; words = refl; past = refl; floats_stay = refl; ints_stay = refl });
-      answers = (t.1 ∙ sym (ap (λ (x : Done). ok x.gives.answer) d), t.2 ∙ sym (ap (λ (x : Done). refused_by x.gives.answer) d));
+      leaves = subst (λ (p : Playing). Leaves p q.station words past floats floats ints ints) (sym (ap (after_call l e b) d))
+          (record { station = refl; words = refl; past = refl; floats_stay = refl; ints_stay = refl });
+      answers = (i ∙ sym (ap (λ (x : Done). ok x.gives.answer) d), c ∙ sym (ap (λ (x : Done). refused_by x.gives.answer) d));
     })

@@ -1,6 +1,9 @@
 -- What the functions promise: an event as it is read, and what playing leaves of all that is lent. Assumes nothing.
-use Rattle.std.specs.Prelude.{ℕ, zero, suc, ◌+◌, ◌*◌, ◌-◌, ◌^◌, ◌≤◌, ◌<◌, ◌≡◌, Bool, true, false, List, [], ◌∷◌, length, drop, Float}
-use Rattle.cards.specs.Answers.{Report, refusal, acceptance, ok}
+use Rattle.std.specs.Prelude.{ℕ, zero, suc, ◌+◌, ◌*◌, ◌-◌, ◌^◌, ◌≤◌, ◌<◌, ◌≡◌, Bool, true, false, List, [], ◌∷◌, length, drop, Float, Option, Some, None, Result, Ok, Err}
+use Rattle.std.specs.Result.{is_ok}
+use Rattle.num.specs.Refusals.{code}
+use Rattle.num.specs.declared.refusal.Refusal.{Refusal}
+use Rattle.cards.specs.Answers.{Report, refusal, acceptance, ok, reported_by}
 use Rattle.cards.specs.Bits.{value_at}
 use Rattle.cards.specs.Step.{Step, took, refused}
 use Rattle.cards.specs.declared.station.Station.{Station}
@@ -8,12 +11,7 @@ use Rattle.sheets.specs.Events as Events
 use Rattle.sheets.specs.Play.{Lent, Playing, answer_of, turn, Outcome}
 use Rattle.sheets.specs.declared.event.Event.{Event}
 use Rattle.sheets.specs.declared.event.Event.TheVariants as E
-use Rattle.sheets.specs.declared.event.EventRead.{EventRead}
-use Rattle.sheets.specs.declared.event.EventRead.TheVariants as Read
-use Rattle.sheets.specs.declared.play.Turn.{Turn}
 use Rattle.sheets.specs.declared.play.Played.{Played}
-use Rattle.sheets.specs.declared.play.PlayAnswer.{PlayAnswer}
-use Rattle.sheets.specs.declared.play.PlayAnswer.TheVariants as Answer
 
 -- the words of a frame from p on: n values of 24 bits
 unfoldable pub values_at : ℕ → List ℕ → ℕ → List ℕ
@@ -50,10 +48,10 @@ Within sheet E.Step = Unit {0}
 Within sheet (E.Ask kind on) = Unit {0}
 Within sheet E.Commit = Unit {0}
 
--- what reading an event promises: it is that of the definition, its words are there, and it ends at `last` or before
-abbrev pub Reads : (sheet : List ℕ) (last : ℕ) → Step Events.Event → EventRead → Type 0
-Reads sheet last s (Read.Value e next) = (s ≡ took (told sheet e) next) × Within sheet e × (next ≤ last)
-Reads sheet last s Read.Bad = is_taken s ≡ false
+-- what reading an event promises, up to `next`: it is that of the definition, its words are there, and it ends at `last` or before
+abbrev pub Reads : (sheet : List ℕ) (last : ℕ) → Step Events.Event → Option Event → (next : ℕ) → Type 0
+Reads sheet last s (Some e) next = (s ≡ took (told sheet e) next) × Within sheet e × (next ≤ last)
+Reads sheet last s None next = is_taken s ≡ false
 
 -- ## Playing
 
@@ -74,21 +72,16 @@ abbrev pub refused_by : Report → ℕ
 refused_by (refusal k) = k
 refused_by (acceptance r) = 0
 
--- of an answer
-abbrev pub Answered : Turn → Station → Report → Type 0
-Answered r s a = (r.station ≡ s) × (r.ok ≡ ok a) × (r.refusal ≡ refused_by a)
-
 -- of one event, made from the beginning b: it was accepted, or refused by that number
-pub record Turns (l : Lent) (e : Events.Event) (b : Playing) (r : Turn) (words' past' : List ℕ) (floats floats' : List Float) (ints ints' : List ℕ)
-    : Type 0 where
-  pub leaves : Leaves (turn l e b) r.station words' past' floats floats' ints ints'
-  pub answers : (r.ok ≡ ok (answer_of l e b)) × (r.refusal ≡ refused_by (answer_of l e b))
+pub record Turns (l : Lent) (e : Events.Event) (b : Playing) (r : Result (Unit {0}) Refusal) (s' : Station) (words' past' : List ℕ) (floats floats' : List Float)
+    (ints ints' : List ℕ) : Type 0 where
+  pub leaves : Leaves (turn l e b) s' words' past' floats floats' ints ints'
+  pub answers : (is_ok r ≡ ok (answer_of l e b)) × (code r ≡ refused_by (answer_of l e b))
 
-abbrev pub reported_play : PlayAnswer → Report
-reported_play (Answer.Played a r) = acceptance (a ∷ r ∷ [])
-reported_play (Answer.Refused k) = refusal k
+abbrev pub reported_play : Result Played Refusal → Report
+reported_play = reported_by (λ p. p.accepted ∷ p.refused ∷ [])
 
 -- of a sheet
-pub record Plays (o : Outcome) (r : Played) (words' past' : List ℕ) (floats floats' : List Float) (ints ints' : List ℕ) : Type 0 where
-  pub leaves : Leaves o.playing r.station words' past' floats floats' ints ints'
-  pub answers : reported_play r.answer ≡ o.answer
+pub record Plays (o : Outcome) (r : Result Played Refusal) (s' : Station) (words' past' : List ℕ) (floats floats' : List Float) (ints ints' : List ℕ) : Type 0 where
+  pub leaves : Leaves o.playing s' words' past' floats floats' ints ints'
+  pub answers : reported_play r ≡ o.answer

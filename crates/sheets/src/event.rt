@@ -3,8 +3,7 @@ ghost use Rattle.std.specs.Prelude.{◌≡◌, cond, ◌+◌, ◌^◌, ◌<◌};
 ghost use Rattle.sheets.specs.Events.{frame_at, switch_at, switch as made, ask as asked, event_at, sheet_at};
 ghost use Rattle.sheets.specs.Promises.{Reads, is_taken};
 
-use cards::fields::{ByteRead, FieldRead, byte, field};
-use cards::reader::ends;
+use cards::fields::Cursor;
 
 #[derive(Clone, Copy)]
 pub enum Event {
@@ -27,67 +26,52 @@ pub enum Event {
     Commit,
 }
 
-// What reading an event answers: it, and the next bit place.
-#[derive(Clone, Copy)]
-pub enum EventRead {
-    Value(Event, usize),
-    Bad,
-}
-
 // A frame, behind its number: two sides of 11 bits, and 24 bits for each word.
-fn frame(sheet: &[u8], at: usize) -> EventRead
-    requires { at < 2 ^ 43 + 3 }
-    ensures { Reads sheet.now (at + 100565038) (frame_at sheet.now at) result }
+fn frame(sheet: &mut Cursor) -> Option<Event>
+    requires { sheet.old.at < 2 ^ 43 + 3 }
+    ensures value { Reads sheet.old.bytes.now (sheet.old.at + 100565038) (frame_at sheet.old.bytes.now sheet.old.at) result sheet.new.at }
+    ensures bytes { sheet.new.bytes ≡ sheet.old.bytes }
 {
-    let FieldRead::Value(w, next) = field(sheet, at, 11) else {
-        return EventRead::Bad;
-    };
-    let FieldRead::Value(h, at) = field(sheet, next, 11) else {
-        return EventRead::Bad;
-    };
-    let width = w as usize;
-    let height = h as usize;
+    let width = sheet.field(11).ok()? as usize;
+    let height = sheet.field(11).ok()? as usize;
+    let at = sheet.at;
     let end = at + 24 * (height * width);
-    if sheet.len() < (end + 7) / 8 {
-        return EventRead::Bad;
+    if sheet.bytes.len() < (end + 7) / 8 {
+        return None;
     }
-    EventRead::Value(Event::Frame { width, height, at }, end)
+    sheet.at = end;
+    Some(Event::Frame { width, height, at })
 }
 
 // A switch that is made, or asked for, behind its number.
-fn switch(sheet: &[u8], at: usize, ask: bool) -> EventRead
-    requires { at < 2 ^ 43 + 3 }
-    ensures { Reads sheet.now (at + 5) (switch_at (cond ask asked made) sheet.now at) result }
+fn switch(sheet: &mut Cursor, ask: bool) -> Option<Event>
+    requires { sheet.old.at < 2 ^ 43 + 3 }
+    ensures value { Reads sheet.old.bytes.now (sheet.old.at + 5) (switch_at (cond ask asked made) sheet.old.bytes.now sheet.old.at) result sheet.new.at }
+    ensures bytes { sheet.new.bytes ≡ sheet.old.bytes }
 {
-    let ByteRead::Value(kind, next) = byte(sheet, at, 4) else {
-        return EventRead::Bad;
-    };
-    let ByteRead::Value(position, next) = byte(sheet, next, 1) else {
-        return EventRead::Bad;
-    };
-    let on = position == 1;
+    let kind = sheet.byte(4).ok()?;
+    let on = sheet.byte(1).ok()? == 1;
     if ask {
-        return EventRead::Value(Event::Ask { kind, on }, next);
+        Some(Event::Ask { kind, on })
+    } else {
+        Some(Event::Switch { kind, on })
     }
-    EventRead::Value(Event::Switch { kind, on }, next)
 }
 
-// The event that stands at that place.
-pub fn read(sheet: &[u8], at: usize) -> EventRead
-    requires { at < 2 ^ 43 }
-    ensures { Reads sheet.now (at + 100565041) (event_at sheet.now at) result }
+// The event that stands next on the sheet, if one does.
+pub fn read(sheet: &mut Cursor) -> Option<Event>
+    requires { sheet.old.at < 2 ^ 43 }
+    ensures value { Reads sheet.old.bytes.now (sheet.old.at + 100565041) (event_at sheet.old.bytes.now sheet.old.at) result sheet.new.at }
+    ensures bytes { sheet.new.bytes ≡ sheet.old.bytes }
 {
-    let ByteRead::Value(number, next) = byte(sheet, at, 3) else {
-        return EventRead::Bad;
-    };
-    match number {
-        0 => frame(sheet, next),
-        1 => EventRead::Value(Event::Reset, next),
-        2 => switch(sheet, next, false),
-        3 => EventRead::Value(Event::Step, next),
-        4 => switch(sheet, next, true),
-        5 => EventRead::Value(Event::Commit, next),
-        _ => EventRead::Bad,
+    match sheet.byte(3).ok()? {
+        0 => frame(sheet),
+        1 => Some(Event::Reset),
+        2 => switch(sheet, false),
+        3 => Some(Event::Step),
+        4 => switch(sheet, true),
+        5 => Some(Event::Commit),
+        _ => None,
     }
 }
 
@@ -95,17 +79,17 @@ pub fn read(sheet: &[u8], at: usize) -> EventRead
 pub fn is_whole(sheet: &[u8]) -> bool
     ensures { result ≡ is_taken (sheet_at sheet.now 0) }
 {
-    let FieldRead::Value(n, at) = field(sheet, 0, 16) else {
+    let mut cursor = Cursor {
+        bytes: sheet,
+        at: 0,
+    };
+    let Ok(n) = cursor.field(16) else {
         return false;
     };
-    let mut next = at;
-    let mut i: u32 = 0;
-    while i < n {
-        let EventRead::Value(_, after) = read(sheet, next) else {
+    for _ in 0..n {
+        if read(&mut cursor).is_none() {
             return false;
-        };
-        next = after;
-        i += 1;
+        }
     }
-    ends(sheet, next)
+    cursor.is_at_end()
 }

@@ -1,56 +1,59 @@
 -- `sheets::event::frame` meets its contract: two sides, and as many words as they say. Assumes nothing.
-use mathlib.Core.Path.{◌≡◌}
+use Rattle.std.proofs.Common.{◌≡◌, ℕ, ◌+◌, ◌*◌, List, Bor, None}
+use mathlib.Core.Path.{sym, ap, ◌∙◌}
 use native.Mathlib.Omega.{arith}
+use lib.ListN.{length}
+use Rattle.sheets.specs.Events.{frame_at}
 use Rattle.cards.specs.Bits.{field_at}
-use Rattle.cards.specs.Step.{took}
-use Rattle.sheets.proofs.Reading.{field_took, field_not, next, no_width, no_height, no_words, whole_frame, count, behind}
+use Rattle.sheets.specs.Promises.{Reads, is_taken}
+use Rattle.sheets.proofs.Reading.{answer_took, answer_not, no_width, no_height, no_words, whole_frame, count, behind}
 use Rattle.sheets.proofs.event.frame.Goals as goal
-use Rattle.sheets.proofs.event.frame.Lts as lts
-use Rattle.sheets.proofs.event.frame.Reads as reads
-use Rattle.sheets.proofs.event.frame.Tie as tie
 
--- the width was read, and then the height
-module _ (c : lts.Past-After-known_told tie.the-claims reads.Pre reads.Post) where
-  abbrev start : lts.Start tie.the-claims reads.Pre reads.Post
-  start = c.before.before.before
+pub returns-in_err-width-clause-value : goal.returns-in_err-width-clause-value
+returns-in_err-width-clause-value c = let s : c.from_residual.result ≡ None = c.from_residual.ensures in
+    rw s (no_width _ _ (answer_not _ _ _ c.field.ensures.value (sym c.ok.ensures.value ∙ c.in_err-width.was)))
 
-  wide : field_at 11 start.args.sheet.now start.args.at ≡ took c.in-Value.w c.in-Value.next
-  wide = field_took c.field.ensures c.in-Value.is
-
-module _ (c : lts.Past-After-known_told2 tie.the-claims reads.Pre reads.Post) where
-  abbrev first : lts.Past-After-known_told tie.the-claims reads.Pre reads.Post
-  first = c.before.before
-
-  high : field_at 11 first.args.sheet.now first.in-Value.next ≡ took c.in-Value-field.h c.in-Value-field.at
-  high = field_took c.field-2.ensures c.in-Value-field.is
-
-pub returns-in_default : goal.returns-in_default
-returns-in_default c = no_width c.args.sheet.now c.args.at (field_not c.field.ensures c.in_default.is)
-
-pub field-requires-2 : goal.field-requires-2
-field-requires-2 c = (omega arith, omega (arith, c.requires, next c.args.sheet.now 11 c.args.at (wide c.before)))
-
-pub returns-in_default-field : goal.returns-in_default-field
-returns-in_default-field c = no_height c.args.sheet.now c.args.at (wide c.before.before.before) (field_not c.field-2.ensures c.in_default-field.is)
-
-pub overflow_mul-end : goal.overflow_mul-end
-overflow_mul-end c = omega (arith, count _ _ (wide (first c.before)) (high c.before))
+pub returns-in_err-height-clause-value : goal.returns-in_err-height-clause-value
+returns-in_err-height-clause-value c = let s : c.from_residual-in_err-height.result ≡ None = c.from_residual-in_err-height.ensures in
+    let wide = answer_took _ _ _ _ c.field.ensures.value (sym c.ok.ensures.value ∙ c.in_ok-width.was) in
+    let same = ap (λ (b : Bor (List ℕ)). b.now) c.field.ensures.place.0 in
+    rw s (no_height _ _ wide (ap (λ (b : List ℕ). is_taken (field_at 11 b c.field.new.self.at)) (sym same) ∙ answer_not _ _ _ c.field-2.ensures.value (sym c.ok-2.ensures.value ∙ c.in_err-height.was)))
 
 pub overflow_mul-end-2 : goal.overflow_mul-end-2
-overflow_mul-end-2 c = omega (arith, count _ _ (wide (first c.before)) (high c.before))
+overflow_mul-end-2 c =
+    let wide = answer_took _ _ _ _ c.field.ensures.value (sym c.ok.ensures.value ∙ c.in_ok-width.was) in
+    let same = ap (λ (b : Bor (List ℕ)). b.now) c.field.ensures.place.0 in
+    let high = ap (λ (b : List ℕ). field_at 11 b c.field.new.self.at) (sym same) ∙ answer_took _ _ _ _ c.field-2.ensures.value (sym c.ok-2.ensures.value ∙ c.in_ok-height.was) in
+    omega (arith, count _ _ wide high, behind _ _ wide high, c.requires)
 
 pub overflow_add-end : goal.overflow_add-end
-overflow_add-end c = omega (arith, count _ _ (wide (first c.before)) (high c.before), behind _ _ (wide (first c.before)) (high c.before), c.requires)
+overflow_add-end c =
+    let wide = answer_took _ _ _ _ c.field.ensures.value (sym c.ok.ensures.value ∙ c.in_ok-width.was) in
+    let same = ap (λ (b : Bor (List ℕ)). b.now) c.field.ensures.place.0 in
+    let high = ap (λ (b : List ℕ). field_at 11 b c.field.new.self.at) (sym same) ∙ answer_took _ _ _ _ c.field-2.ensures.value (sym c.ok-2.ensures.value ∙ c.in_ok-height.was) in
+    omega (arith, count _ _ wide high, behind _ _ wide high, c.requires)
 
 pub overflow_add-end-2 : goal.overflow_add-end-2
-overflow_add-end-2 c = omega (arith, count _ _ (wide (first c.before)) (high c.before), behind _ _ (wide (first c.before)) (high c.before), c.requires)
+overflow_add-end-2 c =
+    let wide = answer_took _ _ _ _ c.field.ensures.value (sym c.ok.ensures.value ∙ c.in_ok-width.was) in
+    let same = ap (λ (b : Bor (List ℕ)). b.now) c.field.ensures.place.0 in
+    let high = ap (λ (b : List ℕ). field_at 11 b c.field.new.self.at) (sym same) ∙ answer_took _ _ _ _ c.field-2.ensures.value (sym c.ok-2.ensures.value ∙ c.in_ok-height.was) in
+    omega (arith, count _ _ wide high, behind _ _ wide high, c.requires)
 
-pub returns-then-sheet-end : goal.returns-then-sheet-end
-returns-then-sheet-end c = no_words _ _ (wide (first c.before.before)) (high c.before.before) (omega (arith, c.if-sheet-end.true))
+pub returns-then-sheet-end-clause-value : goal.returns-then-sheet-end-clause-value
+returns-then-sheet-end-clause-value c =
+    let wide = answer_took _ _ _ _ c.field.ensures.value (sym c.ok.ensures.value ∙ c.in_ok-width.was) in
+    let same = ap (λ (b : Bor (List ℕ)). b.now) c.field.ensures.place.0 in
+    let high = ap (λ (b : List ℕ). field_at 11 b c.field.new.self.at) (sym same) ∙ answer_took _ _ _ _ c.field-2.ensures.value (sym c.ok-2.ensures.value ∙ c.in_ok-height.was) in
+    no_words _ _ wide high (omega (arith, c.if-sheet-end.true, ap length same, ap (λ (b : Bor (List ℕ)). length b.now) c.field-2.ensures.place.0))
 
-pub returns : goal.returns
-returns c = (
-  whole_frame _ _ (wide (first c.before.before)) (high c.before.before) (omega (arith, c.if-sheet-end.false)),
-  (omega (arith, behind _ _ (wide (first c.before.before)) (high c.before.before)), omega (arith, c.if-sheet-end.false), omega (arith, behind _ _ (wide (first c.before.before)) (high c.before.before), c.requires)),
-  omega (arith, count _ _ (wide (first c.before.before)) (high c.before.before), behind _ _ (wide (first c.before.before)) (high c.before.before)),
-)
+pub returns-clause-value : goal.returns-clause-value
+returns-clause-value c =
+    let wide = answer_took _ _ _ _ c.field.ensures.value (sym c.ok.ensures.value ∙ c.in_ok-width.was) in
+    let same = ap (λ (b : Bor (List ℕ)). b.now) c.field.ensures.place.0 in
+    let high = ap (λ (b : List ℕ). field_at 11 b c.field.new.self.at) (sym same) ∙ answer_took _ _ _ _ c.field-2.ensures.value (sym c.ok-2.ensures.value ∙ c.in_ok-height.was) in
+    (
+      whole_frame _ _ wide high (omega (arith, c.if-sheet-end.false, ap length same, ap (λ (b : Bor (List ℕ)). length b.now) c.field-2.ensures.place.0)),
+      (omega (arith, behind _ _ wide high), omega (arith, c.if-sheet-end.false, ap length same, ap (λ (b : Bor (List ℕ)). length b.now) c.field-2.ensures.place.0), omega (arith, behind _ _ wide high, c.requires)),
+      omega (arith, count _ _ wide high, behind _ _ wide high),
+    )

@@ -1,55 +1,54 @@
 -- `sheets::event::is_whole` meets its contract: after each event the rest of the sheet tells as much as all of it. Assumes nothing.
-use Prim.Native.Nat.{ℕ, suc, ◌+◌, ◌-◌}
-use mathlib.Core.List.{List}
-use mathlib.Core.Path.{◌≡◌, sym, ap, ◌∙◌}
+use Rattle.std.proofs.Common.{◌≡◌, ℕ, suc, ◌+◌, ◌-◌, Bor, List, not}
+use mathlib.Core.Path.{sym, ap, ◌∙◌}
 use native.Mathlib.Omega.{arith}
-use Rattle.sheets.specs.Events.{rest_at, sheet_at}
+use Rattle.std.specs.Result.{result_ok}
+use Rattle.cards.specs.Bits.{field_at}
+use Rattle.cards.specs.Step.{took}
+use Rattle.sheets.specs.Events.{sheet_at, rest_at}
 use Rattle.sheets.specs.Promises.{is_taken}
-use Rattle.sheets.proofs.Reading.{field_took, field_not, small, next, read_took, read-not}
-use Rattle.sheets.proofs.Events.{still, no_event, one_event, last_event, no_count, counted}
+use Rattle.sheets.proofs.Events.{one_more, none_left, last_event, no_count, counted}
+use Rattle.sheets.proofs.Reading.{answer_took, answer_not, small, next}
 use Rattle.sheets.proofs.event.is_whole.Goals as goal
-use Rattle.sheets.proofs.event.is_whole.Lts as lts
-use Rattle.sheets.proofs.event.is_whole.Reads as reads
-use Rattle.sheets.proofs.event.is_whole.Tie as tie
-
--- in a turn one event more is left than after it
-module _ (c : lts.In-loop tie.the-claims reads.Pre reads.Post goal.the-invariant-loop-i goal.the-decreases-loop-i) where
-  abbrev start : lts.Start tie.the-claims reads.Pre reads.Post goal.the-invariant-loop-i goal.the-decreases-loop-i
-  start = c.before.before.before.before.before
-
-  abbrev sheet : List ℕ
-  sheet = start.args.sheet.now
-
-  abbrev left : ℕ
-  left = c.in-Value.n - (c.loop-i.i + 1)
-
-  tells : is_taken (sheet_at sheet 0) ≡ is_taken (rest_at (suc left) sheet c.loop-i.next)
-  tells = c.loop-i.invariant.3 ∙ ap (λ (k : ℕ). is_taken (rest_at k sheet c.loop-i.next)) (omega arith)
 
 pub returns-in_default : goal.returns-in_default
-returns-in_default c = sym (no_count c.args.sheet.now (field_not c.field.ensures c.in_default.is))
+returns-in_default c = sym (no_count _ (answer_not c.field.result _ _ c.field.ensures.value (ap result_ok c.in_default.is)))
 
-pub loop-i-init : goal.loop-i-init
-loop-i-init c = let count = field_took c.field.ensures c.in-Value.is in
-    (omega arith, small c.args.sheet.now 16 0 count, omega (arith, next c.args.sheet.now 16 0 count), ap is_taken (counted c.args.sheet.now count ∙ ap (λ (k : ℕ). rest_at k c.args.sheet.now c.in-Value.at) (omega arith)))
+pub loop-init : goal.loop-init
+loop-init c = let count = answer_took c.field.result _ _ _ c.field.ensures.value (ap result_ok c.in-Ok.is) in
+    let same = ap (λ (b : Bor (List ℕ)). b.now) c.field.ensures.place.0 in (
+      small _ 16 0 count,
+      c.field.ensures.place.1,
+      ap is_taken (counted _ count ∙ ap (λ (b : List ℕ). rest_at c.in-Ok.n b c.field.new.self.at) (sym same) ∙ ap (λ (k : ℕ). rest_at k c.field.new.self.bytes.now c.field.new.self.at) (omega arith)),
+    )
 
 pub read-requires : goal.read-requires
-read-requires c = omega (arith, c.loop-i.invariant)
+read-requires c = omega (arith, c.loop.invariant.0, c.loop.invariant.1, c.loop-test.true)
 
-pub returns-in_default-read : goal.returns-in_default-read
-returns-in_default-read c = sym (tells c.before.before.before ∙ no_event (sheet c.before.before.before) (left c.before.before.before) c.loop-i.next (read-not (sheet c.before.before.before) _ _ c.read.result c.in_default-read.is c.read.ensures))
+pub returns-then-is_none : goal.returns-then-is_none
+returns-then-is_none c =
+    sym (
+      c.loop.invariant.2 ∙ ap (λ (k : ℕ). is_taken (rest_at k c.loop.cursor.bytes.now c.loop.cursor.at)) (omega (arith, c.loop-test.true))
+      ∙ none_left c.loop.cursor.bytes.now (c.in-Ok.n - (c.loop.counter + 1)) c.loop.cursor.at _ _ c.read.result (c.is_none.ensures ∙ ap not c.if-is_none.true) c.read.ensures.value
+    )
 
-pub loop-i-preserved : goal.loop-i-preserved
-loop-i-preserved c = let got = read_took (sheet c.before.before.before) _ _ c.read.result _ _ c.in-Value-read.is c.read.ensures in (
-  omega arith,
-  c.loop-i.invariant.1,
-  omega (arith, got.2, c.loop-i.invariant.2),
-  tells c.before.before.before ∙ ap is_taken (one_event (sheet c.before.before.before) (left c.before.before.before) c.loop-i.next got.0) ∙ still (rest_at (left c.before.before.before) (sheet c.before.before.before) c.in-Value-read.after) _,
-)
+pub loop-preserved : goal.loop-preserved
+loop-preserved c =
+    let more = one_more c.loop.cursor.bytes.now (c.in-Ok.n - (c.loop.counter + 1)) c.loop.cursor.at _ _ c.read.result (c.is_none.ensures ∙ ap not c.if-is_none.false) c.read.ensures.value in
+    let same = ap (λ (b : Bor (List ℕ)). b.now) c.read.ensures.bytes in (
+      c.loop.invariant.0,
+      omega (arith, more.1, c.loop.invariant.1),
+      c.loop.invariant.2 ∙ ap (λ (k : ℕ). is_taken (rest_at k c.loop.cursor.bytes.now c.loop.cursor.at)) (omega (arith, c.loop-test.true)) ∙ more.0
+          ∙ ap (λ (b : List ℕ). is_taken (rest_at (c.in-Ok.n - (c.loop.counter + 1)) b c.read.new.sheet.at)) (sym same),
+    )
 
-pub ends-requires : goal.ends-requires
-ends-requires c = omega (arith, c.loop-i.invariant)
+pub is_at_end-requires : goal.is_at_end-requires
+is_at_end-requires c = omega (arith, c.loop.invariant.0, c.loop.invariant.1, c.loop.auto.counter-end)
 
 pub returns : goal.returns
-returns c = sym (c.loop-i.invariant.3 ∙ ap (λ (k : ℕ). is_taken (rest_at k c.args.sheet.now c.loop-i.next)) (omega arith) ∙ last_event c.args.sheet.now c.loop-i.next
-    ∙ sym c.ends.ensures)
+returns c =
+    c.is_at_end.ensures
+    ∙ sym (
+      c.loop.invariant.2 ∙ ap (λ (k : ℕ). is_taken (rest_at k c.loop.cursor.bytes.now c.loop.cursor.at)) (omega (arith, c.loop.auto.counter-end, c.loop-test.false))
+      ∙ last_event c.loop.cursor.bytes.now c.loop.cursor.at
+    )

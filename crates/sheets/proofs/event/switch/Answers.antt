@@ -1,60 +1,43 @@
 -- `sheets::event::switch` meets its contract: a kind and a position, made or asked for. Assumes nothing.
-use Prim.Native.Nat.{ℕ, ◌+◌, ◌≤◌}
-use mathlib.Core.Bool.{Bool, true, false, cond}
-use mathlib.Core.List.{List}
-use mathlib.Core.Path.{◌≡◌, ◌∙◌, ap}
+use Rattle.std.proofs.Common.{◌≡◌, ℕ, ◌+◌, Bool, true, false, cond, List, Bor, None}
+use mathlib.Core.Path.{sym, ap, ◌∙◌}
 use native.Mathlib.Omega.{arith}
 use lib.Dec.{eqb}
 use Rattle.cards.specs.Bits.{field_at}
 use Rattle.cards.specs.Step.{took}
-use Rattle.cards.proofs.Steps.{byte_took}
-use Rattle.sheets.specs.Events.{switch, ask, switch_at}
-use Rattle.sheets.proofs.Reading.{byte-not, next, no_kind, no_position, whole_switch}
+use Rattle.sheets.specs.Events.{switch_at, switch, ask}
+use Rattle.sheets.specs.Promises.{Reads, is_taken}
+use Rattle.sheets.proofs.Reading.{answer_took, answer_not, no_kind, no_position, whole_switch, next}
 use Rattle.sheets.proofs.event.switch.Goals as goal
-use Rattle.sheets.proofs.event.switch.Lts as lts
-use Rattle.sheets.proofs.event.switch.Reads as reads
-use Rattle.sheets.proofs.event.switch.Tie as tie
 
--- the kind was read, and then the position
-module _ (c : lts.Past-After-known_told tie.the-claims reads.Pre reads.Post) where
-  abbrev start : lts.Start tie.the-claims reads.Pre reads.Post
-  start = c.before.before.before
+pub returns-in_err-kind-clause-value : goal.returns-in_err-kind-clause-value
+returns-in_err-kind-clause-value c = let s : c.from_residual.result ≡ None = c.from_residual.ensures in
+    rw s (no_kind _ _ _ (answer_not _ _ _ c.byte.ensures.value (sym c.ok.ensures.value ∙ c.in_err-kind.was)))
 
-  kind : field_at 4 start.args.sheet.now start.args.at ≡ took c.in-Value.kind c.in-Value.next
-  kind = byte_took c.byte.ensures c.in-Value.is
+pub returns-in_err-on-clause-value : goal.returns-in_err-on-clause-value
+returns-in_err-on-clause-value c = let s : c.from_residual-in_err-on.result ≡ None = c.from_residual-in_err-on.ensures in
+    let kind = answer_took _ _ _ _ c.byte.ensures.value (sym c.ok.ensures.value ∙ c.in_ok-kind.was) in
+    let same = ap (λ (b : Bor (List ℕ)). b.now) c.byte.ensures.place.0 in
+    rw s (no_position _ _ _ kind (ap (λ (b : List ℕ). is_taken (field_at 1 b c.byte.new.self.at)) (sym same) ∙ answer_not _ _ _ c.byte-2.ensures.value (sym c.ok-2.ensures.value ∙ c.in_err-on.was)))
 
-module _ (c : lts.Past-After-known_told2 tie.the-claims reads.Pre reads.Post) where
-  abbrev first : lts.Past-After-known_told tie.the-claims reads.Pre reads.Post
-  first = c.before.before
+pub returns-then-ask-clause-value : goal.returns-then-ask-clause-value
+returns-then-ask-clause-value c =
+    let kind = answer_took _ _ _ _ c.byte.ensures.value (sym c.ok.ensures.value ∙ c.in_ok-kind.was) in
+    let same = ap (λ (b : Bor (List ℕ)). b.now) c.byte.ensures.place.0 in
+    let position = ap (λ (b : List ℕ). field_at 1 b c.byte.new.self.at) (sym same) ∙ answer_took _ _ _ _ c.byte-2.ensures.value (sym c.ok-2.ensures.value ∙ c.in_ok-on.was) in
+    (
+      whole_switch _ _ _ kind position ∙ ap (λ (b : Bool). took (cond b ask switch c.in_ok-kind.kind (eqb c.in_ok-on.field-0 1)) c.byte-2.new.self.at) c.if-ask.true,
+      tt,
+      omega (arith, next _ 4 _ kind, next _ 1 _ position),
+    )
 
-  position : field_at 1 first.args.sheet.now first.in-Value.next ≡ took c.in-Value-byte.position c.in-Value-byte.next
-  position = byte_took c.byte-2.ensures c.in-Value-byte.is
-
--- the event, by whether it is asked for
-module _ (c : lts.Past-After-known_told2 tie.the-claims reads.Pre reads.Post) where
-  abbrev sheet : List ℕ
-  sheet = (start (first c)).args.sheet.now
-
-  whole : (asked : Bool) → (start (first c)).args.ask ≡ asked → switch_at (cond (start (first c)).args.ask ask switch) sheet (start (first c)).args.at
-      ≡ took (cond asked ask switch c.in-Value.kind (eqb c.in-Value-byte.position 1)) c.in-Value-byte.next
-  whole asked e =
-      whole_switch sheet _ (start (first c)).args.at (kind (first c)) (position c)
-      ∙ ap (λ (b : Bool). took (cond b ask switch c.in-Value.kind (eqb c.in-Value-byte.position 1)) c.in-Value-byte.next) e
-
-  near : c.in-Value-byte.next ≤ (start (first c)).args.at + 5
-  near = omega (arith, next sheet 4 (start (first c)).args.at (kind (first c)), next sheet 1 c.in-Value.next (position c))
-
-pub returns-in_default : goal.returns-in_default
-returns-in_default c = no_kind c.args.sheet.now _ c.args.at (byte-not c.byte.ensures c.in_default.is)
-
-pub byte-requires-2 : goal.byte-requires-2
-byte-requires-2 c = (omega arith, omega (arith, c.requires, next c.args.sheet.now 4 c.args.at (kind c.before)))
-
-pub returns-in_default-byte : goal.returns-in_default-byte
-returns-in_default-byte c = no_position c.args.sheet.now _ c.args.at (kind c.before.before.before) (byte-not c.byte-2.ensures c.in_default-byte.is)
-
-pub returns-then-ask : goal.returns-then-ask
-returns-then-ask c = (whole c.before.before true c.if-ask.true, tt, near c.before.before)
-
-pub returns : goal.returns
-returns c = (whole c.before.before false c.if-ask.false, tt, near c.before.before)
+pub returns-else-ask-clause-value : goal.returns-else-ask-clause-value
+returns-else-ask-clause-value c =
+    let kind = answer_took _ _ _ _ c.byte.ensures.value (sym c.ok.ensures.value ∙ c.in_ok-kind.was) in
+    let same = ap (λ (b : Bor (List ℕ)). b.now) c.byte.ensures.place.0 in
+    let position = ap (λ (b : List ℕ). field_at 1 b c.byte.new.self.at) (sym same) ∙ answer_took _ _ _ _ c.byte-2.ensures.value (sym c.ok-2.ensures.value ∙ c.in_ok-on.was) in
+    (
+      whole_switch _ _ _ kind position ∙ ap (λ (b : Bool). took (cond b ask switch c.in_ok-kind.kind (eqb c.in_ok-on.field-0 1)) c.byte-2.new.self.at) c.if-ask.false,
+      tt,
+      omega (arith, next _ 4 _ kind, next _ 1 _ position),
+    )

@@ -1,44 +1,54 @@
 -- `sheets::play::make` meets its contract: each event is the call of its name. Assumes nothing.
-use mathlib.Core.Path.{refl, ap, subst}
+use Rattle.std.proofs.Common.{rules, ◌≡◌, Ok, Err}
+use mathlib.Core.Path.{refl, sym, ap, ◌∙◌}
+use Rattle.std.specs.Result.{is_ok, IsErr}
+use Rattle.num.specs.Refusals.{code}
+use Rattle.cards.specs.Answers.{Reply, ok}
 use Rattle.chain.specs.Machine.{call}
 use Rattle.sheets.specs.Events.{reset, switch, step, ask, commit}
-use Rattle.sheets.specs.Promises.{Within, told}
-use Rattle.sheets.proofs.Turning.{same_event, made}
+use Rattle.sheets.specs.Promises.{told, refused_by}
+use Rattle.sheets.proofs.Turning.{made, is_ok_of, code_of}
 use Rattle.sheets.proofs.play.make.Goals as goal
 
-pub show-requires : goal.show-requires
-show-requires c = subst (Within c.args.sheet.now) c.in-Frame.is c.requires
-
-pub returns-in-Frame : goal.returns-in-Frame
-returns-in-Frame c = same_event (ap (told c.args.sheet.now) c.in-Frame.is) c.show.ensures
-
--- a call that writes no word, from its own promise and that of its answer
 pub returns-in-Reset : goal.returns-in-Reset
 unfolding call
-returns-in-Reset c = let a = c.args in
-    made reset _ a.station a.framebuffer.now a.history.now a.floats.now a.ints.now a.curve.now _ _ _
-    (ap (told a.sheet.now) c.in-Reset.is) c.reset.ensures refl c.answered.ensures
+returns-in-Reset c =
+    made (reset) _ _ _ _ _ _ _ c.reset.result _ _ (ap (told c.args.sheet.now) c.in-Reset.is) c.reset.ensures refl
+        (is_ok_of _ c.reset.result)
+        (code_of _ c.reset.result)
 
 pub returns-in-Switch : goal.returns-in-Switch
 unfolding call
-returns-in-Switch c = let a = c.args in
-    made (switch _ _) _ a.station a.framebuffer.now a.history.now a.floats.now a.ints.now a.curve.now _ _ _
-    (ap (told a.sheet.now) c.in-Switch.is) c.set_enabled.ensures refl c.answered-in-Switch.ensures
+returns-in-Switch c =
+    made (switch _ _) _ _ _ _ _ _ _ c.set_enabled.result _ _ (ap (told c.args.sheet.now) c.in-Switch.is) c.set_enabled.ensures refl
+        (is_ok_of _ c.set_enabled.result)
+        (code_of _ c.set_enabled.result)
 
-pub returns-in-Step : goal.returns-in-Step
+pub returns-in_err-cycle_lut-in-Step : goal.returns-in_err-cycle_lut-in-Step
 unfolding call
-returns-in-Step c = let a = c.args in
-    made step _ a.station a.framebuffer.now a.history.now a.floats.now a.ints.now a.curve.now _ _ _
-    (ap (told a.sheet.now) c.in-Step.is) c.cycle_lut.ensures refl c.stepped.ensures
+returns-in_err-cycle_lut-in-Step c =
+    let s : c.from_residual.result ≡ Err c.in_err-cycle_lut-in-Step.field-0.0 = search rules in
+    rw s (made (step) _ _ _ _ _ _ _ (Err c.in_err-cycle_lut-in-Step.field-0.0) _ _ (ap (told c.args.sheet.now) c.in-Step.is) c.cycle_lut.ensures refl
+        (ap is_ok (sym c.in_err-cycle_lut-in-Step.was) ∙ is_ok_of _ c.cycle_lut.result)
+        (ap code (sym c.in_err-cycle_lut-in-Step.was) ∙ code_of _ c.cycle_lut.result))
+
+pub returns-in_ok-cycle_lut-in-Step : goal.returns-in_ok-cycle_lut-in-Step
+unfolding call
+returns-in_ok-cycle_lut-in-Step c =
+    made (step) _ _ _ _ _ _ _ (Ok tt) _ _ (ap (told c.args.sheet.now) c.in-Step.is) c.cycle_lut.ensures refl
+        (ap is_ok (sym c.in_ok-cycle_lut-in-Step.was) ∙ is_ok_of _ c.cycle_lut.result)
+        (ap code (sym c.in_ok-cycle_lut-in-Step.was) ∙ code_of _ c.cycle_lut.result)
 
 pub returns-in-Ask : goal.returns-in-Ask
 unfolding call
-returns-in-Ask c = let a = c.args in
-    made (ask _ _) _ a.station a.framebuffer.now a.history.now a.floats.now a.ints.now a.curve.now _ _ _
-    (ap (told a.sheet.now) c.in-Ask.is) c.ask.ensures refl c.answered-in-Ask.ensures
+returns-in-Ask c =
+    made (ask _ _) _ _ _ _ _ _ _ c.ask.result _ _ (ap (told c.args.sheet.now) c.in-Ask.is) c.ask.ensures refl
+        (is_ok_of _ c.ask.result)
+        (code_of _ c.ask.result)
 
 pub returns-in-Commit : goal.returns-in-Commit
 unfolding call
-returns-in-Commit c = let a = c.args in
-    made commit _ a.station a.framebuffer.now a.history.now a.floats.now a.ints.now a.curve.now _ _ _
-    (ap (told a.sheet.now) c.in-Commit.is) c.commit.ensures refl c.answered-in-Commit.ensures
+returns-in-Commit c =
+    made (commit) _ _ _ _ _ _ _ c.commit.result _ _ (ap (told c.args.sheet.now) c.in-Commit.is) c.commit.ensures refl
+        (is_ok_of _ c.commit.result)
+        (code_of _ c.commit.result)
