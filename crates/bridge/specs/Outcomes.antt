@@ -1,7 +1,7 @@
 -- What the exports answer and leave: each is a call of cards or chain on the station of the state, through the one encoding. The number is what the call
 -- reports, 0 where it reports nothing, or 256 and the refusal's number; what a frame reports goes to a place of its own, since it may be above 255. Assumes
 -- nothing.
-use Rattle.std.specs.Prelude.{ℕ, ◌+◌, ◌*◌, ◌≡◌, cond, List, eqb, Float, length, drop}
+use Rattle.std.specs.Prelude.{ℕ, ◌+◌, ◌*◌, ◌≡◌, cond, List, eqb, Float, length, drop, Result}
 use Rattle.cards.specs.Alike.{chain_of}
 use Rattle.cards.specs.Answers.{Report, refusal, acceptance, Reply, reply, told, left}
 use Rattle.chain.specs.Answers.{reported_frame}
@@ -10,7 +10,8 @@ use Rattle.cards.specs.Card.{open_of}
 use Rattle.chain.specs.Chain.{depth}
 use Rattle.cards.specs.Write.{write_reply, write_into}
 use Rattle.cards.specs.declared.station.Station.{Station}
-use Rattle.chain.specs.declared.pipeline.Applied.{Applied}
+use Rattle.num.specs.declared.refusal.Refusal.{Refusal}
+use Rattle.passes.specs.declared.blur.Counts.{Counts}
 use Rattle.bridge.specs.State.{encoded, station_in, is_state}
 
 -- the number of a call, and the state that it leaves
@@ -93,9 +94,9 @@ framed_shown b old r =
     shown (framed_number r.answer) (left r.answer b (encoded r.station)) r.words r.past (framed_reports r.answer old)
 
 -- how the answer of a frame is kept: the number that is told, the state, and what is reported
-abbrev pub Kept : (b old : List ℕ) → Applied → (number : ℕ) → (b' new : List ℕ) → Type 0
-Kept b old r number b' new =
-    let a = reported_frame r.answer in (number ≡ framed_number a) × (b' ≡ left a b (encoded r.station)) × (new ≡ framed_reports a old)
+abbrev pub Kept : (b old : List ℕ) → Result Counts Refusal → Station → (number : ℕ) → (b' new : List ℕ) → Type 0
+Kept b old r s number b' new =
+    let a = reported_frame r in (number ≡ framed_number a) × (b' ≡ left a b (encoded s)) × (new ≡ framed_reports a old)
 
 -- a frame on the station of the state, by what it replies
 unfoldable pub framed_on : (Station → Framed) → (b words past old : List ℕ) → Shown

@@ -1,13 +1,15 @@
 -- A station in the 134 bytes that a host lends: the length of its card, the card followed by zeros to 83 bytes, for each of the twelve places of the station
 -- the width and the height that it holds by two bytes each, most significant first, the kind and the position of the switch that is asked for. Assumes
 -- nothing.
-use Rattle.std.specs.Prelude.{ℕ, ◌+◌, ◌-◌, ◌*◌, ◌/◌, ◌%◌, Bool, true, false, ◌&&◌, cond, List, [], ◌∷◌, ◌++◌, eqb, length, get_or, take, drop, replicate}
+use Rattle.std.specs.Prelude.{ℕ, ◌+◌, ◌-◌, ◌*◌, ◌/◌, ◌%◌, Bool, true, false, ◌&&◌, cond, List, [], ◌∷◌, ◌++◌, eqb, length, get_or, take, drop, replicate, Result, Ok, Err}
 use Rattle.num.specs.Held.{Held, sized}
-use Rattle.cards.specs.Answers.{ok, Reply, refusing}
+use Rattle.num.specs.declared.refusal.Refusal.{Refusal}
+use Rattle.num.specs.declared.refusal.Refusal.TheVariants.{BadStation}
+use Rattle.cards.specs.Answers.{ok}
 use Rattle.chain.specs.Calls.{rechain, pend}
 use Rattle.chain.specs.Chain.{with_held}
 use Rattle.cards.specs.Alike.{chain_of}
-use Rattle.cards.specs.Card.{accepted, open_of}
+use Rattle.cards.specs.Card.{open_of}
 use Rattle.cards.specs.Normal.{good_station}
 use Rattle.cards.specs.Written.{card_of}
 use Rattle.cards.specs.declared.station.Pending.{Pending}
@@ -89,5 +91,5 @@ unfoldable pub is_state : List ℕ → Bool
 is_state b = ok (open_of (card_in b)).answer && same_bytes (encoded (station_in b)) b
 
 -- the station of a state, or refusal 13
-unfoldable pub decoded : List ℕ → Reply
-decoded b = cond (is_state b) (accepted (station_in b)) (refusing (station_in b) 13)
+unfoldable pub decoded : List ℕ → Result Station Refusal
+decoded b = cond (is_state b) (Ok (station_in b)) (Err BadStation)

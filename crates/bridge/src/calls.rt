@@ -2,8 +2,8 @@
 // above 255, has a place of its own.
 ghost use Rattle.std.specs.Prelude.{◌≡◌, ◌+◌, not, eqb};
 ghost use Rattle.areas.specs.Areas.{judged};
-ghost use Rattle.cards.specs.Answers.{reply, reported, told as toldBy};
-ghost use Rattle.chain.specs.Answers.{reported_question};
+ghost use Rattle.chain.specs.Answers.{called};
+ghost use Rattle.num.specs.Refusals.{number_of};
 ghost use Rattle.chain.specs.Calls.{reset_reply, switch_reply, ask_reply, commit_reply, step_reply};
 ghost use Rattle.bridge.specs.Cabinets.{ShowsSource};
 ghost use Rattle.bridge.specs.Judged.{judged_told};
@@ -13,54 +13,49 @@ ghost use Rattle.bridge.specs.Outcomes.{Frames};
 
 use super::state::{decode, encode};
 use cabinet::{show, source_stops};
-use cards::station::{Answer, Station};
-use cards::writer::Writing;
+use cards::station::Station;
 use cards::{reader, writer};
 use chain::pipeline;
-use chain::pipeline::{Applied, Cycle, FrameAnswer, Question};
-use sheets::play::{PlayAnswer, play};
+use num::refusal::Refusal;
+use passes::blur::Counts;
+use sheets::play::play;
 
 // A refusal's number.
-fn refusal(k: u8) -> u32
-    ensures { result ≡ 256 + k }
+fn refusal(k: Refusal) -> u32
+    ensures { result ≡ 256 + number_of k }
 {
-    256 + k as u32
+    256 + k.number() as u32
 }
 
-// Tells the answer, and keeps the station where it is no refusal.
-fn keep(answer: Answer, station: Station, state: &mut [u8; 134]) -> u32
-    ensures { outcome result state.new ≡ answered state.old (reply (reported answer) station) }
+// Tells how a call was answered, and keeps its station where it is no refusal.
+fn keep(answer: Result<(), Refusal>, station: &Station, state: &mut [u8; 134]) -> u32
+    ensures { outcome result state.new ≡ answered state.old (called answer station.now) }
 {
-    if let Answer::Refused(k) = answer {
-        return refusal(k);
+    match answer {
+        Ok(()) => {
+            *state = encode(station);
+            0
+        }
+        Err(k) => refusal(k),
     }
-    *state = encode(station);
-    0
 }
 
 // Tells how a frame was answered, and keeps its station and what it reports where it is no refusal.
-fn keep_frame(applied: Applied, state: &mut [u8; 134], reports: &mut [u32; 2]) -> u32
-    ensures { Kept state.old reports.old applied result state.new reports.new }
+fn keep_frame(
+    answer: Result<Counts, Refusal>,
+    station: &Station,
+    state: &mut [u8; 134],
+    reports: &mut [u32; 2],
+) -> u32
+    ensures { Kept state.old reports.old answer station.now result state.new reports.new }
 {
-    let answer = applied.answer;
-    let station = applied.station;
     match answer {
-        FrameAnswer::Shown { clipped, samples } => {
+        Ok(Counts { clipped, samples }) => {
             *state = encode(station);
             *reports = [clipped, samples];
             0
         }
-        FrameAnswer::Refused(k) => refusal(k),
-    }
-}
-
-// Tells what a question was answered by.
-fn tell(answer: Question) -> u32
-    ensures { result ≡ toldBy (reported_question answer) }
-{
-    match answer {
-        Question::Number(n) => n as u32,
-        Question::Refused(k) => refusal(k),
+        Err(k) => refusal(k),
     }
 }
 
@@ -69,10 +64,13 @@ fn tell(answer: Question) -> u32
 pub extern "C" fn hedgemallow_open(card: &[u8], state: &mut [u8; 134]) -> u32
     ensures { outcome result state.new ≡ opening card.now state.old }
 {
-    let opened = reader::open(card);
-    let answer = opened.answer;
-    let station = opened.station;
-    keep(answer, station, state)
+    match reader::open(card) {
+        Ok(station) => {
+            *state = encode(&station);
+            0
+        }
+        Err(k) => refusal(k),
+    }
 }
 
 // The station's card at the start of the buffer, and its length.
@@ -81,17 +79,12 @@ pub extern "C" fn hedgemallow_write(state: &[u8; 134], buffer: &mut [u8]) -> u32
     ensures { (result ≡ write_told state.now buffer.old)
         × (buffer.new ≡ write_left state.now buffer.old) }
 {
-    let opened = decode(*state);
-    let answer = opened.answer;
-    let station = opened.station;
-    if let Answer::Refused(k) = answer {
-        return refusal(k);
-    }
-    let written = writer::write(station, buffer);
-    let told = written.answer;
-    match told {
-        Writing::Length(n) => n as u32,
-        Writing::Refused(k) => refusal(k),
+    let Ok(station) = decode(state) else {
+        return refusal(Refusal::BadStation);
+    };
+    match writer::write(&station, buffer) {
+        Ok(n) => n as u32,
+        Err(k) => refusal(k),
     }
 }
 
@@ -112,14 +105,11 @@ pub extern "C" fn hedgemallow_apply(
         curve.now reports.old result state.new framebuffer.new history.new floats.new
         ints.new reports.new }
 {
-    let opened = decode(*state);
-    let answer = opened.answer;
-    let station = opened.station;
-    if let Answer::Refused(k) = answer {
-        return refusal(k);
-    }
+    let Ok(mut station) = decode(state) else {
+        return refusal(Refusal::BadStation);
+    };
     let applied = pipeline::apply(
-        station,
+        &mut station,
         framebuffer,
         width,
         height,
@@ -128,7 +118,7 @@ pub extern "C" fn hedgemallow_apply(
         ints,
         curve,
     );
-    keep_frame(applied, state, reports)
+    keep_frame(applied, &station, state, reports)
 }
 
 // A frame of a source, enlarged. The source is looked at first.
@@ -150,18 +140,14 @@ pub extern "C" fn hedgemallow_show(
         history.old floats.old ints.old curve.now reports.old result state.new
         framebuffer.new history.new floats.new ints.new reports.new }
 {
-    let bad = source_stops(width, height, picture.len(), colours.len());
-    if bad != 0 {
-        return refusal(bad);
-    }
-    let opened = decode(*state);
-    let answer = opened.answer;
-    let station = opened.station;
-    if let Answer::Refused(k) = answer {
+    if let Err(k) = source_stops(width, height, picture.len(), colours.len()) {
         return refusal(k);
     }
+    let Ok(mut station) = decode(state) else {
+        return refusal(Refusal::BadStation);
+    };
     let applied = show(
-        station,
+        &mut station,
         picture,
         width,
         height,
@@ -172,7 +158,7 @@ pub extern "C" fn hedgemallow_show(
         ints,
         curve,
     );
-    keep_frame(applied, state, reports)
+    keep_frame(applied, &station, state, reports)
 }
 
 // Plays a sheet, with the buffers of a frame lent for all its events. How many were accepted and how many refused goes to a place of its own.
@@ -191,22 +177,24 @@ pub extern "C" fn hedgemallow_play(
         ints.old curve.now reports.old result state.new framebuffer.new history.new
         floats.new ints.new reports.new }
 {
-    let opened = decode(*state);
-    let answer = opened.answer;
-    let station = opened.station;
-    if let Answer::Refused(k) = answer {
-        return refusal(k);
-    }
-    let played = play(station, sheet, framebuffer, history, floats, ints, curve);
-    let told = played.answer;
-    let after = played.station;
-    match told {
-        PlayAnswer::Played { accepted, refused } => {
-            *state = encode(after);
-            *reports = [accepted, refused];
+    let Ok(mut station) = decode(state) else {
+        return refusal(Refusal::BadStation);
+    };
+    match play(
+        &mut station,
+        sheet,
+        framebuffer,
+        history,
+        floats,
+        ints,
+        curve,
+    ) {
+        Ok(played) => {
+            *state = encode(&station);
+            *reports = [played.accepted, played.refused];
             0
         }
-        PlayAnswer::Refused(k) => refusal(k),
+        Err(k) => refusal(k),
     }
 }
 
@@ -215,16 +203,11 @@ pub extern "C" fn hedgemallow_play(
 pub extern "C" fn hedgemallow_reset(state: &mut [u8; 134]) -> u32
     ensures { outcome result state.new ≡ on_state reset_reply state.old }
 {
-    let opened = decode(*state);
-    let answer = opened.answer;
-    let station = opened.station;
-    if let Answer::Refused(k) = answer {
-        return refusal(k);
-    }
-    let called = pipeline::reset(station);
-    let told = called.answer;
-    let after = called.station;
-    keep(told, after, state)
+    let Ok(mut station) = decode(state) else {
+        return refusal(Refusal::BadStation);
+    };
+    let called = pipeline::reset(&mut station);
+    keep(called, &station, state)
 }
 
 // Switches the first pass of that kind: 0 is off, any other number on.
@@ -232,16 +215,11 @@ pub extern "C" fn hedgemallow_reset(state: &mut [u8; 134]) -> u32
 pub extern "C" fn hedgemallow_set_enabled(state: &mut [u8; 134], kind: u8, on: u8) -> u32
     ensures { outcome result state.new ≡ on_state (switch_reply kind (not (eqb on 0))) state.old }
 {
-    let opened = decode(*state);
-    let answer = opened.answer;
-    let station = opened.station;
-    if let Answer::Refused(k) = answer {
-        return refusal(k);
-    }
-    let called = pipeline::set_enabled(station, kind, on != 0);
-    let told = called.answer;
-    let after = called.station;
-    keep(told, after, state)
+    let Ok(mut station) = decode(state) else {
+        return refusal(Refusal::BadStation);
+    };
+    let called = pipeline::set_enabled(&mut station, kind, on != 0);
+    keep(called, &station, state)
 }
 
 // Asks for a switch of the first pass of that kind: 0 is off, any other number on.
@@ -249,16 +227,11 @@ pub extern "C" fn hedgemallow_set_enabled(state: &mut [u8; 134], kind: u8, on: u
 pub extern "C" fn hedgemallow_ask(state: &mut [u8; 134], kind: u8, on: u8) -> u32
     ensures { outcome result state.new ≡ on_state (ask_reply kind (not (eqb on 0))) state.old }
 {
-    let opened = decode(*state);
-    let answer = opened.answer;
-    let station = opened.station;
-    if let Answer::Refused(k) = answer {
-        return refusal(k);
-    }
-    let called = pipeline::ask(station, kind, on != 0);
-    let told = called.answer;
-    let after = called.station;
-    keep(told, after, state)
+    let Ok(mut station) = decode(state) else {
+        return refusal(Refusal::BadStation);
+    };
+    let called = pipeline::ask(&mut station, kind, on != 0);
+    keep(called, &station, state)
 }
 
 // Makes the switch that was asked for.
@@ -266,16 +239,11 @@ pub extern "C" fn hedgemallow_ask(state: &mut [u8; 134], kind: u8, on: u8) -> u3
 pub extern "C" fn hedgemallow_commit(state: &mut [u8; 134]) -> u32
     ensures { outcome result state.new ≡ on_state commit_reply state.old }
 {
-    let opened = decode(*state);
-    let answer = opened.answer;
-    let station = opened.station;
-    if let Answer::Refused(k) = answer {
-        return refusal(k);
-    }
-    let called = pipeline::commit(station);
-    let told = called.answer;
-    let after = called.station;
-    keep(told, after, state)
+    let Ok(mut station) = decode(state) else {
+        return refusal(Refusal::BadStation);
+    };
+    let called = pipeline::commit(&mut station);
+    keep(called, &station, state)
 }
 
 // Steps the LUT to its next preset, and reports it.
@@ -283,21 +251,15 @@ pub extern "C" fn hedgemallow_commit(state: &mut [u8; 134]) -> u32
 pub extern "C" fn hedgemallow_cycle_lut(state: &mut [u8; 134]) -> u32
     ensures { outcome result state.new ≡ on_state step_reply state.old }
 {
-    let opened = decode(*state);
-    let answer = opened.answer;
-    let station = opened.station;
-    if let Answer::Refused(k) = answer {
-        return refusal(k);
-    }
-    let cycled = pipeline::cycle_lut(station);
-    let told = cycled.answer;
-    let after = cycled.station;
-    match told {
-        Cycle::Preset(p) => {
-            *state = encode(after);
-            p as u32
+    let Ok(mut station) = decode(state) else {
+        return refusal(Refusal::BadStation);
+    };
+    match pipeline::cycle_lut(&mut station) {
+        Ok(preset) => {
+            *state = encode(&station);
+            preset as u32
         }
-        Cycle::Refused(k) => refusal(k),
+        Err(k) => refusal(k),
     }
 }
 
@@ -310,16 +272,11 @@ pub extern "C" fn hedgemallow_set_depth(
 ) -> u32
     ensures { (outcome result state.new, history.new) ≡ depth_set depth state.old history.old }
 {
-    let opened = decode(*state);
-    let answer = opened.answer;
-    let station = opened.station;
-    if let Answer::Refused(k) = answer {
-        return refusal(k);
-    }
-    let called = pipeline::set_depth(station, history, depth);
-    let told = called.answer;
-    let after = called.station;
-    keep(told, after, state)
+    let Ok(mut station) = decode(state) else {
+        return refusal(Refusal::BadStation);
+    };
+    let called = pipeline::set_depth(&mut station, history, depth);
+    keep(called, &station, state)
 }
 
 // Document 01's K, the sum of the depths in the chain, for sizing the history.
@@ -327,13 +284,10 @@ pub extern "C" fn hedgemallow_set_depth(
 pub extern "C" fn hedgemallow_depth(state: &[u8; 134]) -> u32
     ensures { result ≡ depth_told state.now }
 {
-    let opened = decode(*state);
-    let answer = opened.answer;
-    let station = opened.station;
-    if let Answer::Refused(k) = answer {
-        return refusal(k);
-    }
-    pipeline::places(station) as u32
+    let Ok(station) = decode(state) else {
+        return refusal(Refusal::BadStation);
+    };
+    pipeline::places(&station) as u32
 }
 
 // Whether the first pass of that kind is on: 1, or 0 where it is off.
@@ -341,13 +295,13 @@ pub extern "C" fn hedgemallow_depth(state: &[u8; 134]) -> u32
 pub extern "C" fn hedgemallow_enabled(state: &[u8; 134], kind: u8) -> u32
     ensures { result ≡ enabled_told kind state.now }
 {
-    let opened = decode(*state);
-    let answer = opened.answer;
-    let station = opened.station;
-    if let Answer::Refused(k) = answer {
-        return refusal(k);
+    let Ok(station) = decode(state) else {
+        return refusal(Refusal::BadStation);
+    };
+    match pipeline::enabled(&station, kind) {
+        Ok(on) => on as u32,
+        Err(k) => refusal(k),
     }
-    tell(pipeline::enabled(station, kind))
 }
 
 // The LUT's preset.
@@ -355,13 +309,13 @@ pub extern "C" fn hedgemallow_enabled(state: &[u8; 134], kind: u8) -> u32
 pub extern "C" fn hedgemallow_preset(state: &[u8; 134]) -> u32
     ensures { result ≡ preset_told state.now }
 {
-    let opened = decode(*state);
-    let answer = opened.answer;
-    let station = opened.station;
-    if let Answer::Refused(k) = answer {
-        return refusal(k);
+    let Ok(station) = decode(state) else {
+        return refusal(Refusal::BadStation);
+    };
+    match pipeline::preset(&station) {
+        Ok(preset) => preset as u32,
+        Err(k) => refusal(k),
     }
-    tell(pipeline::preset(station))
 }
 
 // The totals of rectangles of a picture, three for each, at the front of the result; and how many words were read. It asks for no station.

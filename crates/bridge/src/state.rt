@@ -1,11 +1,11 @@
 // The station in the 134 bytes that a host lends: written, and read back where they are a state.
 ghost use Rattle.std.specs.Prelude.{◌≡◌, ◌*◌, ◌+◌, ◌≤◌, min, length};
-ghost use Rattle.cards.specs.Answers.{opened};
 ghost use Rattle.bridge.specs.State.{held_bytes, sizes_bytes, kind_byte, position_byte, encoded, held_in, hold_on, pending_of, same_bytes, decoded};
 
-use cards::reader::{Opened, open};
-use cards::station::{Answer, Pending, Record, Station, few};
-use cards::writer::{Writing, write};
+use cards::reader::open;
+use cards::station::{Pending, Record, Station};
+use cards::writer::write;
+use num::refusal::Refusal;
 use num::size::Size;
 
 // A side, from its two bytes.
@@ -16,9 +16,9 @@ fn side(high: u8, low: u8) -> u16
 }
 
 // What a record holds, from the four bytes at that place.
-fn held_in(state: [u8; 134], at: usize) -> Size
+fn held_in(state: &[u8; 134], at: usize) -> Size
     requires { at + 4 ≤ 134 }
-    ensures { result ≡ held_in at state }
+    ensures { result ≡ held_in at state.now }
 {
     let width = side(state[at], state[at + 1]);
     let height = side(state[at + 2], state[at + 3]);
@@ -26,19 +26,13 @@ fn held_in(state: [u8; 134], at: usize) -> Size
 }
 
 // The records of an opened card's station: each of its chain with what it holds, and those past n as they are, whatever the bytes say.
-fn hold_in(station: Station, state: [u8; 134]) -> [Record; 12]
-    ensures { result ≡ (hold_on state station).records }
+fn hold_in(station: &Station, state: &[u8; 134]) -> [Record; 12]
+    ensures { result ≡ (hold_on state.now station.now).records }
 {
-    let n = few(station.n);
     let mut records = station.records;
-    let mut i: usize = 0;
-    while i < n {
-        let r = records[i];
-        let on = r.on;
-        let pass = r.pass;
-        let held = held_in(state, 84 + 4 * i);
-        records[i] = Record { on, pass, held };
-        i += 1;
+    let n = station.chain().len();
+    for i in 0..n {
+        records[i].held = held_in(state, 84 + 4 * i);
     }
     records
 }
@@ -55,17 +49,13 @@ fn put_size(held: Size, part: &mut [u8])
 }
 
 // What each of the twelve records holds, one after the other.
-fn put_sizes(records: [Record; 12], part: &mut [u8])
+fn put_sizes(records: &[Record; 12], part: &mut [u8])
     requires { length part.old ≡ 48 }
-    ensures { part.new ≡ sizes_bytes records }
+    ensures { part.new ≡ sizes_bytes records.now }
 {
-    let mut i: usize = 0;
-    while i < 12 {
-        let r = records[i];
-        let held = r.held;
+    for i in 0..12 {
         let at = 4 * i;
-        put_size(held, &mut part[at..at + 4]);
-        i += 1;
+        put_size(records[i].held, &mut part[at..at + 4]);
     }
 }
 
@@ -75,7 +65,7 @@ fn kind_byte(pending: Pending) -> u8
 {
     match pending {
         Pending::Nothing => 0,
-        Pending::Switch { kind, on: _ } => kind,
+        Pending::Switch { kind, .. } => kind,
     }
 }
 
@@ -83,12 +73,10 @@ fn kind_byte(pending: Pending) -> u8
 fn position_byte(pending: Pending) -> u8
     ensures { result ≡ position_byte pending }
 {
-    if let Pending::Switch { kind: _, on } = pending {
-        if on {
-            return 1;
-        }
+    match pending {
+        Pending::Switch { on: true, .. } => 1,
+        _ => 0,
     }
-    0
 }
 
 // The switch that is asked for, from its two bytes.
@@ -105,33 +93,27 @@ fn pending_of(kind: u8, position: u8) -> Pending
 }
 
 // The bytes of a station; zeros where its card is not written.
-pub(crate) fn encode(station: Station) -> [u8; 134]
-    ensures { result ≡ encoded station }
+pub(crate) fn encode(station: &Station) -> [u8; 134]
+    ensures { result ≡ encoded station.now }
 {
     let mut state = [0u8; 134];
-    let written = write(station, &mut state[1..84]);
-    let answer = written.answer;
-    let Writing::Length(n) = answer else {
+    let Ok(n) = write(station, &mut state[1..84]) else {
         return state;
     };
-    let records = station.records;
-    let pending = station.pending;
-    put_sizes(records, &mut state[84..132]);
+    put_sizes(&station.records, &mut state[84..132]);
     state[0] = n as u8;
-    state[132] = kind_byte(pending);
-    state[133] = position_byte(pending);
+    state[132] = kind_byte(station.pending);
+    state[133] = position_byte(station.pending);
     state
 }
 
-fn same(xs: [u8; 134], ys: [u8; 134]) -> bool
-    ensures { result ≡ same_bytes xs ys }
+fn same(xs: &[u8; 134], ys: &[u8; 134]) -> bool
+    ensures { result ≡ same_bytes xs.now ys.now }
 {
-    let mut i: usize = 0;
-    while i < 134 {
+    for i in 0..134 {
         if xs[i] != ys[i] {
             return false;
         }
-        i += 1;
     }
     true
 }
@@ -147,33 +129,20 @@ fn card_end(length: u8) -> usize
 }
 
 // The station in the bytes, or refusal 13.
-pub(crate) fn decode(state: [u8; 134]) -> Opened
-    ensures { opened result ≡ decoded state }
+pub(crate) fn decode(state: &[u8; 134]) -> Result<Station, Refusal>
+    ensures { result ≡ decoded state.now }
 {
     let end = card_end(state[0]);
-    let opened = open(&state[1..end]);
-    let answer = opened.answer;
-    let inside = opened.station;
-    let records = hold_in(inside, state);
-    let n = inside.n;
-    let pending = pending_of(state[132], state[133]);
+    let Ok(inside) = open(&state[1..end]) else {
+        return Err(Refusal::BadStation);
+    };
     let station = Station {
-        records,
-        n,
-        pending,
+        records: hold_in(&inside, state),
+        n: inside.n,
+        pending: pending_of(state[132], state[133]),
     };
-    let damaged = Opened {
-        answer: Answer::Refused(13),
-        station,
-    };
-    if let Answer::Refused(_) = answer {
-        return damaged;
+    if !same(&encode(&station), state) {
+        return Err(Refusal::BadStation);
     }
-    if !same(encode(station), state) {
-        return damaged;
-    }
-    Opened {
-        answer: Answer::Accepted,
-        station,
-    }
+    Ok(station)
 }

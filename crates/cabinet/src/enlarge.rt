@@ -5,13 +5,11 @@ ghost use Rattle.passes.specs.Rows.{sampled};
 ghost use Rattle.cabinet.specs.Promises.{Sourced};
 ghost use Rattle.cabinet.specs.Source.{bad_source_side, shown_by, enlarged_at};
 
+#[tactic(auto, unfolding(crate::specs::Source::bad_source_side))]
 pub(crate) fn bad_side(side: usize) -> bool
     ensures { result ≡ bad_source_side side }
 {
-    if side == 0 {
-        return true;
-    }
-    341 < side
+    side == 0 || 341 < side
 }
 
 // The word of a number.

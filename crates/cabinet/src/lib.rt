@@ -4,37 +4,39 @@
 
 ghost use Rattle.cabinet.specs.Promises.{Shows};
 ghost use Rattle.cabinet.specs.Source.{source_stops};
+ghost use Rattle.num.specs.Refusals.{code};
 ghost use Rattle.std.specs.Prelude.{◌≡◌};
 
 pub mod enlarge; // three by three words for each pixel
 
 use cards::station::Station;
 use chain::pipeline;
-use chain::pipeline::{Applied, FrameAnswer};
 use chain::refusals::stops;
+use num::refusal::Refusal;
+use passes::blur::Counts;
 
-// What is wrong with a source, by its sides and how many numbers and colours are lent: 21, or 0.
-pub fn source_stops(width: usize, height: usize, numbers: usize, colours: usize) -> u8
-    ensures { result ≡ source_stops width height numbers colours }
+#[tactic(auto, unfolding(crate::specs::Source::source_stops), using(crate::proofs::Sources::small))]
+// What is wrong with a source, by its sides and how many numbers and colours are lent.
+pub fn source_stops(
+    width: usize,
+    height: usize,
+    numbers: usize,
+    colours: usize,
+) -> Result<(), Refusal>
+    ensures { code result ≡ source_stops width height numbers colours }
 {
-    if enlarge::bad_side(width) {
-        return 21;
+    if enlarge::bad_side(width) || enlarge::bad_side(height) {
+        return Err(Refusal::BadSource);
     }
-    if enlarge::bad_side(height) {
-        return 21;
+    if numbers < height * width || colours < 64 {
+        return Err(Refusal::BadSource);
     }
-    if numbers < height * width {
-        return 21;
-    }
-    if colours < 64 {
-        return 21;
-    }
-    0
+    Ok(())
 }
 
 // A frame of the source: the source is looked at first, then the station is asked, and only then a word is written.
 pub fn show(
-    station: Station,
+    station: &mut Station,
     picture: &[u8],
     width: usize,
     height: usize,
@@ -44,21 +46,15 @@ pub fn show(
     floats: &mut [f32],
     ints: &mut [u32],
     curve: &[f32],
-) -> Applied
-    ensures { Shows width height picture.now colours.now station framebuffer.old history.old
-        floats.old ints.old curve.now result framebuffer.new history.new floats.new
-        ints.new }
+) -> Result<Counts, Refusal>
+    ensures { Shows width height picture.now colours.now station.old framebuffer.old
+        history.old floats.old ints.old curve.now result station.new framebuffer.new
+        history.new floats.new ints.new }
 {
-    let refusal = source_stops(width, height, picture.len(), colours.len());
-    if refusal != 0 {
-        return Applied {
-            answer: FrameAnswer::Refused(refusal),
-            station,
-        };
-    }
+    source_stops(width, height, picture.len(), colours.len())?;
     let wide = 3 * width;
     let high = 3 * height;
-    let refusal = stops(
+    stops(
         station,
         wide,
         high,
@@ -67,13 +63,7 @@ pub fn show(
         floats.len(),
         ints.len(),
         curve,
-    );
-    if refusal != 0 {
-        return Applied {
-            answer: FrameAnswer::Refused(refusal),
-            station,
-        };
-    }
+    )?;
     let count = high * wide;
     enlarge::enlarge(&mut framebuffer[..count], picture, width, height, colours);
     pipeline::apply(
