@@ -8,14 +8,15 @@ use borrow.Author.Tests.{le-leb}
 use lib.Dec.{leb}
 use lib.ListN.{length, take, drop, replicate, length-append, length-replicate, replicate-append-replicate, drop_of_length-le}
 use lib.Seq.{take_at, drop_at, sets, sets-eq}
-use Rattle.cards.specs.Answers.{Report, refusal, acceptance, Reply, reported_writing, written}
+use Rattle.std.specs.Prelude.{Result, Ok, Err}
+use Rattle.num.specs.Refusals.{number_of}
+use Rattle.num.specs.declared.refusal.Refusal.{Refusal}
+use Rattle.cards.specs.Answers.{Report, refusal, acceptance, Reply, written}
 use Rattle.cards.specs.Laws.Answers.{accepted-not}
 use Rattle.cards.specs.Normal.{good_station}
 use Rattle.cards.specs.Write.{write_reply, write_into}
 use Rattle.cards.specs.Written.{card_of}
 use Rattle.cards.specs.declared.station.Station.{Station}
-use Rattle.cards.specs.declared.writer.Writing.TheVariants.{Length, Refused}
-use Rattle.cards.specs.declared.writer.Written.{Written}
 use Rattle.cards.proofs.Longest.{station-short}
 use Rattle.bridge.specs.State.{padded, sizes_bytes, kind_byte, position_byte, laid, encoded}
 use Rattle.bridge.proofs.Sizes.{sizes_long}
@@ -41,14 +42,14 @@ pub record Wrote (s : Station) (n : ℕ) (card : List ℕ) : Type 0 where
   pub short : n ≤ 83
 
 -- what was answered, in the words of document 01
-abbrev answer_of_lem : Written → Report
-answer_of_lem r = reported_writing r.answer
+abbrev told_of : Station → Result ℕ Refusal → Report
+told_of s r = (written r s).answer
 
-module _ (s : Station) (r : Written) (card : List ℕ) (replied : written r ≡ write_reply s zeros) (into : card ≡ write_into s zeros) where
-  answer : answer_of_lem r ≡ (write_reply s zeros).answer
+module _ (s : Station) (r : Result ℕ Refusal) (card : List ℕ) (replied : written r s ≡ write_reply s zeros) (into : card ≡ write_into s zeros) where
+  answer : told_of s r ≡ (write_reply s zeros).answer
   answer = ap (λ (q : Reply). q.answer) replied
 
-  good_answer : good_station s ≡ true → answer_of_lem r ≡ acceptance (length (card_of s) ∷ [])
+  good_answer : good_station s ≡ true → told_of s r ≡ acceptance (length (card_of s) ∷ [])
   unfolding write_reply
   good_answer g = answer ∙ rw (g, le-leb (length (card_of s)) 83 (station-short s g)) refl
 
@@ -58,7 +59,7 @@ module _ (s : Station) (r : Written) (card : List ℕ) (replied : written r ≡ 
       into ∙ rw (g, le-leb (length (card_of s)) 83 (station-short s g))
       (ap (λ (l : List ℕ). card_of s ++ l) (drop-zeros (length (card_of s)) 83 (station-short s g)))
 
-  bad_answer : good_station s ≡ false → answer_of_lem r ≡ refusal 13
+  bad_answer : good_station s ≡ false → told_of s r ≡ refusal 13
   unfolding write_reply
   bad_answer g = answer ∙ rw g refl
 
@@ -67,23 +68,23 @@ module _ (s : Station) (r : Written) (card : List ℕ) (replied : written r ≡ 
   bad_into g = into ∙ rw g refl
 
   -- refused: a station that is not good
-  pub unwritten : (k : ℕ) → r.answer ≡ Refused k → 0 ∷ card ++ replicate 50 0 ≡ encoded s
+  pub unwritten : (k : Refusal) → r ≡ Err k → 0 ∷ card ++ replicate 50 0 ≡ encoded s
   unfolding encoded
   unwritten k e = go (good_station s) refl
     where
       go : (b : Bool) → good_station s ≡ b → 0 ∷ card ++ replicate 50 0 ≡ cond b (laid s) (replicate 134 0)
-      go true g = accepted-not _ k (sym (good_answer g) ∙ ap reported_writing e)
+      go true g = accepted-not _ (number_of k) (sym (good_answer g) ∙ ap (told_of s) e)
       go false g = ap (λ (l : List ℕ). 0 ∷ l ++ replicate 50 0) (bad_into g)
 
-  pub laid-card : (n : ℕ) → r.answer ≡ Length n → Wrote s n card
+  pub laid-card : (n : ℕ) → r ≡ Ok n → Wrote s n card
   laid-card n e = go (good_station s) refl
     where
       go : (b : Bool) → good_station s ≡ b → Wrote s n card
       go true g =
-          let same : acceptance (n ∷ []) ≡ acceptance (length (card_of s) ∷ []) = sym (ap reported_writing e) ∙ good_answer g in
+          let same : acceptance (n ∷ []) ≡ acceptance (length (card_of s) ∷ []) = sym (ap (told_of s) e) ∙ good_answer g in
           let long : n ≡ length (card_of s) = cc in
           record { good = g; long = long; whole = good_into g; short = omega (arith, long, station-short s g) }
-      go false g = accepted-not _ 13 (sym (ap reported_writing e) ∙ bad_answer g)
+      go false g = accepted-not _ 13 (sym (ap (told_of s) e) ∙ bad_answer g)
 
 -- the length before it and what is kept beside it after it: `rest` is what followed the card
 module _ (s : Station) (n : ℕ) (card : List ℕ) (w : Wrote s n card) where
@@ -123,12 +124,12 @@ module _ (s : Station) (n : ℕ) (card : List ℕ) (w : Wrote s n card) where
       (ap₂ (λ (a b : List ℕ). a ++ b) e (ap₂ (λ (i j : ℕ). i ∷ j ∷ []) kind position))))
 
 -- whatever the buffer, no card that is written is long
-pub card-short : (s : Station) (buf : List ℕ) (r : Written) (n : ℕ) → written r ≡ write_reply s buf → r.answer ≡ Length n → n ≤ 83
+pub card-short : (s : Station) (buf : List ℕ) (r : Result ℕ Refusal) (n : ℕ) → written r s ≡ write_reply s buf → r ≡ Ok n → n ≤ 83
 unfolding write_reply
 card-short s buf r n replied e = go (good_station s) (leb (length (card_of s)) (length buf)) refl refl
   where
     answer : acceptance (n ∷ []) ≡ (write_reply s buf).answer
-    answer = sym (ap reported_writing e) ∙ ap (λ (q : Reply). q.answer) replied
+    answer = sym (ap (told_of s) e) ∙ ap (λ (q : Reply). q.answer) replied
 
     go : (g room : Bool) → good_station s ≡ g → leb (length (card_of s)) (length buf) ≡ room → n ≤ 83
     go false room h k = accepted-not _ 13 (answer ∙ rw h refl)

@@ -5,11 +5,12 @@ use native.Mathlib.Decide.{dec_lt}
 use native.Mathlib.Numerals.{add-one}
 use mathlib.Core.Path.{◌≡◌, refl, ap, ap₂, sym, ◌∙◌}
 use mathlib.Core.List.{List, [], ◌∷◌, ◌++◌, append-nil, append_assoc}
-use lib.ListN.{length, get_or, take, drop, set, length-append, length-drop, length-set, take-append-drop, drop_of_length-le}
+use lib.ListN.{length, get_or, take, drop, set, length-append, length-drop, length-set, length-take, take-append-drop, drop_of_length-le}
 use lib.Seq.{sets, sets-eq, length-take-le, take_all, take_at, take-suc, take-suc-set, append_snoc, drop-drop, drop-set-lt, slice-cons}
 use lib.Seq.{get_or-drop, get_or_at, get_or-append-add}
 use Rattle.num.specs.Held.{Held, sized}
 use Rattle.cards.specs.Laws.Twelve.{of_twelve}
+use Rattle.cards.specs.Alike.{chain_of}
 use Rattle.cards.specs.Typed.{TypedChain}
 use Rattle.cards.specs.declared.station.Record.{Record}
 use Rattle.cards.specs.declared.station.Station.{Station}
@@ -158,12 +159,13 @@ drop-few n k rs e twelve = go (dec_lt n 12)
     go (yes h) = let same : k ≡ n = omega arith in ap (λ (j : ℕ). drop j rs) same
     go (no h) = drop_of_length-le rs {i = k} (omega (arith, twelve)) ∙ sym (drop_of_length-le rs {i = n} (omega (arith, twelve)))
 
-pub held_on : (b : List ℕ) (s : Station) {k i : ℕ} {records : List Record} → Hold b s.records k i records → length s.records ≡ 12
-    → (k ≡ min s.n 12) × (k ≤ 12) → k ≤ i → records ≡ (hold_on b s).records
-held_on b s {k} t twelve few end =
-    hold_all t twelve few.1 end
-    ∙ ap₂ (λ (chain rest : List Record). hold_in 84 b chain ++ rest) (of_twelve s.n k s.records few.0 twelve)
-    (drop-few s.n k s.records few.0 twelve)
+pub held_on : (b : List ℕ) (s : Station) (chain : List Record) {i : ℕ} {records : List Record} → Hold b s.records (length chain) i records → chain ≡ chain_of s
+    → (length chain ≤ 12) × (length s.records ≡ 12) → length chain ≤ i → records ≡ (hold_on b s).records
+held_on b s chain t is few end =
+    let count : length chain ≡ min s.n 12 = ap length is ∙ length-take s.n s.records ∙ ap (λ (n : ℕ). min s.n n) few.1 in
+    hold_all t few.1 few.0 end
+    ∙ ap₂ (λ (first rest : List Record). hold_in 84 b first ++ rest) (of_twelve s.n (length chain) s.records count few.1)
+    (drop-few s.n (length chain) s.records count few.1)
 
 -- ## Read back
 

@@ -336,6 +336,6 @@ pub extern "C" fn hedgemallow_areas(
             *read = [n];
             0
         }
-        Err(k) => refusal(k.number()),
+        Err(k) => refusal(k),
     }
 }

@@ -51,7 +51,8 @@ fn put_size(held: Size, part: &mut [u8])
 // What each of the twelve records holds, one after the other.
 fn put_sizes(records: &[Record; 12], part: &mut [u8])
     requires { length part.old ≡ 48 }
-    ensures { part.new ≡ sizes_bytes records.now }
+    ensures bytes { part.new ≡ sizes_bytes records.now }
+    ensures twelve { length records.now ≡ 12 }
 {
     for i in 0..12 {
         let at = 4 * i;

@@ -1,22 +1,23 @@
 -- `bridge::calls::hedgemallow_write` meets its contract: no state, or what the writing answers. Assumes nothing.
+use Rattle.std.proofs.Common.{ℕ, Result}
+use Rattle.num.specs.declared.refusal.Refusal.{Refusal}
+use Rattle.cards.specs.Answers.{told, written}
 use native.Mathlib.Omega.{arith}
 use mathlib.Core.Path.{ap, sym, ◌∙◌}
-use Rattle.cards.specs.Answers.{reported_writing, told}
-use Rattle.cards.specs.declared.writer.Writing.{Writing}
 use Rattle.bridge.proofs.Laid.{card-short}
 use Rattle.bridge.proofs.Replies.{read, unread, write_none, write_some}
 use Rattle.bridge.proofs.calls.hedgemallow_write.Goals as goal
 
-pub returns-in-Refused : goal.returns-in-Refused
-returns-in-Refused c = write_none _ _ _ _ (unread _ _ c.decode-opened.ensures _ c.in-Refused.is) c.refusal.ensures
+pub returns-in_default : goal.returns-in_default
+returns-in_default c = write_none _ _ _ (unread _ c.decode.result c.decode.ensures _ c.in_default.is) c.refusal.ensures
 
 pub overflow_cast-result : goal.overflow_cast-result
-overflow_cast-result c = record { fits = omega (arith, card-short _ _ c.write-written.result _ c.write-written.ensures.0 c.in-Length.is) }
+overflow_cast-result c = record { fits = omega (arith, card-short _ _ c.write.result _ c.write.ensures.0 c.in-Ok-write.is) }
 
-pub returns-in-Length : goal.returns-in-Length
-returns-in-Length c = write_some _ _ _ _ c.write-written.result _ (read _ _ c.decode-opened.ensures c.in_default.is) c.write-written.ensures.0
-    c.write-written.ensures.1 (sym (ap (λ (a : Writing). told (reported_writing a)) c.in-Length.is))
+pub returns-in-Ok-write : goal.returns-in-Ok-write
+returns-in-Ok-write c = write_some _ _ _ _ c.write.result _ (read _ c.decode.result c.decode.ensures _ c.in-Ok.is) c.write.ensures.0
+    c.write.ensures.1 (ap (λ (r : Result ℕ Refusal). told (written r c.in-Ok.station).answer) (sym c.in-Ok-write.is))
 
-pub returns-in-Refused-told : goal.returns-in-Refused-told
-returns-in-Refused-told c = write_some _ _ _ _ c.write-written.result _ (read _ _ c.decode-opened.ensures c.in_default.is) c.write-written.ensures.0
-    c.write-written.ensures.1 (c.refusal-in-Refused-told.ensures ∙ sym (ap (λ (a : Writing). told (reported_writing a)) c.in-Refused-told.is))
+pub returns-in-Err : goal.returns-in-Err
+returns-in-Err c = write_some _ _ _ _ c.write.result _ (read _ c.decode.result c.decode.ensures _ c.in-Ok.is) c.write.ensures.0
+    c.write.ensures.1 (c.refusal-in-Err.ensures ∙ ap (λ (r : Result ℕ Refusal). told (written r c.in-Ok.station).answer) (sym c.in-Err.is))

@@ -1,10 +1,6 @@
 -- `bridge::state::hold_in` meets its contract: the loop's invariant is `Hold`. Assumes nothing.
-use Prim.Native.Nat.{◌-◌}
 use Rattle.bridge.proofs.Sizes.{Hold}
 use Rattle.bridge.proofs.state.hold_in.Given as goal
 
 abbrev pub invariant-loop-i : goal.invariant-loop-i
 invariant-loop-i l = Hold l.state l.initial.records l.n l.i l.records
-
-abbrev pub decreases-loop-i : goal.decreases-loop-i
-decreases-loop-i l = l.n - l.i
