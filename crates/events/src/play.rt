@@ -1,5 +1,5 @@
 // What the card and the events do to a station, and the lines that are printed of it.
-ghost use Rattle.std.specs.Prelude.{◌≡◌, true, ◌*◌, ◌≤◌, ◌<◌, length};
+ghost use Rattle.std.specs.Prelude.{◌≡◌, true, ◌*◌, ◌≤◌, ◌<◌, length, IfErr};
 ghost use Rattle.cards.specs.Answers.{reported};
 ghost use Rattle.chain.specs.Answers.{reported_frame, reported_number};
 ghost use Rattle.cards.specs.Card.{open_of, opened};
@@ -180,8 +180,10 @@ fn open(bytes: &[u8]) -> Result<Station, Refusal>
 }
 
 // Opens the card. A refused one prints its line, whose length is answered, and ends the reading.
+#[tactic(auto, using(crate::specs::Laws::Buffers::fits))]
 pub fn begin(bytes: &[u8], out: &mut [u8; 7170]) -> Result<Station, usize>
-    ensures { Begins (open_of (card_in bytes.now)) result out.old out.new }
+    ensures short { IfErr result (λ n. n ≤ 7170) }
+    ensures line { Begins (open_of (card_in bytes.now)) result out.old out.new }
 {
     match open(bytes) {
         Ok(station) => Ok(station),
@@ -190,6 +192,7 @@ pub fn begin(bytes: &[u8], out: &mut [u8; 7170]) -> Result<Station, usize>
 }
 
 // Plays the event at the start of these bytes, which are all that the input had of it.
+#[tactic(auto, using(crate::specs::Laws::Buffers::fits))]
 pub fn play(
     station: &mut Station,
     bytes: &[u8],
@@ -199,7 +202,8 @@ pub fn play(
     ints: &mut [u32; 1024],
     out: &mut [u8; 7170],
 ) -> Played
-    ensures { Gives (played_of bytes.now station.old framebuffer.old history.old)
+    ensures short { result.length ≤ 7170 }
+    ensures outcome { Gives (played_of bytes.now station.old framebuffer.old history.old)
         result station.new framebuffer.new history.new floats.old floats.new
         ints.old ints.new out.old out.new }
 {
