@@ -13,7 +13,6 @@ fn digit(d: u32) -> u8
 }
 
 // A letter alone.
-#[tactic(auto, using(crate::proofs::Lines::printed))]
 pub(crate) fn letter_line(out: &mut [u8], letter: u8) -> usize
     requires { 2 ≤ length out.old }
     ensures { Printed (line_of letter []) result out.old out.new }
@@ -24,7 +23,7 @@ pub(crate) fn letter_line(out: &mut [u8], letter: u8) -> usize
 }
 
 // A letter and a number.
-#[tactic(auto, unfolding(crate::specs::Text::decimal), using(crate::proofs::Lines::printed))]
+#[tactic(auto, unfolding(crate::specs::Text::decimal))]
 pub(crate) fn number_line(out: &mut [u8], letter: u8, n: u8) -> usize
     requires { 6 ≤ length out.old }
     ensures { Printed (line_of letter (number_of n)) result out.old out.new }
@@ -51,7 +50,6 @@ pub(crate) fn number_line(out: &mut [u8], letter: u8, n: u8) -> usize
 }
 
 // A space and the six digits of a pixel.
-#[tactic(auto, using(crate::proofs::Lines::filled))]
 fn put_pixel(out: &mut [u8], p: u32)
     requires { length out.old ≡ 7 }
     ensures { out.new ≡ pixel_of p }
