@@ -2,25 +2,13 @@
 use Prim.Native.Nat.{ℕ, suc, ◌+◌, ◌-◌, ◌*◌, ◌≤◌, ◌<◌}
 use mathlib.Core.Path.{◌≡◌, refl, sym, ap, ◌∙◌, subst}
 use mathlib.Core.List.{List, [], ◌∷◌, ◌++◌, append_assoc, append-nil}
-use native.Mathlib.Nat.{not-suc-le-zero, zero-add}
+use native.Mathlib.Nat.{not-suc-le-zero}
 use native.Mathlib.Numerals.{add-one}
 use native.Mathlib.Omega.{arith}
 use lib.ListN.{length, get_or, set, take, drop, length-set, length-append, length-drop}
-use lib.Seq.{length-take-le, sets, sets-eq, drop-length, take_at, drop_at, drop-drop, drop-cons, set_at, append_snoc, drop-set-lt, take-suc, take_all}
+use lib.Seq.{take_at, drop_at, drop-drop, drop-cons, set_at, append_snoc, drop-set-lt, take-suc, take_all}
 use Rattle.events.specs.Text.{F, newline, pixel_of, pixels_of, line}
 use Rattle.events.specs.Buffers.{Printed}
-
--- straight-line code stored vs from the first byte on
-pub printed : (text vs out : List ℕ) (n : ℕ) → length vs ≤ length out → vs ≡ text → n ≡ length vs → Printed text n out (sets out 0 vs)
-printed text vs out n l e s = record {
-  size = s ∙ ap length e;
-  front = sets-eq vs out 0 (omega arith) ∙ ap (λ (k : ℕ). vs ++ drop k out) (zero-add (length vs)) ∙ ap (λ (ws : List ℕ). ws ++ drop (length ws) out) e;
-}
-
--- it stored the whole of a buffer
-pub filled : (vs out : List ℕ) → length out ≡ length vs → sets out 0 vs ≡ vs
-filled vs out l =
-    sets-eq vs out 0 (omega arith) ∙ ap (λ (k : ℕ). vs ++ drop k out) (zero-add (length vs) ∙ sym l) ∙ ap (λ (zs : List ℕ). vs ++ zs) (drop-length out) ∙ append-nil vs
 
 -- the front of a buffer holds the text, of `at` bytes
 pub record Laid (text : List ℕ) (at : ℕ) (out₀ out : List ℕ) : Type 0 where

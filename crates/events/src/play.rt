@@ -28,6 +28,15 @@ pub struct Played {
     pub more: bool,
 }
 
+// What is lent to each frame: its words, those of older frames, and scratch.
+#[derive(Drop)]
+pub struct Workspace {
+    pub framebuffer: [u32; 1024],
+    pub history: [u32; 8192],
+    pub floats: [f32; 6144],
+    pub ints: [u32; 1024],
+}
+
 // The line of a refusal.
 fn refusal_line(refusal: Refusal, out: &mut [u8]) -> usize
     requires { 6 ≤ length out.old }
@@ -140,23 +149,23 @@ fn frame(
 }
 
 // An event without fault, by its letter.
-fn call(
-    station: &mut Station,
-    bytes: &[u8],
-    framebuffer: &mut [u32; 1024],
-    history: &mut [u32; 8192],
-    floats: &mut [f32; 6144],
-    ints: &mut [u32; 1024],
-    out: &mut [u8; 7170],
-) -> usize
+fn call(station: &mut Station, bytes: &[u8], work: &mut Workspace, out: &mut [u8; 7170]) -> usize
     requires some { 0 < length bytes.now }
     requires fine { faultOf bytes.now ≡ 0 }
-    ensures { Gives (calledOf bytes.now station.old framebuffer.old history.old)
-        (went_on result) station.new framebuffer.new history.new floats.old floats.new
-        ints.old ints.new out.old out.new }
+    ensures { Gives (calledOf bytes.now station.old work.old.framebuffer work.old.history)
+        (went_on result) station.new work.new.framebuffer work.new.history work.old.floats work.new.floats
+        work.old.ints work.new.ints out.old out.new }
 {
     match bytes[0] {
-        b'F' => frame(station, bytes, framebuffer, history, floats, ints, out),
+        b'F' => frame(
+            station,
+            bytes,
+            &mut work.framebuffer,
+            &mut work.history,
+            &mut work.floats,
+            &mut work.ints,
+            out,
+        ),
         b'R' => answer_line(pipeline::reset(station), b'R', out),
         b'S' => answer_line(
             pipeline::set_enabled(station, bytes[1], bytes[2] == 1),
@@ -196,16 +205,13 @@ pub fn begin(bytes: &[u8], out: &mut [u8; 7170]) -> Result<Station, usize>
 pub fn play(
     station: &mut Station,
     bytes: &[u8],
-    framebuffer: &mut [u32; 1024],
-    history: &mut [u32; 8192],
-    floats: &mut [f32; 6144],
-    ints: &mut [u32; 1024],
+    work: &mut Workspace,
     out: &mut [u8; 7170],
 ) -> Played
     ensures short { result.length ≤ 7170 }
-    ensures outcome { Gives (played_of bytes.now station.old framebuffer.old history.old)
-        result station.new framebuffer.new history.new floats.old floats.new
-        ints.old ints.new out.old out.new }
+    ensures outcome { Gives (played_of bytes.now station.old work.old.framebuffer work.old.history)
+        result station.new work.new.framebuffer work.new.history work.old.floats work.new.floats
+        work.old.ints work.new.ints out.old out.new }
 {
     if bytes.is_empty() {
         return Played {
@@ -220,6 +226,6 @@ pub fn play(
             more: false,
         };
     }
-    let length = call(station, bytes, framebuffer, history, floats, ints, out);
+    let length = call(station, bytes, work, out);
     Played { length, more: true }
 }

@@ -6,7 +6,7 @@ ghost use Rattle.std.specs.Prelude.{◌≡◌, ◌+◌, ◌≤◌, cond, length,
 ghost use Rattle.events.specs.Events.{head_wanted, event_wanted};
 
 use cards::station::Station;
-use events::play::Played;
+use events::play::{Played, Workspace};
 use events::{event, play};
 
 // Standard input by its number, which the functions of `io` take.
@@ -16,10 +16,7 @@ pub const STDIN_FILENO: i32 = 0;
 #[derive(Drop)]
 pub struct Player {
     input: [u8; 4096],
-    framebuffer: [u32; 1024],
-    history: [u32; 8192],
-    floats: [f32; 6144],
-    ints: [u32; 1024],
+    work: Workspace,
     out: [u8; 7170],
 }
 
@@ -57,10 +54,12 @@ impl Player {
     pub fn new() -> Player {
         Player {
             input: io::buffer(),
-            framebuffer: [0; 1024],
-            history: [0; 8192],
-            floats: [0.0; 6144],
-            ints: [0; 1024],
+            work: Workspace {
+                framebuffer: [0; 1024],
+                history: [0; 8192],
+                floats: [0.0; 6144],
+                ints: [0; 1024],
+            },
             out: [0; 7170],
         }
     }
@@ -78,15 +77,7 @@ impl Player {
         ensures { result.length ≤ 7170 }
     {
         let n = fetch(&mut self.input, false);
-        play::play(
-            station,
-            &self.input[..n],
-            &mut self.framebuffer,
-            &mut self.history,
-            &mut self.floats,
-            &mut self.ints,
-            &mut self.out,
-        )
+        play::play(station, &self.input[..n], &mut self.work, &mut self.out)
     }
 
     // The line that was printed last, of that length.
