@@ -2,31 +2,13 @@
 use Prim.Native.Nat.{ℕ, suc, ◌+◌, ◌-◌, ◌*◌, ◌≤◌, ◌<◌}
 use mathlib.Core.Path.{◌≡◌, refl, sym, ap, ◌∙◌, subst}
 use mathlib.Core.List.{List, [], ◌∷◌, ◌++◌, append_assoc, append-nil}
-use native.Mathlib.Nat.{not-suc-le-zero, zero-add}
+use native.Mathlib.Nat.{not-suc-le-zero}
 use native.Mathlib.Numerals.{add-one}
 use native.Mathlib.Omega.{arith}
 use lib.ListN.{length, get_or, set, take, drop, length-set, length-append, length-drop}
-use lib.Seq.{length-take-le, sets, sets-eq, drop-length, take_at, drop_at, drop-drop, drop-cons, set_at, append_snoc, drop-set-lt, take-suc, take_all}
+use lib.Seq.{take_at, drop_at, drop-drop, drop-cons, set_at, append_snoc, drop-set-lt, take-suc, take_all}
 use Rattle.events.specs.Text.{F, newline, pixel_of, pixels_of, line}
 use Rattle.events.specs.Buffers.{Printed}
-
--- straight-line code stored vs from the first byte on
-pub printed : (text vs out : List ℕ) (n : ℕ) → length vs ≤ length out → vs ≡ text → n ≡ length vs → Printed text n out (sets out 0 vs)
-printed text vs out n l e s = record {
-  size = s ∙ ap length e;
-  front = sets-eq vs out 0 (omega arith) ∙ ap (λ (k : ℕ). vs ++ drop k out) (zero-add (length vs)) ∙ ap (λ (ws : List ℕ). ws ++ drop (length ws) out) e;
-}
-
--- it stored the whole of a buffer
-pub filled : (vs out : List ℕ) → length out ≡ length vs → sets out 0 vs ≡ vs
-filled vs out l =
-    sets-eq vs out 0 (omega arith) ∙ ap (λ (k : ℕ). vs ++ drop k out) (zero-add (length vs) ∙ sym l) ∙ ap (λ (zs : List ℕ). vs ++ zs) (drop-length out) ∙ append-nil vs
-
--- the n bytes from k on as they are lent
-pub lent_length : (k n : ℕ) (out : List ℕ) → k + n ≤ length out → length (take (k + n - k) (drop k out)) ≡ n
-lent_length k n out l =
-    let e : k + n - k ≡ n = omega arith in
-    rw e (length-take-le n (drop k out) (simp length-drop (omega arith)))
 
 -- the front of a buffer holds the text, of `at` bytes
 pub record Laid (text : List ℕ) (at : ℕ) (out₀ out : List ℕ) : Type 0 where
@@ -76,31 +58,38 @@ pixels_snoc [] p = append-nil (pixel_of p)
 pixels_snoc (q ∷ ps) p = ap (λ (xs : List ℕ). pixel_of q ++ xs) (pixels_snoc ps p)
 
 -- the first i pixels are laid
-abbrev pub Shown : ℕ → List ℕ → ℕ → List ℕ → List ℕ → Type 0
-Shown i ps at out₀ out = (i ≤ length ps) × (at ≡ 1 + 7 * i) × Laid (F ∷ pixels_of (take i ps)) at out₀ out
+abbrev pub Shown : ℕ → List ℕ → List ℕ → List ℕ → Type 0
+Shown i ps out₀ out = (i ≤ length ps) × Laid (F ∷ pixels_of (take i ps)) (1 + 7 * i) out₀ out
 
-pub no_pixel : (ps out : List ℕ) → 0 < length out → Shown 0 ps 1 (set out 0 F) (set out 0 F)
+pub no_pixel : (ps out : List ℕ) → 0 < length out → Shown 0 ps (set out 0 F) (set out 0 F)
 unfolding pixels_of
-no_pixel ps out l = (omega arith, refl, first F out l)
+no_pixel ps out l = (omega arith, first F out l)
 
-pub next-pixel : (i : ℕ) (ps : List ℕ) (at : ℕ) (out₀ out new : List ℕ) → Shown i ps at out₀ out → i < length ps → at + 7 ≤ length out₀ → new ≡ pixel_of (get_or ps i 0)
-    → Shown (i + 1) ps (at + 7) out₀ (take at out ++ (new ++ drop (at + 7 - at) (drop at out)))
-next-pixel i ps at out₀ out new t l room e =
+pub next-pixel : (i : ℕ) (ps : List ℕ) (out₀ out new : List ℕ) → Shown i ps (set out₀ 0 F) out → i < length ps → 2 + 7 * length ps ≤ length out₀
+    → new ≡ pixel_of (get_or ps i 0) → Shown (i + 1) ps (set out₀ 0 F) (take (1 + 7 * i) out ++ (new ++ drop (1 + 7 * i + 7 - (1 + 7 * i)) (drop (1 + 7 * i) out)))
+next-pixel i ps out₀ out new t l room e =
+    let at : ℕ = 1 + 7 * i in
+    let long : at + 7 ≤ length (set out₀ 0 F) = simp length-set (omega arith) in
+    let further : at + 7 ≡ 1 + 7 * (i + 1) = omega arith in
     let text : (F ∷ pixels_of (take i ps)) ++ new ≡ F ∷ pixels_of (take (i + 1) ps) =
     ap (λ (xs : List ℕ). F ∷ (pixels_of (take i ps) ++ xs)) e ∙ ap (λ (xs : List ℕ). F ∷ xs) (sym (pixels_snoc (take i ps) (get_or ps i 0)))
     ∙ ap (λ (xs : List ℕ). F ∷ pixels_of xs) (sym (take-suc ps i 0 l) ∙ ap (λ (k : ℕ). take k ps) (sym (add-one i))) in (
       omega arith,
-      omega (arith, t.1),
-      subst (λ (xs : List ℕ). Laid xs (at + 7) out₀ (take at out ++ (new ++ drop (at + 7 - at) (drop at out)))) text (part t.2 7 new room (sym (ap length e))),
+      subst (λ (n : ℕ). Laid (F ∷ pixels_of (take (i + 1) ps)) n (set out₀ 0 F) (take at out ++ (new ++ drop (at + 7 - at) (drop at out)))) further
+          (subst (λ (xs : List ℕ). Laid xs (at + 7) (set out₀ 0 F) (take at out ++ (new ++ drop (at + 7 - at) (drop at out)))) text (part t.1 7 new long (sym (ap length e)))),
     )
 
-pub line-ends : (i : ℕ) (ps : List ℕ) (at : ℕ) (out₀ out : List ℕ) → Shown i ps at (set out₀ 0 F) out → length ps ≤ i → 2 + 7 * length ps ≤ length out₀ → Printed (line F (pixels_of ps)) (at + 1) out₀ (set out at newline)
-line-ends i ps at out₀ out t l room =
+pub line-ends : (i : ℕ) (ps out₀ out : List ℕ) → Shown i ps (set out₀ 0 F) out → length ps ≤ i → 2 + 7 * length ps ≤ length out₀
+    → Printed (line F (pixels_of ps)) (1 + 7 * length ps + 1) out₀ (set out (1 + 7 * length ps) newline)
+line-ends i ps out₀ out t l room =
+    let at : ℕ = 1 + 7 * length ps in
+    let last : i ≡ length ps = omega (arith, t.0) in
+    let laid : Laid (F ∷ pixels_of (take i ps)) at (set out₀ 0 F) out = subst (λ (n : ℕ). Laid (F ∷ pixels_of (take i ps)) (1 + 7 * n) (set out₀ 0 F) out) last t.1 in
     let text : (F ∷ pixels_of (take i ps)) ++ newline ∷ [] ≡ line F (pixels_of ps) = ap (λ (xs : List ℕ). line F (pixels_of xs)) (take_all i ps l) in
-    let long : at + 1 ≡ length (line F (pixels_of ps)) = sym (sym (ap length text) ∙ simp length-append (omega (arith, t.2.size))) in
-    let inner : at < length (set out₀ 0 F) = simp length-set (omega (arith, t.0, t.1)) in
+    let long : at + 1 ≡ length (line F (pixels_of ps)) = sym (sym (ap length text) ∙ simp length-append (omega (arith, laid.size))) in
+    let inner : at < length (set out₀ 0 F) = simp length-set (omega arith) in
     record {
       size = long;
-      front = byte t.2 newline inner ∙ ap (λ (xs : List ℕ). xs ++ drop (at + 1) (set out₀ 0 F)) text
+      front = byte laid newline inner ∙ ap (λ (xs : List ℕ). xs ++ drop (at + 1) (set out₀ 0 F)) text
           ∙ ap (λ (xs : List ℕ). line F (pixels_of ps) ++ xs) (drop-set-lt (at + 1) out₀ 0 F (omega arith) ∙ ap (λ (k : ℕ). drop k out₀) long);
     }

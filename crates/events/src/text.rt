@@ -23,6 +23,7 @@ pub(crate) fn letter_line(out: &mut [u8], letter: u8) -> usize
 }
 
 // A letter and a number.
+#[tactic(auto, unfolding(crate::specs::Text::decimal))]
 pub(crate) fn number_line(out: &mut [u8], letter: u8, n: u8) -> usize
     requires { 6 ≤ length out.old }
     ensures { Printed (line_of letter (number_of n)) result out.old out.new }
@@ -68,14 +69,11 @@ pub(crate) fn frame_line(out: &mut [u8], frame: &[u32]) -> usize
     ensures { Printed (line_of F (pixels_of frame.now)) result out.old out.new }
 {
     out[0] = b'F';
-    let mut at = 1;
-    let mut i = 0;
-    while i < frame.len() {
-        let end = at + 7;
-        put_pixel(&mut out[at..end], frame[i]);
-        at = end;
-        i += 1;
+    for (i, pixel) in frame.iter().enumerate() {
+        let at = 1 + 7 * i;
+        put_pixel(&mut out[at..at + 7], *pixel);
     }
+    let at = 1 + 7 * frame.len();
     out[at] = b'\n';
     at + 1
 }

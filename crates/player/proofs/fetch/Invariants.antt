@@ -1,11 +1,9 @@
 -- `player::fetch` is safe and ends: each turn reads at least one of at most 3,075 bytes. Assumes nothing.
 use Prim.Native.Nat.{◌-◌, ◌≤◌}
-use mathlib.Core.Path.{◌≡◌}
-use lib.ListN.{length}
 use Rattle.player.proofs.fetch.Given as goal
 
 abbrev pub invariant-loop-n : goal.invariant-loop-n
-invariant-loop-n l = (length l.input ≡ length l.initial.input) × (l.n ≤ 3075) × (l.end ≤ 3075)
+invariant-loop-n l = (l.n ≤ 3075) × (l.end ≤ 3075)
 
 abbrev pub decreases-loop-n : goal.decreases-loop-n
 decreases-loop-n l = 3075 - l.n

@@ -1,7 +1,6 @@
 -- `replay::adler::adler` meets its contract: the sums of the first i bytes. Assumes nothing.
-use Prim.Native.Nat.{ℕ, ◌-◌, ◌≤◌}
+use Prim.Native.Nat.{ℕ, ◌≤◌}
 use mathlib.Core.List.{List}
-use lib.ListN.{length}
 use Rattle.passes.specs.Laws.Fold.{Folded}
 use Rattle.replay.specs.Adler.{sums, add_byte}
 use Rattle.replay.specs.declared.adler.Sums.{Sums}
@@ -13,8 +12,5 @@ pub record Summed (bytes : List ℕ) (s : Sums) (i : ℕ) : Type 0 where
   pub small_a : s.a ≤ 65520
   pub small_b : s.b ≤ 65520
 
-abbrev pub invariant-loop-i : goal.invariant-loop-i
-invariant-loop-i l = Summed l.bytes l.s l.i
-
-abbrev pub decreases-loop-i : goal.decreases-loop-i
-decreases-loop-i l = length l.bytes - l.i
+abbrev pub invariant-loop-byte : goal.invariant-loop-byte
+invariant-loop-byte l = Summed l.bytes l.s l.byte-index
