@@ -7,8 +7,7 @@ ghost use Rattle.texts.specs.Print.{settings_text, switch_text, line_text, lines
 ghost use Rattle.texts.specs.Words.{Begins};
 
 use super::names::{kind_name, preset_name, setting_name};
-use cards::check::is_good;
-use cards::station::{Pass, Record, Station, few, kind_of};
+use cards::station::{Pass, Record, Station};
 use inspect::decimal::exact;
 use inspect::settings::{Setting, setting_at};
 use num::refusal::Refusal;
@@ -184,7 +183,7 @@ fn put_place(out: &mut [u8], at: usize, pass: Pass, j: usize) -> usize
     requires { at + 165 ≤ length out.old }
     ensures { Puts (place_text pass j) 165 at out.old result out.new }
 {
-    put_setting(out, at, kind_of(pass), j, setting_at(pass, j))
+    put_setting(out, at, pass.kind(), j, setting_at(pass, j))
 }
 
 fn put_settings(out: &mut [u8], at: usize, pass: Pass) -> usize
@@ -212,7 +211,7 @@ fn put_record(out: &mut [u8], at: usize, r: &Record) -> usize
     requires { at + 677 ≤ length out.old }
     ensures { Puts (line_text r.now) 677 at out.old result out.new }
 {
-    let one = put_kind(out, at, kind_of(r.pass));
+    let one = put_kind(out, at, r.pass.kind());
     let two = put(out, one, b", ");
     let three = put_switch(out, two, r.on);
     let four = put_settings(out, three, r.pass);
@@ -233,16 +232,16 @@ fn put_chain(out: &mut [u8], chain: &[Record]) -> usize
 
 // The text of the station's chain at the start of the buffer, and its length; refused for a bad station, and for a buffer that may be too short: of fewer than
 // 8,192 bytes. No text is longer.
-pub fn print(station: Station, out: &mut [u8]) -> Result<usize, Refusal>
-    ensures { (result ≡ print_reply station out.old) × (out.new ≡ print_into station out.old) }
+pub fn print(station: &Station, out: &mut [u8]) -> Result<usize, Refusal>
+    ensures { (result ≡ print_reply station.now out.old) × (out.new ≡ print_into station.now out.old) }
 {
-    if !is_good(station) {
+    if !station.is_good() {
         return Err(Refusal::BadStation);
     }
     if out.len() < 8192 {
         return Err(Refusal::ShortCardBuffer);
     }
-    let chain = &station.records[..few(station.n)];
+    let chain = station.chain();
     if chain.is_empty() {
         Ok(put(out, 0, b"none\n"))
     } else {
