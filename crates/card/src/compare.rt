@@ -4,7 +4,7 @@ ghost use Rattle.std.specs.Prelude.{◌≤◌};
 use crate::names::text;
 use crate::{names, numbers, show};
 use cards::reader;
-use cards::station::{Answer, Pass, Record, Station, few, kind_of};
+use cards::station::{Pass, Record, Station};
 use cli::names as called;
 use cli::output::end;
 use cli::stream::STDOUT_FILENO;
@@ -13,21 +13,13 @@ use inspect::settings::setting_at;
 use std::io::Error;
 
 // The record at place i.
-fn record(station: Station, i: usize) -> Record {
-    if i < 12 {
-        station.records[i]
-    } else {
-        station.records[11]
-    }
-}
-
-fn kind(r: Record) -> u8 {
-    kind_of(r.pass)
+fn record(station: &Station, i: usize) -> Record {
+    station.records[i.min(11)]
 }
 
 fn setting(r: Record, j: usize) {
     match setting_at(r.pass, j) {
-        Some(s) => show::value(kind(r), s),
+        Some(s) => show::value(r.pass.kind(), s),
         None => text(b"none"),
     }
 }
@@ -40,7 +32,7 @@ fn place(i: usize) {
     }
 }
 
-fn length(rt: HostRuntime, i: usize, a: Station) -> Result<(), Error> {
+fn length(rt: HostRuntime, i: usize, a: &Station) -> Result<(), Error> {
     place(i);
     if i < a.n {
         end(rt, b" is on the first card only\n")
@@ -50,24 +42,24 @@ fn length(rt: HostRuntime, i: usize, a: Station) -> Result<(), Error> {
 }
 
 // The order of the passes is the same on every card, so the cards have different passes.
-fn kinds(rt: HostRuntime, i: usize, a: Station, b: Station) -> Result<(), Error> {
+fn kinds(rt: HostRuntime, i: usize, a: &Station, b: &Station) -> Result<(), Error> {
     place(i);
     text(b" is ");
-    called::kind(STDOUT_FILENO, kind(record(a, i)));
+    called::kind(STDOUT_FILENO, record(a, i).pass.kind());
     text(b" and ");
-    called::kind(STDOUT_FILENO, kind(record(b, i)));
+    called::kind(STDOUT_FILENO, record(b, i).pass.kind());
     end(
         rt,
         b": not the same passes, which stand by ascending kind on every card\n",
     )
 }
 
-fn switches(rt: HostRuntime, i: usize, a: Station, b: Station) -> Result<(), Error> {
+fn switches(rt: HostRuntime, i: usize, a: &Station, b: &Station) -> Result<(), Error> {
     let r = record(a, i);
     let s = record(b, i);
     place(i);
     text(b", ");
-    called::kind(STDOUT_FILENO, kind(r));
+    called::kind(STDOUT_FILENO, r.pass.kind());
     text(b", is ");
     names::switch(r.on);
     text(b" and ");
@@ -75,13 +67,13 @@ fn switches(rt: HostRuntime, i: usize, a: Station, b: Station) -> Result<(), Err
     end(rt, b"\n")
 }
 
-fn settings(rt: HostRuntime, i: usize, j: usize, a: Station, b: Station) -> Result<(), Error> {
+fn settings(rt: HostRuntime, i: usize, j: usize, a: &Station, b: &Station) -> Result<(), Error> {
     let r = record(a, i);
     place(i);
     text(b", ");
-    called::kind(STDOUT_FILENO, kind(r));
+    called::kind(STDOUT_FILENO, r.pass.kind());
     text(b": ");
-    called::setting(STDOUT_FILENO, kind(r), j);
+    called::setting(STDOUT_FILENO, r.pass.kind(), j);
     text(b" ");
     setting(r, j);
     text(b" and ");
@@ -100,9 +92,9 @@ fn depth(r: &Record) -> usize
 }
 
 // How many older frames a picture depends on: the depths of the persistence passes that are on, added up.
-fn mixed(station: Station) -> usize {
+fn mixed(station: &Station) -> usize {
     let mut depths = 0;
-    for r in &station.records[..few(station.n)] {
+    for r in station.chain() {
         depths += depth(r);
     }
     depths
@@ -110,8 +102,8 @@ fn mixed(station: Station) -> usize {
 
 // Whether a picture depends on the curve that is lent with its frame: colour is in the chain with a gamma other than 1. (Where it is off, the curve decides
 // a refusal still.)
-fn is_curved(station: Station) -> bool {
-    for r in &station.records[..few(station.n)] {
+fn is_curved(station: &Station) -> bool {
+    for r in station.chain() {
         if let Pass::ColorCorrection { gamma, .. } = r.pass {
             return gamma != 1.0;
         }
@@ -131,7 +123,7 @@ fn begin(frames: usize) {
 }
 
 // From when on two stations with these settings show the same picture.
-fn alike(rt: HostRuntime, station: Station) -> Result<(), Error> {
+fn alike(rt: HostRuntime, station: &Station) -> Result<(), Error> {
     text(b"alike: the same settings; the pictures are the same ");
     begin(mixed(station));
     if is_curved(station) {
@@ -140,7 +132,7 @@ fn alike(rt: HostRuntime, station: Station) -> Result<(), Error> {
     end(rt, b"\n")
 }
 
-fn opened(rt: HostRuntime, a: Station, b: Station) -> Result<(), Error> {
+fn opened(rt: HostRuntime, a: &Station, b: &Station) -> Result<(), Error> {
     match first_difference(a, b) {
         None => alike(rt, a),
         Some(Difference::Length(i)) => length(rt, i, a),
@@ -150,26 +142,13 @@ fn opened(rt: HostRuntime, a: Station, b: Station) -> Result<(), Error> {
     }
 }
 
-fn is_accepted(answer: Answer) -> bool {
-    match answer {
-        Answer::Accepted => true,
-        Answer::Refused(_) => false,
-    }
-}
-
 // Only cards that are accepted are compared: a refused one shows no picture.
 pub fn compared(rt: HostRuntime, card: &[u8], other: &[u8]) -> Result<(), Error> {
-    let one = reader::open(card);
-    let two = reader::open(other);
-    let first = one.answer;
-    let second = two.answer;
-    if !is_accepted(first) {
+    let Ok(a) = reader::open(card) else {
         return end(rt, b"not compared: the first card is refused\n");
-    }
-    if !is_accepted(second) {
+    };
+    let Ok(b) = reader::open(other) else {
         return end(rt, b"not compared: the second card is refused\n");
-    }
-    let a = one.station;
-    let b = two.station;
-    opened(rt, a, b)
+    };
+    opened(rt, &a, &b)
 }

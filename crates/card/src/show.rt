@@ -1,10 +1,9 @@
 // A card in words: its passes in order, how many samples their blurs take, and its normalised bytes; or why it is refused.
 use crate::names::text;
 use crate::{names, numbers};
-use cards::station::{Answer, Record, Station, few, kind_of};
-use cards::writer::Writing;
+use cards::station::{Record, Station};
 use cards::{reader, writer};
-use chain::samples::{Sampling, samples};
+use chain::samples::samples;
 use cli::output::end;
 use cli::stream::STDOUT_FILENO;
 use cli::{input, names as called, words};
@@ -33,7 +32,7 @@ fn setting(r: &Record, j: usize) {
         } else {
             text(b", ");
         }
-        let kind = kind_of(r.pass);
+        let kind = r.pass.kind();
         called::setting(STDOUT_FILENO, kind, j);
         text(b" ");
         value(kind, s);
@@ -45,7 +44,7 @@ fn record(rt: HostRuntime, r: &Record, i: usize) -> Result<(), Error> {
     text(b"  ");
     numbers::whole(i);
     text(b"  ");
-    called::kind(STDOUT_FILENO, kind_of(r.pass));
+    called::kind(STDOUT_FILENO, r.pass.kind());
     text(b", ");
     names::switch(r.on);
     for j in 0..4 {
@@ -55,8 +54,8 @@ fn record(rt: HostRuntime, r: &Record, i: usize) -> Result<(), Error> {
 }
 
 // A line for each pass of the chain.
-fn passes(rt: HostRuntime, station: Station) -> Result<(), Error> {
-    let chain = &station.records[..few(station.n)];
+fn passes(rt: HostRuntime, station: &Station) -> Result<(), Error> {
+    let chain = station.chain();
     if chain.is_empty() {
         return end(rt, b"  no pass: the picture is the frame\n");
     }
@@ -67,9 +66,9 @@ fn passes(rt: HostRuntime, station: Station) -> Result<(), Error> {
 }
 
 // A line for the samples that the blurs take at a size. No station that a card opens is refused, nor is a size that has sides.
-fn sampled(rt: HostRuntime, station: Station, width: usize, height: usize) -> Result<(), Error> {
+fn sampled(rt: HostRuntime, station: &Station, width: usize, height: usize) -> Result<(), Error> {
     match samples(station, width, height) {
-        Sampling::Number(n) => {
+        Ok(n) => {
             text(b"  samples: ");
             numbers::whole(n as usize);
             text(b" at ");
@@ -78,12 +77,12 @@ fn sampled(rt: HostRuntime, station: Station, width: usize, height: usize) -> Re
             numbers::whole(height);
             end(rt, b"\n")
         }
-        Sampling::Refused(_) => end(rt, b"  no samples\n"),
+        Err(_) => end(rt, b"  no samples\n"),
     }
 }
 
 // The same for the size that is asked for, if one is.
-fn asked(rt: HostRuntime, station: Station, extent: Option<Extent>) -> Result<(), Error> {
+fn asked(rt: HostRuntime, station: &Station, extent: Option<Extent>) -> Result<(), Error> {
     match extent {
         Some(Extent { width, height }) => sampled(rt, station, width, height),
         None => Ok(()),
@@ -91,17 +90,15 @@ fn asked(rt: HostRuntime, station: Station, extent: Option<Extent>) -> Result<()
 }
 
 // The card as every card of this station is written.
-fn normalised(rt: HostRuntime, station: Station) -> Result<(), Error> {
+fn normalised(rt: HostRuntime, station: &Station) -> Result<(), Error> {
     let mut card = [0u8; 83];
-    let written = writer::write(station, &mut card);
-    let answer = written.answer;
-    match answer {
-        Writing::Length(n) => {
+    match writer::write(station, &mut card) {
+        Ok(n) => {
             text(b"  normalised:");
             prefix(&card, n);
             end(rt, b"\n")
         }
-        Writing::Refused(_) => end(rt, b"  no card\n"),
+        Err(_) => end(rt, b"  no card\n"),
     }
 }
 
@@ -113,7 +110,7 @@ fn prefix(card: &[u8], n: usize) {
 }
 
 // A card that is accepted, in words. The samples are told of a frame of 256 by 240, and of the size that is asked for.
-fn accepted(rt: HostRuntime, station: Station, extent: Option<Extent>) -> Result<(), Error> {
+fn accepted(rt: HostRuntime, station: &Station, extent: Option<Extent>) -> Result<(), Error> {
     passes(rt, station)?;
     sampled(rt, station, 256, 240)?;
     asked(rt, station, extent)?;
@@ -122,14 +119,11 @@ fn accepted(rt: HostRuntime, station: Station, extent: Option<Extent>) -> Result
 
 // The card in words, or why it is refused.
 fn described(rt: HostRuntime, card: &[u8], extent: Option<Extent>) -> Result<(), Error> {
-    let opened = reader::open(card);
-    let answer = opened.answer;
-    let station = opened.station;
-    match answer {
-        Answer::Accepted => accepted(rt, station, extent),
-        Answer::Refused(k) => {
+    match reader::open(card) {
+        Ok(station) => accepted(rt, &station, extent),
+        Err(refusal) => {
             text(b"  ");
-            words::refused(rt, STDOUT_FILENO, card, k)
+            words::refused(rt, STDOUT_FILENO, card, refusal.number())
         }
     }
 }

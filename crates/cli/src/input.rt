@@ -117,6 +117,7 @@ fn fill(file: &mut File, out: &mut [u8]) -> Result<usize, Error>
     ensures { IfOk result (λ n. IsPrefixLen n out.new) }
 {
     let mut done = 0;
+    // No `for`: a read takes as many bytes as it finds, and the file's end ends it.
     while done < out.len() {
         let n = file.read(&mut out[done..])?;
         if n == 0 {

@@ -6,7 +6,7 @@ use inspect::layout::{Field, field_at};
 use raster::ppm::NotAFrame;
 use std::io::Error;
 
-// The trade's word of a refusal, as the papers have it.
+// The trade's word of a refusal, as the papers have it. By its number: `refused` takes any number, and may ask no more of those that call it.
 fn word(fd: i32, number: u8) {
     match number {
         1 => io::write_all(fd, b"torn card"),

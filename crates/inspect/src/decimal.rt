@@ -55,6 +55,7 @@ fn reduced(n: u32, p: usize) -> Fraction
 {
     let mut n = n;
     let mut p = p;
+    // No `for`: n and p are halved together, and both ends stand in one test.
     while 0 < p && n % 2 == 0 {
         n /= 2;
         p -= 1;

@@ -5,7 +5,7 @@ ghost use Rattle.inspect.specs.Difference.{settings_difference, record_differenc
 ghost use Rattle.inspect.specs.Private.{same_place};
 
 use super::settings::{Setting, setting_at};
-use cards::station::{Pass, Record, Station, few, kind_of};
+use cards::station::{Pass, Record, Station};
 use cards::writer::real_bits;
 
 // Where two chains differ first; places are counted from 0.
@@ -47,11 +47,12 @@ fn settings_difference(i: usize, p: Pass, q: Pass) -> Option<Difference>
 }
 
 // The first difference of the records at place i.
+#[tactic(auto, unfolding(crate::specs::Difference::record_difference))]
 fn record_difference(i: usize, a: &Record, b: &Record) -> Option<Difference>
     ensures { result ≡ record_difference i a.now b.now }
 {
     let switched = a.on != b.on;
-    if kind_of(a.pass) != kind_of(b.pass) {
+    if a.pass.kind() != b.pass.kind() {
         Some(Difference::Kind(i))
     } else if switched {
         Some(Difference::Switch(i))
@@ -80,8 +81,9 @@ fn chain_difference(a: &[Record], b: &[Record]) -> Option<Difference>
 }
 
 // The first difference of the chains of two stations, if there is one.
-pub fn first_difference(a: Station, b: Station) -> Option<Difference>
-    ensures { result ≡ difference_of a b }
+#[tactic(auto, unfolding(crate::specs::Difference::difference_of))]
+pub fn first_difference(a: &Station, b: &Station) -> Option<Difference>
+    ensures { result ≡ difference_of a.now b.now }
 {
-    chain_difference(&a.records[..few(a.n)], &b.records[..few(b.n)])
+    chain_difference(a.chain(), b.chain())
 }

@@ -3,7 +3,7 @@
 ghost use Rattle.std.specs.Prelude.{◌≡◌, ◌+◌, ◌<◌, ◌≤◌, ◌^◌};
 ghost use Rattle.inspect.specs.Layout.{Narrow, wide, nibble_at, widths_of, setting_in, end_of, in_record, field_of};
 
-use cards::fields::{ByteRead, byte};
+use cards::fields::Cursor;
 
 // Passes and their settings are counted from 0.
 #[derive(Clone, Copy)]
@@ -77,10 +77,8 @@ fn nibble(card: &[u8], p: usize) -> u8
     requires { p < 2 ^ 32 }
     ensures { result ≡ nibble_at card.now p }
 {
-    match byte(card, p, 4) {
-        ByteRead::Value(v, _) => v,
-        ByteRead::Refused(_) => 0,
-    }
+    let mut cursor = Cursor { bytes: card, at: p };
+    cursor.byte(4).unwrap_or(0)
 }
 
 // The field of the record at p, that of pass i, which `at` lies in.

@@ -1,36 +1,39 @@
 -- Names looked for one after another. Assumes nothing.
-use Prim.Native.Nat.{ℕ, suc, ◌+◌, ◌≤◌, ◌<◌}
+use Prim.Native.Nat.{ℕ, suc, ◌+◌, ◌<◌}
 use mathlib.Core.Bool.{Bool, true, false, cond}
-use mathlib.Core.List.{List, []}
-use mathlib.Core.Path.{◌≡◌, refl, sym, ap, ◌∙◌}
-use native.Mathlib.Numerals.{add-one}
+use mathlib.Core.List.{List, [], ◌∷◌}
+use mathlib.Core.Path.{◌≡◌, refl, sym, ap, ap₂, ◌∙◌}
+use native.Mathlib.Nat.{le_refl}
+use native.Mathlib.Omega.{arith}
 use borrow.Author.Tests.{lt-ltb, le-ltb}
-use lib.ListN.{length, get_or, drop, drop_of_length-le}
-use lib.Seq.{drop-cons}
-use Rattle.std.specs.Prelude.{Some, None}
+use lib.ListN.{length, get_or}
+use Rattle.std.specs.Prelude.{Option, Some, None, option_map}
+use Rattle.std.specs.List.{find, range_with_len}
 use Rattle.texts.specs.Names.{Name, found, below}
 use Rattle.texts.specs.Words.{is}
 
--- no name before place k of the list was the word
-pub record Looked (names : List Name) (word : List ℕ) (k : ℕ) : Type 0 where
-  pub left : found names word 0 ≡ found (drop k names) word k
+-- a number found is one of those that were looked at
+kept : (o : Option ℕ) → o ≡ option_map (λ x. x) o
+kept (Some x) = refl
+kept None = refl
 
-pub looked_none : (names : List Name) (word : List ℕ) → Looked names word 0
-looked_none names word = record { left = refl }
+step : (b : Bool) (k m n : ℕ) (o : Option ℕ) → k < m → o ≡ below m n → cond b (Some k) o ≡ below m (cond b k n)
+step true k m n o l e = rw (lt-ltb k m l) refl
+step false k m n o l e = e
 
-module _ {names : List Name} {word : List ℕ} {k : ℕ} (t : Looked names word k) where
-  here : k < length names → found names word 0 ≡ cond (is word (get_or names k [])) k (found (drop (suc k) names) word (suc k))
-  unfolding found
-  here l = t.left ∙ ap (λ (ns : List Name). found ns word k) (drop-cons names k [] l)
+-- the names from place k on
+look : (name : ℕ → Name) (word : List ℕ) (names : List Name) (k : ℕ) → ((j : ℕ) → j < length names → name (k + j) ≡ get_or names j [])
+    → find (λ i. is word (name i)) (range_with_len k (length names)) ≡ below (k + length names) (found names word k)
+unfolding found
+look name word [] k e = let none : k + 0 ≡ k = omega arith in sym (rw (none, le-ltb k k (le_refl k)) refl)
+look name word (n ∷ names) k e =
+    let here : name k ≡ n = ap name (omega arith) ∙ e 0 (omega arith) in
+    let next : (j : ℕ) → j < length names → name (k + 1 + j) ≡ get_or names j [] = λ j l. ap name (omega arith) ∙ e (suc j) (omega (arith, l)) in
+    let rest = find (λ i. is word (name i)) (range_with_len (k + 1) (length names)) in
+    let last : rest ≡ below (k + suc (length names)) (found names word (suc k)) =
+    look name word names (k + 1) next ∙ ap₂ (λ (m i : ℕ). below m (found names word i)) (omega arith) (omega arith) in
+    ap (λ (w : Name). cond (is word w) (Some k) rest) here ∙ step (is word n) k _ _ rest (omega arith) last
 
-  pub looked_on : {r : Bool} → k < length names → r ≡ is word (get_or names k []) → r ≡ false → Looked names word (k + 1)
-  looked_on l e f = record { left = rw add-one (here l ∙ rw (sym e ∙ f) refl) }
-
-  pub is_found : {r : Bool} → k < length names → r ≡ is word (get_or names k []) → r ≡ true → Some k ≡ below (length names) (found names word 0)
-  is_found l e f = let same : k ≡ found names word 0 = sym (here l ∙ rw (sym e ∙ f) refl) in rw (← same, lt-ltb k (length names) l) refl
-
-  pub not_found : length names ≤ k → None ≡ below (length names) (found names word 0)
-  unfolding found
-  not_found l =
-      let same : k ≡ found names word 0 = sym (t.left ∙ ap (λ (ns : List Name). found ns word k) (drop_of_length-le names l)) in
-      rw (← same, le-ltb k (length names) l) refl
+pub looked : (name : ℕ → Name) (word : List ℕ) (names : List Name) (o : Option ℕ) → ((j : ℕ) → j < length names → name j ≡ get_or names j [])
+    → option_map (λ x. x) o ≡ find (λ i. is word (name i)) (range_with_len 0 (length names)) → o ≡ below (length names) (found names word 0)
+looked name word names o e f = kept o ∙ f ∙ look name word names 0 (λ j l. ap name (omega arith) ∙ e j l) ∙ ap (λ (m : ℕ). below m (found names word 0)) (omega arith)

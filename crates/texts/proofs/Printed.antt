@@ -2,7 +2,7 @@
 use Prim.Native.Nat.{ℕ, zero, suc, ◌+◌, ◌-◌, ◌/◌, ◌%◌, ◌≤◌, ◌<◌}
 use mathlib.Core.Bool.{Bool, true, false, cond}
 use mathlib.Core.List.{List, [], ◌∷◌, ◌++◌}
-use mathlib.Core.Path.{◌≡◌, refl, ap, ap₂, ◌∙◌}
+use mathlib.Core.Path.{◌≡◌, refl, sym, ap, ap₂, ◌∙◌}
 use native.Mathlib.Nat.{not-suc-le-zero}
 use native.Mathlib.Numerals.{add-one}
 use native.Mathlib.Omega.{arith}
@@ -21,12 +21,14 @@ use Rattle.inspect.specs.declared.decimal.Point.{Point}
 use Rattle.inspect.specs.declared.settings.Setting.{Setting}
 use Rattle.inspect.specs.declared.settings.Setting.TheVariants.{Real, Whole}
 use Rattle.texts.specs.Names.{kind_name}
-use Rattle.std.specs.Prelude.{Option, Some, None, Ok, Err}
+use Rattle.std.specs.Prelude.{Option, Some, None, is_some, Ok, Err}
+use Rattle.num.specs.Laws.Bools.{false_true}
 use Rattle.num.specs.declared.refusal.Refusal.TheVariants.{BadStation, ShortCardBuffer}
 use Rattle.texts.specs.Print.{digit, down, pointed, sign_text, real_text, whole_text, count_text, value_text, label_text, setting_text, settings_text, switch_text}
-use Rattle.texts.specs.Print.{line_text, lines_text, text_of, print_reply, print_into, laid, Puts}
+use Rattle.texts.specs.Print.{line_text, lines_text, text_of, print_reply, print_into, laid, Puts, Lays}
+use Rattle.texts.specs.declared.print.Page.{Page}
 use Rattle.texts.specs.Words.{ascii}
-use Rattle.texts.proofs.Printing.{puts_none, puts_then, puts_as}
+use Rattle.texts.proofs.Printing.{lays_none, lays_then, lays_as}
 
 -- ## Digits, from the highest place down
 
@@ -82,14 +84,14 @@ second b xs ys e = rw e refl
 
 -- ## Values: an arm of the `match`
 
-pub real_value : (s : Option Setting) (x : Float) (kind at r : ℕ) (a o : List ℕ) → Puts (real_text x) 152 at a r o → s ≡ Some (Real x) → Puts (value_text kind s) 152 at a r o
-real_value s x kind at r a o p e = rw e p
+pub real_value : (s : Option Setting) (x : Float) (kind : ℕ) (p q : Page) → Lays (real_text x) 152 p q → s ≡ Some (Real x) → Lays (value_text kind s) 152 p q
+real_value s x kind p q l e = rw e l
 
-pub whole_value : (s : Option Setting) (v kind at r : ℕ) (a o : List ℕ) → Puts (count_text kind v) 13 at a r o → s ≡ Some (Whole v) → Puts (value_text kind s) 152 at a r o
-whole_value s v kind at r a o p e = rw e (puts_as _ 152 p refl (omega arith))
+pub whole_value : (s : Option Setting) (v kind : ℕ) (p q : Page) → Lays (count_text kind v) 13 p q → s ≡ Some (Whole v) → Lays (value_text kind s) 152 p q
+whole_value s v kind p q l e = rw e (lays_as _ 152 l refl (omega arith))
 
-pub no_value : (s : Option Setting) (kind at : ℕ) (a : List ℕ) → at + 152 ≤ length a → s ≡ None → Puts (value_text kind s) 152 at a at a
-no_value s kind at a l e = rw e (puts_none at 152 a (omega arith))
+pub no_value : (s : Option Setting) (kind : ℕ) (p : Page) → p.at + 152 ≤ length p.out.now → s ≡ None → Lays (value_text kind s) 152 p p
+no_value s kind p l e = rw e (lays_none 152 (omega arith))
 
 pub ruleset values = (real_value, whole_value, no_value)
 
@@ -102,14 +104,16 @@ at-start {text} {before} {after} {most} {r} p =
 
 -- ## Settings: the text of a value follows the label
 
-pub some_setting : (o : Option Setting) (s : Setting) (kind j at m r : ℕ) (a b n : List ℕ) → o ≡ Some s → Puts (label_text kind j) 13 at a m b → Puts (value_text kind o) 152 m b r n
-    → Puts (setting_text kind j o) 165 at a r n
+pub some_setting : (o : Option Setting) (kind j : ℕ) (p q r : Page) → is_some o ≡ true → Lays (label_text kind j) 13 p q → Lays (value_text kind o) 152 q r
+    → Lays (setting_text kind j o) 165 p r
 unfolding setting_text
-some_setting o s kind j at m r a b n e p q = rw e (puts_then p (rw e at q))
+some_setting (Some s) kind j p q r e a b = lays_then a b
+some_setting None kind j p q r e a b = false_true e
 
-pub no_setting : (o : Option Setting) (kind j at : ℕ) (a : List ℕ) → at + 165 ≤ length a → o ≡ None → Puts (setting_text kind j o) 165 at a at a
+pub no_setting : (o : Option Setting) (kind j : ℕ) (p : Page) → p.at + 165 ≤ length p.out.now → is_some o ≡ false → Lays (setting_text kind j o) 165 p p
 unfolding setting_text
-no_setting o kind j at a l e = rw e (puts_none at 165 a (omega arith))
+no_setting (Some s) kind j p l e = false_true (sym e)
+no_setting None kind j p l e = lays_none 165 (omega arith)
 
 -- ## Lines
 

@@ -1,14 +1,14 @@
 -- Texts laid into a buffer one after another. Assumes nothing.
-use Prim.Native.Nat.{ℕ, suc, ◌+◌, ◌≤◌, ◌<◌}
-use mathlib.Core.List.{List, [], ◌∷◌, ◌++◌, append_assoc, append-nil}
+use Prim.Native.Nat.{ℕ, ◌+◌, ◌≤◌}
+use mathlib.Core.List.{List, [], ◌++◌, append_assoc, append-nil}
 use mathlib.Core.Path.{◌≡◌, refl, sym, ap, ap₂, ◌∙◌}
-use native.Mathlib.Numerals.{add-one}
 use native.Mathlib.Omega.{arith}
 use borrow.Rule.Slice.PartMut.{put_mid}
 use native.Mathlib.Nat.{le_refl}
-use lib.ListN.{length, set, take, drop, length-append, length-set, length-drop, take-append-drop}
-use lib.Seq.{take_at, drop_at, drop-drop, length-take-le, set_split}
-use Rattle.texts.specs.Print.{laid, Puts}
+use lib.ListN.{length, take, drop, length-append, length-drop, take-append-drop}
+use lib.Seq.{take_at, drop_at, drop-drop, length-take-le}
+use Rattle.texts.specs.Print.{laid, Puts, Lays}
+use Rattle.texts.specs.declared.print.Page.{Page}
 
 -- ## The buffer
 
@@ -40,11 +40,6 @@ laid_then at xs ys out l =
     ap₂ (λ (p q : List ℕ). p ++ ys ++ q) (take_at (take at out ++ xs) (drop k out) k cut) rest
     ∙ ap (λ (p : List ℕ). p ++ drop (k + length ys) out) (append_assoc (take at out) xs ys)
     ∙ ap (λ (j : ℕ). take at out ++ (xs ++ ys) ++ drop j out) far
-
--- a store is a text of one byte
-pub laid_one : (at b : ℕ) (out : List ℕ) → at < length out → set out at b ≡ laid at (b ∷ []) out
-unfolding laid
-laid_one at b out l = set_split out at b l ∙ rw add-one (sym (append_assoc (take at out) (b ∷ []) (drop (suc at) out)))
 
 -- ## Texts put one after another
 
@@ -78,6 +73,20 @@ puts_as {xs} {m} {at} {r} {a} {b} ys n p e l = record {
   long = p.long;
   bytes = p.bytes ∙ ap (λ (zs : List ℕ). laid at zs a) e;
 }
+
+-- ## The same on a page, whose buffer is known by a name
+
+module _ {G : Type 0} where
+  pub lays_then : {xs ys : List ℕ} {m n at r s : ℕ} {a b c : List ℕ} {g h k : G} → Puts xs m at a r b × (h ≡ g) → Puts ys n r b s c × (k ≡ h)
+      → Puts (xs ++ ys) (m + n) at a s c × (k ≡ g)
+  lays_then p q = (puts_then p.0 q.0, q.1 ∙ p.1)
+
+  pub lays_as : {xs : List ℕ} {m at r : ℕ} {a b : List ℕ} {g h : G} (ys : List ℕ) (n : ℕ) → Puts xs m at a r b × (h ≡ g) → xs ≡ ys → m ≤ n
+      → Puts ys n at a r b × (h ≡ g)
+  lays_as ys n p e l = (puts_as ys n p.0 e l, p.1)
+
+  pub lays_none : {at : ℕ} {out : List ℕ} {g : G} (most : ℕ) → at ≤ length out → Puts [] most at out at out × (g ≡ g)
+  lays_none most l = (puts_none _ most _ l, refl)
 
 -- ## A loop that has a rest of the text still to put
 
@@ -115,20 +124,16 @@ putting_end {text} {before} {rest} {out} {at} {to} most t e l m =
       bytes = sym (laid_nil to out) ∙ ap (λ (r : List ℕ). laid to r out) (sym e) ∙ t.same;
     }
 
--- byte by byte, where the whole text has room
-module _ {text : List ℕ} {at : ℕ} {before : List ℕ} (room : at + length text ≤ length before) where
-  pub putting_here : {to b : ℕ} {rest more out : List ℕ} → Putting text at before rest to out → rest ≡ b ∷ more → to < length out
-  putting_here {to} {b} {rest} {more} {out} t e = omega (arith, t.far, t.long, ap length e, room)
+-- the same on a page
+pub record Laying (text : List ℕ) (before : Page) (rest : List ℕ) (now : Page) : Type 0 where
+  pub putting : Putting text before.at before.out.now rest now.at now.out.now
+  pub same : now.out.ghost_name ≡ before.out.ghost_name
 
-  pub putting_byte : {to b : ℕ} {rest more out : List ℕ} → Putting text at before rest to out → rest ≡ b ∷ more
-      → Putting text at before more (to + 1) (set out to b)
-  putting_byte {to} {b} {rest} {more} {out} t e =
-      let here : to < length out = putting_here t e in
-      putting_text {xs = b ∷ []} {m = 1} t e
-      (record { place = omega arith; few = omega arith; within = omega arith; long = length-set out to b; bytes = laid_one to b out here })
+pub laying_none : (text : List ℕ) (p : Page) → Laying text p text p
+laying_none text p = record { putting = putting_none text p.at p.out.now; same = refl }
 
-  pub putting_all : {to : ℕ} {rest out : List ℕ} (most : ℕ) → length text ≤ most → rest ≡ [] → Putting text at before rest to out
-      → Puts text most at before to out
-  putting_all {to} {rest} {out} most l e t =
-      let far : to ≡ at + length text = omega (arith, t.far, ap length e) in
-      putting_end most t e (omega arith) (omega (arith, room))
+pub laying_text : {text rest xs more : List ℕ} {m : ℕ} {p q r : Page} → Laying text p rest q → rest ≡ xs ++ more → Lays xs m q r → Laying text p more r
+laying_text t e l = record { putting = putting_text t.putting e l.0; same = l.1 ∙ t.same }
+
+pub laying_end : {text rest : List ℕ} {p q : Page} (most : ℕ) → Laying text p rest q → rest ≡ [] → q.at ≤ p.at + most → q.at ≤ length p.out.now → Lays text most p q
+laying_end most t e l m = (putting_end most t.putting e l m, t.same)

@@ -15,6 +15,7 @@ use Rattle.num.specs.declared.refusal.Refusal.{Refusal}
 use Rattle.num.specs.declared.refusal.Refusal.TheVariants.{BadStation, ShortCardBuffer}
 use Rattle.texts.specs.Names.{kind_name, preset_name, setting_name}
 use Rattle.texts.specs.Words.{ascii}
+use Rattle.texts.specs.declared.print.Page.{Page}
 
 -- ## Numbers
 
@@ -111,3 +112,7 @@ pub record Puts (text : List ℕ) (most at : ℕ) (before : List ℕ) (end : ℕ
   pub within : end ≤ length before
   pub long : length after ≡ length before
   pub bytes : after ≡ laid at text before
+
+-- The text was laid behind what stands in a page, whose buffer is the same still.
+abbrev pub Lays : (text : List ℕ) (most : ℕ) (before after : Page) → Type 0
+Lays text most before after = Puts text most before.at before.out.now after.at after.out.now × (after.out.ghost_name ≡ before.out.ghost_name)

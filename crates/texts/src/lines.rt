@@ -111,10 +111,7 @@ fn carded(on: bool, line: &[u8], kind: u8) -> Record
     Record {
         on,
         pass: pass_in(line, kind),
-        held: Size {
-            width: 0,
-            height: 0,
-        },
+        held: Size::NOTHING,
     }
 }
 

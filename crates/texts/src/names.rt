@@ -89,22 +89,12 @@ pub(crate) fn is_setting(word: &[u8], kind: u8, j: usize) -> bool
 pub(crate) fn find_kind(word: &[u8]) -> Option<u8>
     ensures { result ≡ below 11 (found kind_names word.now 0) }
 {
-    for kind in 0..11 {
-        if is(word, kind_name(kind)) {
-            return Some(kind);
-        }
-    }
-    None
+    (0..11).find(|kind| is(word, kind_name(*kind)))
 }
 
 // The preset that a word names.
 pub(crate) fn find_preset(word: &[u8]) -> Option<u8>
     ensures { result ≡ below 7 (found preset_names word.now 0) }
 {
-    for preset in 0..7 {
-        if is(word, preset_name(preset)) {
-            return Some(preset);
-        }
-    }
-    None
+    (0..7).find(|preset| is(word, preset_name(*preset)))
 }

@@ -7,9 +7,7 @@ ghost use Rattle.texts.specs.Lines.{line_of};
 
 use super::lines::{Fault, Line, faulty, line_of};
 use super::mistake::Mistake;
-use cards::check::is_good;
-use cards::reader::filler;
-use cards::station::{Pending, Record, Station, kind_of};
+use cards::station::{Pending, Record, Station};
 
 // What is read so far: the station with the passes, and whether it was said that there is none.
 #[derive(Clone, Copy)]
@@ -31,7 +29,7 @@ fn begun() -> Draft
 {
     Draft {
         station: Station {
-            records: [filler(); 12],
+            records: [Record::filler(); 12],
             n: 0,
             pending: Pending::Nothing,
         },
@@ -56,7 +54,7 @@ fn appended(s: Station, r: Record) -> Station
 fn with_pass(d: Draft, r: Record) -> Result<Draft, Fault>
     ensures { result ≡ with_pass d r }
 {
-    let kind = kind_of(r.pass);
+    let kind = r.pass.kind();
     if d.bare {
         return Err(faulty(Mistake::PassBesideNone, 0, kind, 0));
     }
@@ -64,7 +62,7 @@ fn with_pass(d: Draft, r: Record) -> Result<Draft, Fault>
         return Err(faulty(Mistake::TooManyPasses, 0, kind, 0));
     }
     let station = appended(d.station, r);
-    if !is_good(station) {
+    if !station.is_good() {
         return Err(faulty(Mistake::PassOutOfPlace, 0, kind, 0));
     }
     Ok(Draft {

@@ -1,17 +1,14 @@
 -- `texts::names::find_preset` meets its contract: name after name. Assumes nothing.
-use mathlib.Core.Path.{ap, ◌∙◌}
+use Rattle.std.proofs.Common.{rules, tests, ℕ, refl}
+use Rattle.std.proofs.lemmas.Iterator.{YieldsList-from_range}
+use Rattle.std.proofs.lemmas.Iterator.Search.{find_from_yields_List}
+use Rattle.texts.specs.Names.{preset_names, preset_name}
 use Rattle.texts.specs.Words.{is}
-use Rattle.texts.proofs.Naming.{looked_none, looked_on, is_found, not_found}
+use Rattle.texts.proofs.Naming.{looked}
 use Rattle.texts.proofs.names.find_preset.Goals as goal
 
-pub loop-preset-init : goal.loop-preset-init
-loop-preset-init c = looked_none _ _
-
-pub returns-then-is : goal.returns-then-is
-returns-then-is c = is_found c.loop-preset.invariant c.loop-preset-test.true (c.is.ensures ∙ ap (is _) c.preset_name.ensures) c.if-is.true
-
-pub loop-preset-preserved : goal.loop-preset-preserved
-loop-preset-preserved c = looked_on c.loop-preset.invariant c.loop-preset-test.true (c.is.ensures ∙ ap (is _) c.preset_name.ensures) c.if-is.false
-
 pub returns : goal.returns
-returns c = not_found c.loop-preset.invariant c.loop-preset-test.false
+returns c =
+    let word = c.args.word.now in
+    let first = find_from_yields_List (λ (k : ℕ). is word (preset_name k)) _ _ c.find.result c.find.ensures.ran (YieldsList-from_range 0 7 7 refl refl) (λ x b q k. search (rules, tests)) in
+    looked preset_name word preset_names c.find.result (λ j l. refl) first

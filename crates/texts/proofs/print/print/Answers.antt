@@ -1,12 +1,9 @@
 -- `texts::print::print` meets its contract: two refusals, or the chain as text. Assumes nothing.
-use mathlib.Core.Path.{◌≡◌, sym, ap, ◌∙◌}
 use borrow.Author.Rules.{rules}
-use borrow.Author.Tests.{eqb-true, eqb-false}
-use native.Mathlib.Nat.{le_refl}
-use lib.ListN.{length, take}
-use Rattle.cards.specs.Laws.Twelve.{unmapped, of_twelve}
+use mathlib.Core.Path.{sym, ap, ◌∙◌}
+use lib.Dec.{lit≤}
 use Rattle.texts.specs.Print.{text_of}
-use Rattle.texts.proofs.Printed.{unprinted, no_room, printed, text_none, text_some}
+use Rattle.texts.proofs.Printed.{unprinted, no_room, printed}
 use Rattle.texts.proofs.Printing.{puts_as}
 use Rattle.texts.proofs.print.print.Goals as goal
 
@@ -16,18 +13,7 @@ returns-then-not-is_good c = unprinted _ _ (sym c.is_good.ensures ∙ c.if-not-i
 pub returns-then-out-lt8192 : goal.returns-then-out-lt8192
 returns-then-out-lt8192 c = no_room _ _ (sym c.is_good.ensures ∙ c.if-not-is_good.false) c.if-out-lt8192.true
 
-pub returns-then-is_empty : goal.returns-then-is_empty
-returns-then-is_empty c =
-    let s = c.args.station in
-    let twelve : length s.records ≡ 12 = search (unmapped, rules) in
-    let chain = ap text_of (of_twelve s.n _ s.records c.few.ensures.0 twelve) in
-    printed s _ _ _ _ (sym c.is_good.ensures ∙ c.if-not-is_good.false) c.if-out-lt8192.false
-    (puts_as _ _ c.put.ensures (text_none (take c.few.result s.records) (eqb-true _ _ (sym c.is_empty.ensures ∙ c.if-is_empty.true)) ∙ chain) (le_refl _))
-
-pub returns-else-is_empty : goal.returns-else-is_empty
-returns-else-is_empty c =
-    let s = c.args.station in
-    let twelve : length s.records ≡ 12 = search (unmapped, rules) in
-    let chain = ap text_of (of_twelve s.n _ s.records c.few.ensures.0 twelve) in
-    printed s _ _ _ _ (sym c.is_good.ensures ∙ c.if-not-is_good.false) c.if-out-lt8192.false
-    (puts_as _ _ c.put_chain.ensures (text_some (take c.few.result s.records) (eqb-false _ _ (sym c.is_empty.ensures ∙ c.if-is_empty.false)) ∙ chain) (le_refl _))
+pub returns : goal.returns
+returns c =
+    let done = printed c.args.station.now _ _ _ _ (sym c.is_good.ensures ∙ c.if-not-is_good.false) c.if-out-lt8192.false (puts_as _ 8192 c.put_text.ensures.0 (ap text_of c.chain.ensures.chain) (lit≤ tt)) in
+    search rules
