@@ -25,9 +25,9 @@ module _ (w h : ℕ) (s : Station) (pixels past : List ℕ) (floats ints : ℕ) 
   words = unpacked (h * w) pixels
 
   -- a frame that is not refused is shown
-  is-shown : stops s w h (h * w) (length past) floats ints curve ≡ 0 → Calls.shown w h s words past curve ≡ replied w h s pixels past floats ints curve
+  pub is_shown : stops s w h (h * w) (length past) floats ints curve ≡ 0 → Calls.shown w h s words past curve ≡ replied w h s pixels past floats ints curve
   unfolding frame_reply_by
-  is-shown e =
+  is_shown e =
       let none : 0 ≡ stops s w h (length words) (length past) floats ints curve =
       sym (ap (λ (n : ℕ). stops s w h n (length past) floats ints curve) (length-unpacked (h * w) pixels) ∙ e) in
       accepts 0 (refusing_frame s words past) (Calls.shown w h s words past curve) none refl
@@ -40,7 +40,7 @@ unshown_keeps s file words past floats ints curve = go (parse_of (length words) 
         let r : Result = unless n (λ k. result (Refused k) s file words past)
         (among start (h * w) file words (shown w h (replied w h s (drop start file) past floats ints curve))) in
         ((clipped samples : ℕ) → r.outcome ≡ Shown clipped samples → ⊥) → r ≡ result r.outcome s file words past
-    asks w h start zero e unshown = absurd (unshown _ _ (ap (λ (r : Framed). outcome_of r.answer) (sym (is-shown w h s (drop start file) past floats ints curve e))))
+    asks w h start zero e unshown = absurd (unshown _ _ (ap (λ (r : Framed). outcome_of r.answer) (sym (is_shown w h s (drop start file) past floats ints curve e))))
     asks w h start (suc n) e unshown = refl
 
     go : (p : Parsed) →

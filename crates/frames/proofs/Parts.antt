@@ -1,51 +1,55 @@
 -- A file taken apart into its header and its pixels, and a framebuffer of which a frame is lent its words. Assumes nothing.
 use Prim.Native.Nat.{ℕ, zero, suc, ◌-◌, ◌*◌, ◌≤◌}
 use mathlib.Core.Path.{◌≡◌, refl, sym, ap, ◌∙◌, subst}
-use Rattle.std.specs.Prelude.{Err}
+use Rattle.std.specs.Prelude.{Ok, Err}
 use mathlib.Core.List.{List, ◌++◌, append-nil}
 use native.Mathlib.Nat.{mul-le-mul}
 use native.Mathlib.Omega.{arith}
 use lib.Ieee.{Float}
 use lib.ListN.{length, take, drop, length-drop, take-append-drop, drop_of_length-le}
 use lib.Seq.{length-take-le, take_all}
-use Rattle.num.specs.Refusals.{unless}
-use Rattle.num.specs.Laws.Refusals.{refuses, accepts}
+use Rattle.num.specs.Refusals.{unless, number_of}
+use Rattle.num.specs.Laws.Refusals.{number-some, refuses, accepts}
+use Rattle.num.specs.declared.refusal.Refusal.{Refusal}
+use Rattle.passes.specs.declared.blur.Counts.{Counts}
 use Rattle.raster.specs.Claims.{Whole}
 use Rattle.raster.specs.Ppm.{Parsed, number_of as reason_of, parse_of}
 use Rattle.raster.specs.Pixels.{unpacked, packed_bytes}
 use Rattle.raster.specs.declared.ppm.NotAFrame.{NotAFrame}
 use Rattle.raster.proofs.Taken.{taken-whole}
-use Rattle.chain.specs.Answers.{reported_frame, Applies}
-use Rattle.chain.specs.Laws.Answers.{stay}
-use Rattle.chain.specs.Calls.{Framed, float_room, stops, frame_reply}
-use Rattle.chain.specs.declared.pipeline.Applied.{Applied}
+use Rattle.chain.specs.Answers.{Applies}
+use Rattle.chain.specs.Calls.{Framed, stops, frame_reply, shown_by}
+use Rattle.cards.specs.Answers.{Report, refusal, acceptance}
 use Rattle.cards.specs.declared.station.Station.{Station}
-use Rattle.frames.specs.Frames.{Result, result, shown, among, replied, shows_of, by_parsed, filtered_of, outcome_of, Filters, Room}
-use Rattle.frames.specs.Outcome.{Refused, Answer, outcome}
-use Rattle.frames.specs.declared.Unshown.TheVariants as No
-use Rattle.frames.specs.declared.Filtered.{Filtered}
+use Rattle.frames.specs.Frames.{Result, result, shown, among, replied, shows_of, by_parsed, filtered_of, Filters, Room}
+use Rattle.frames.specs.Outcome.{Refused, Answer}
+use Rattle.frames.specs.declared.NotTaken.TheVariants as No
+use Rattle.frames.proofs.Kept.{is_shown}
 
 -- ## Show
 
-abbrev filtered : Answer → Station → Filtered
-filtered o s = record { outcome = o; station = s }
+-- a refusal's number, 0 for none
+abbrev refused_by : Report → ℕ
+refused_by (refusal k) = k
+refused_by (acceptance ns) = 0
 
-module _ (w h : ℕ) (s : Station) (pixels words past : List ℕ) (floats : List Float) (ints : List ℕ) (curve : List Float) (k : ℕ)
-    (asks : k ≡ stops s w h (length words) (length past) (length floats) (length ints) curve) (all : length words ≡ h * w) where
+module _ (w h : ℕ) (s : Station) (pixels words past : List ℕ) (floats : List Float) (ints : List ℕ) (curve : List Float) (all : length words ≡ h * w) where
   abbrev refused : ℕ → Result
   refused n = result (Refused n) s pixels words past
 
   abbrev taken : Result
   taken = shown w h (replied w h s pixels past (length floats) (length ints) curve)
 
-  number : k ≡ stops s w h (h * w) (length past) (length floats) (length ints) curve
-  number = rw (← all) asks
+  module _ {k : ℕ} (asks : k ≡ stops s w h (length words) (length past) (length floats) (length ints) curve) where
+    number : k ≡ stops s w h (h * w) (length past) (length floats) (length ints) curve
+    number = rw (← all) asks
 
   -- the station refuses the frame
-  pub unshown : (k ≡ 0 → ⊥)
-      → Filters (shows_of w h s pixels words past (length floats) (length ints) curve) (filtered (Err (No.Refused k)) s) pixels words past floats floats ints ints
-  unshown some =
-      subst (λ (x : Result). Filters x (filtered (Err (No.Refused k)) s) pixels words past floats floats ints ints) (refuses k refused taken number some)
+  pub unshown : (e : Refusal) → number_of e ≡ stops s w h (length words) (length past) (length floats) (length ints) curve
+      → Filters (shows_of w h s pixels words past (length floats) (length ints) curve) (Err (No.Refused e)) s pixels words past floats floats ints ints
+  unshown e asks =
+      subst (λ (x : Result). Filters x (Err (No.Refused e)) s pixels words past floats floats ints ints)
+      (refuses (number_of e) refused taken (number asks) (number-some e))
       (record {
         outcome = refl;
         station = refl;
@@ -56,26 +60,40 @@ module _ (w h : ℕ) (s : Station) (pixels words past : List ℕ) (floats : List
         ints_stay = refl;
       })
 
-  -- the call on the frame's words left r, and they were packed into all the bytes that were lent
-  pub shows : (given : List ℕ) (r : Applied) (o : Answer) (pixels' words' past' : List ℕ) (floats' : List Float) (ints' : List ℕ) → k ≡ 0
-      → given ≡ unpacked (length words) pixels → Applies w h s given past floats ints curve r words' past' floats' ints'
-      → outcome o ≡ outcome_of (reported_frame r.answer) → pixels' ≡ packed_bytes words' ++ drop (3 * length words') pixels → length pixels ≤ 3 * length words'
-      → Filters (shows_of w h s pixels words past (length floats) (length ints) curve) (filtered o r.station) pixels' words' past' floats floats' ints ints'
-  shows given r o pixels' words' past' floats' ints' none e a told packed fits =
-      let whole : pixels' ≡ packed_bytes words' =
-      packed ∙ ap (λ (xs : List ℕ). packed_bytes words' ++ xs) (drop_of_length-le pixels {i = 3 * length words'} fits) ∙ append-nil (packed_bytes words') in
-      let same : frame_reply w h s given past (length floats) (length ints) curve ≡ replied w h s pixels past (length floats) (length ints) curve = rw (e, all) in
-      subst (λ (x : Result). Filters x (filtered o r.station) pixels' words' past' floats floats' ints ints') (accepts k refused taken number none)
-      (subst (λ (q : Framed). Filters (shown w h q) (filtered o r.station) pixels' words' past' floats floats' ints ints') (a.replies ∙ same)
-      (record {
-        outcome = told;
-        station = refl;
-        file = whole;
-        words = refl;
-        past = refl;
-        floats_stay = stay r.answer (float_room w h) floats floats' a.floats_stay;
-        ints_stay = stay r.answer (h * w) ints ints' a.ints_stay;
-      }))
+  -- it takes the frame, and lends its words to the call
+  module _ (asks : 0 ≡ stops s w h (length words) (length past) (length floats) (length ints) curve) {given : List ℕ}
+      (written : given ≡ unpacked (length words) pixels) where
+    same : frame_reply w h s given past (length floats) (length ints) curve ≡ replied w h s pixels past (length floats) (length ints) curve
+    same = rw (written, all)
+
+    -- the call left what has a prime, and its words were packed into all the bytes that were lent
+    pub shows : {c : Counts} {t : Station} {pixels' words' past' : List ℕ} {floats' : List Float} {ints' : List ℕ}
+        → Applies w h s given past floats ints curve (Ok c) t words' past' floats' ints'
+        → pixels' ≡ packed_bytes words' ++ drop (3 * length words') pixels → length pixels ≤ 3 * length words'
+        → Filters (shows_of w h s pixels words past (length floats) (length ints) curve) (Ok c) t pixels' words' past' floats floats' ints ints'
+    shows {c} {t} {pixels'} {words'} {past'} {floats'} {ints'} a packed fits =
+        let whole : pixels' ≡ packed_bytes words' =
+        packed ∙ ap (λ (xs : List ℕ). packed_bytes words' ++ xs) (drop_of_length-le pixels {i = 3 * length words'} fits) ∙ append-nil (packed_bytes words') in
+        subst (λ (x : Result). Filters x (Ok c) t pixels' words' past' floats floats' ints ints') (accepts 0 refused taken (number asks) refl)
+        (subst (λ (q : Framed). Filters (shown w h q) (Ok c) t pixels' words' past' floats floats' ints ints') (a.replies ∙ same)
+        (record {
+          outcome = refl;
+          station = refl;
+          file = whole;
+          words = refl;
+          past = refl;
+          floats_stay = a.floats_stay;
+          ints_stay = a.ints_stay;
+        }))
+
+    -- the call does not refuse it
+    pub takes : {e : Refusal} {t : Station} {words' past' : List ℕ} {floats' : List Float} {ints' : List ℕ}
+        → Applies w h s given past floats ints curve (Err e) t words' past' floats' ints' → ⊥
+    unfolding shown_by
+    takes {e} a =
+        number-some e
+        (ap (λ (q : Framed). refused_by q.answer)
+        (a.replies ∙ same ∙ sym (is_shown w h s pixels past (length floats) (length ints) curve (sym (number asks)))))
 
 -- ## Filter
 
@@ -89,9 +107,9 @@ module _ (s : Station) (file words past : List ℕ) (floats : List Float) (ints 
 
   -- no frame: nothing changes
   pub no_frame : (k : NotAFrame) → Parsed.Refused (reason_of k) ≡ parse_of (length words) file
-      → Filters done (filtered (Err (No.NoFrame k)) s) file words past floats floats ints ints
+      → Filters done (Err (No.NoFrame k)) s file words past floats floats ints ints
   no_frame k e =
-      subst (λ (x : Result). Filters x (filtered (Err (No.NoFrame k)) s) file words past floats floats ints ints) (by-parsed (Parsed.Refused (reason_of k)) e)
+      subst (λ (x : Result). Filters x (Err (No.NoFrame k)) s file words past floats floats ints ints) (by-parsed (Parsed.Refused (reason_of k)) e)
       (record {
         outcome = refl;
         station = refl;
@@ -115,21 +133,21 @@ module _ (s : Station) (file words past : List ℕ) (floats : List Float) (ints 
         ap (λ (xs : List ℕ). take start file ++ (pixels' ++ xs)) (drop_of_length-le (drop start file) {i = length file - start} (simp length-drop (omega arith)))
         ∙ ap (λ (xs : List ℕ). take start file ++ xs) (append-nil pixels')
 
-    pub shown_in : (pixels : List ℕ) (r : Filtered) (past' : List ℕ) (floats' : List Float) (ints' : List ℕ)
+    pub shown_in : (pixels : List ℕ) (r : Answer) (t : Station) (past' : List ℕ) (floats' : List Float) (ints' : List ℕ)
         → Parsed.Frame w h start ≡ parse_of (length words) file → pixels ≡ drop start file
-        → Filters (shows_of w h s pixels (take (h * w) words) past (length floats) (length ints) curve) r pixels' words' past' floats floats' ints ints'
-        → Filters done r file' buffer' past' floats floats' ints ints'
+        → Filters (shows_of w h s pixels (take (h * w) words) past (length floats) (length ints) curve) r t pixels' words' past' floats floats' ints ints'
+        → Filters done r t file' buffer' past' floats floats' ints ints'
     unfolding unless
-    shown_in pixels r past' floats' ints' e part g =
-        subst (λ (x : Result). Filters x r file' buffer' past' floats floats' ints ints') (by-parsed (Parsed.Frame w h start) e)
+    shown_in pixels r t past' floats' ints' e part g =
+        subst (λ (x : Result). Filters x r t file' buffer' past' floats floats' ints ints') (by-parsed (Parsed.Frame w h start) e)
         (go (stops s w h (h * w) (length past) (length floats) (length ints) curve) (rw part at g))
       where
         taken : Result
         taken = shown w h (replied w h s (drop start file) past (length floats) (length ints) curve)
 
         go : (n : ℕ)
-            → Filters (unless n (λ k. result (Refused k) s (drop start file) (take (h * w) words) past) taken) r pixels' words' past' floats floats' ints ints'
-            → Filters (unless n (λ k. result (Refused k) s file words past) (among start (h * w) file words taken)) r file' buffer' past' floats floats' ints ints'
+            → Filters (unless n (λ k. result (Refused k) s (drop start file) (take (h * w) words) past) taken) r t pixels' words' past' floats floats' ints ints'
+            → Filters (unless n (λ k. result (Refused k) s file words past) (among start (h * w) file words taken)) r t file' buffer' past' floats floats' ints ints'
         go zero g = record {
           outcome = g.outcome;
           station = g.station;

@@ -6,8 +6,7 @@ use Rattle.raster.specs.Ppm.{header_cut, pixels_cut, left_over, unread, Parsed, 
 use Rattle.cards.specs.Answers.{Report, refusal, acceptance}
 use Rattle.chain.specs.Calls.{Framed, float_room, stops, frame_reply}
 use Rattle.cards.specs.declared.station.Station.{Station}
-use Rattle.frames.specs.Outcome.{Outcome, Shown, NoFrame, Refused, outcome as told}
-use Rattle.frames.specs.declared.Filtered.{Filtered}
+use Rattle.frames.specs.Outcome.{Outcome, Shown, NoFrame, Refused, Answer, outcome as told}
 
 -- what a frame's answer is, in the code's words: acceptance reports two numbers, how many channels were clipped and how many samples were taken
 abbrev pub outcome_of : Report → Outcome
@@ -88,9 +87,9 @@ filtered_of s file words past floats ints curve = by_parsed (parse_of (length wo
 -- ## What the functions promise
 
 -- the scratch words that stay are those past the free ones
-pub record Filters (x : Result) (r : Filtered) (file' words' past' : List ℕ) (floats floats' : List Float) (ints ints' : List ℕ) : Type 0 where
-  pub outcome : told r.outcome ≡ x.outcome
-  pub station : r.station ≡ x.station
+pub record Filters (x : Result) (r : Answer) (s' : Station) (file' words' past' : List ℕ) (floats floats' : List Float) (ints ints' : List ℕ) : Type 0 where
+  pub outcome : told r ≡ x.outcome
+  pub station : s' ≡ x.station
   pub file : file' ≡ x.file
   pub words : words' ≡ x.words
   pub past : past' ≡ x.past

@@ -5,8 +5,8 @@ use Rattle.areas.specs.Areas.{Answer}
 use Rattle.areas.specs.Areas as totals
 use Rattle.raster.specs.Pixels.{unpacked}
 use Rattle.raster.specs.Ppm.{number_of, Parsed, parse_of}
-use Rattle.frames.specs.declared.judge.NoTotals.{NoTotals}
-use Rattle.frames.specs.declared.judge.NoTotals.TheVariants as No
+use Rattle.frames.specs.declared.NotTaken.{NotTaken}
+use Rattle.frames.specs.declared.NotTaken.TheVariants as No
 
 -- the totals are there, and so many words were read; the file is no frame that can be taken, by the number of specs/Ppm.antt of crate raster; the
 -- rectangles are refused, by the number of the papers' tables
@@ -16,7 +16,7 @@ pub data Judged : Type 0 where
   Refused : ℕ → Judged
 
 -- what the code answers, so
-abbrev pub judged : Result ℕ NoTotals → Judged
+abbrev pub judged : Result ℕ NotTaken → Judged
 judged (Ok n) = Read n
 judged (Err (No.NoFrame k)) = NoFrame (number_of k)
 judged (Err (No.Refused k)) = Refused (papers.number_of k)

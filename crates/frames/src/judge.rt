@@ -2,36 +2,10 @@
 ghost use Rattle.std.specs.Prelude.{◌≡◌, ◌*◌};
 ghost use Rattle.frames.specs.Frames.{Room};
 ghost use Rattle.frames.specs.Judge.{judged, measured_of, in_file};
-ghost use Rattle.frames.specs.declared.judge.NoTotals.TheVariants as No;
 
-use num::refusal::Refusal;
-use raster::ppm::{Frame, NotAFrame};
+use super::NotTaken;
+use raster::ppm::Frame;
 use raster::{pixels, ppm};
-
-// Why there are no totals.
-#[derive(Clone, Copy, Debug, PartialEq, Eq)]
-pub enum NoTotals {
-    // The file is no frame that can be taken.
-    NoFrame(NotAFrame),
-    // The rectangles are refused.
-    Refused(Refusal),
-}
-
-impl From<NotAFrame> for NoTotals {
-    ghost from_gives = { λ k e. e ≡ No.NoFrame k };
-
-    fn from(k: NotAFrame) -> NoTotals {
-        NoTotals::NoFrame(k)
-    }
-}
-
-impl From<Refusal> for NoTotals {
-    ghost from_gives = { λ k e. e ≡ No.Refused k };
-
-    fn from(k: Refusal) -> NoTotals {
-        NoTotals::Refused(k)
-    }
-}
 
 // A frame: its pixels and its words, just as many as it has.
 fn measure(
@@ -41,7 +15,7 @@ fn measure(
     words: &mut [u32],
     areas: &[u16],
     res: &mut [u64],
-) -> Result<u32, NoTotals>
+) -> Result<u32, NotTaken>
     requires { Room (height * width) words.old pixels.now }
     ensures { (judged result, words.new, res.new) ≡ measured_of width height pixels.now areas.now res.old }
 {
@@ -56,7 +30,7 @@ pub fn totals(
     words: &mut [u32],
     areas: &[u16],
     res: &mut [u64],
-) -> Result<u32, NoTotals>
+) -> Result<u32, NotTaken>
     ensures { (judged result, words.new, res.new) ≡ in_file words.old file.now areas.now res.old }
 {
     let Frame {

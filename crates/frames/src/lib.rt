@@ -3,9 +3,9 @@
 
 ghost use Rattle.std.specs.Prelude.{◌≡◌, ◌*◌, length};
 ghost use Rattle.raster.specs.Ppm.{parse_of};
-ghost use Rattle.chain.specs.Answers.{reported_frame};
-ghost use Rattle.frames.specs.Outcome.{outcome, fault_number};
-ghost use Rattle.frames.specs.Frames.{Room, Filters, shows_of, filtered_of, outcome_of, number_of, fault_of};
+ghost use Rattle.frames.specs.Outcome.{fault_number};
+ghost use Rattle.frames.specs.Frames.{Room, Filters, shows_of, filtered_of, number_of, fault_of};
+ghost use Rattle.frames.specs.declared.NotTaken.TheVariants as No;
 
 pub mod area; // a rectangle in words
 pub mod curve; // the curve that a file holds
@@ -13,46 +13,40 @@ pub mod judge; // the totals of rectangles of the frame that a file holds
 
 use cards::station::Station;
 use chain::pipeline;
-use chain::pipeline::FrameAnswer;
 use chain::refusals::stops;
+use num::refusal::Refusal;
+use passes::blur::Counts;
 use raster::ppm::{Frame, NotAFrame};
 use raster::{pixels, ppm};
 
-// The picture is in the file; so many channels were clipped, and so many samples taken.
-#[derive(Clone, Copy)]
-pub struct Shown {
-    pub clipped: u32,
-    pub samples: u32,
-}
-
-// Why there is no picture.
+// Why nothing is made of a file.
 #[derive(Clone, Copy, Debug, PartialEq, Eq)]
-pub enum Unshown {
+pub enum NotTaken {
     // The file is no frame that can be taken.
     NoFrame(NotAFrame),
-    // The station refused the frame, by the number of the papers' tables.
-    Refused(u8),
+    // What was asked of its frame is refused.
+    Refused(Refusal),
 }
 
-// What became of a file, and the station after it.
-#[derive(Clone, Copy)]
-pub struct Filtered {
-    pub outcome: Result<Shown, Unshown>,
-    pub station: Station,
+impl From<NotAFrame> for NotTaken {
+    ghost from_gives = { λ k e. e ≡ No.NoFrame k };
+
+    fn from(k: NotAFrame) -> NotTaken {
+        NotTaken::NoFrame(k)
+    }
 }
 
-fn answered(answer: FrameAnswer) -> Result<Shown, Unshown>
-    ensures { outcome result ≡ outcome_of (reported_frame answer) }
-{
-    match answer {
-        FrameAnswer::Shown { clipped, samples } => Ok(Shown { clipped, samples }),
-        FrameAnswer::Refused(k) => Err(Unshown::Refused(k)),
+impl From<Refusal> for NotTaken {
+    ghost from_gives = { λ k e. e ≡ No.Refused k };
+
+    fn from(k: Refusal) -> NotTaken {
+        NotTaken::Refused(k)
     }
 }
 
 // A frame: its pixels and its words, just as many as it has. They are written once the station takes it.
 fn show(
-    station: Station,
+    station: &mut Station,
     pixels: &mut [u8],
     width: usize,
     height: usize,
@@ -61,13 +55,13 @@ fn show(
     floats: &mut [f32],
     ints: &mut [u32],
     curve: &[f32],
-) -> Filtered
+) -> Result<Counts, NotTaken>
     requires { Room (height * width) words.old pixels.old }
-    ensures { Filters (shows_of width height station pixels.old words.old history.old
+    ensures { Filters (shows_of width height station.old pixels.old words.old history.old
         (length floats.old) (length ints.old) curve.now)
-        result pixels.new words.new history.new floats.old floats.new ints.old ints.new }
+        result station.new pixels.new words.new history.new floats.old floats.new ints.old ints.new }
 {
-    let refusal = stops(
+    stops(
         station,
         width,
         height,
@@ -76,20 +70,11 @@ fn show(
         floats.len(),
         ints.len(),
         curve,
-    );
-    if refusal != 0 {
-        return Filtered {
-            outcome: Err(Unshown::Refused(refusal)),
-            station,
-        };
-    }
+    )?;
     pixels::unpack(words, pixels);
-    let applied = pipeline::apply(station, words, width, height, history, floats, ints, curve);
+    let counts = pipeline::apply(station, words, width, height, history, floats, ints, curve)?;
     pixels::pack(pixels, words);
-    Filtered {
-        outcome: answered(applied.answer),
-        station: applied.station,
-    }
+    Ok(counts)
 }
 
 // Why a file is no frame of at most `most` pixels, if it is none. `more` says that the file goes on past these bytes. Where they end
@@ -108,34 +93,26 @@ pub fn fault(file: &[u8], more: bool, most: usize) -> Option<NotAFrame>
     }
 }
 
-// Filters the frame that the file holds. A frame may have as many pixels as there are words. Where no picture is shown, all that is lent stays.
+// Filters the frame that the file holds, and counts as the call on it does. A frame may have as many pixels as there are words. Where no picture is shown,
+// the station stays, and all that is lent.
 pub fn filter(
-    station: Station,
+    station: &mut Station,
     file: &mut [u8],
     words: &mut [u32],
     history: &mut [u32],
     floats: &mut [f32],
     ints: &mut [u32],
     curve: &[f32],
-) -> Filtered
-    ensures { Filters (filtered_of station file.old words.old history.old
+) -> Result<Counts, NotTaken>
+    ensures { Filters (filtered_of station.old file.old words.old history.old
         (length floats.old) (length ints.old) curve.now)
-        result file.new words.new history.new floats.old floats.new ints.old ints.new }
+        result station.new file.new words.new history.new floats.old floats.new ints.old ints.new }
 {
-    let frame = match ppm::parse(file, words.len()) {
-        Ok(frame) => frame,
-        Err(k) => {
-            return Filtered {
-                outcome: Err(Unshown::NoFrame(k)),
-                station,
-            };
-        }
-    };
     let Frame {
         width,
         height,
         start,
-    } = frame;
+    } = ppm::parse(file, words.len())?;
     let count = height * width;
     show(
         station,
