@@ -3,7 +3,7 @@ ghost use Rattle.std.specs.Prelude.{◌<◌};
 ghost use Rattle.io.specs.Counts.{IsPrefixLen};
 
 use crate::says;
-use cards::fields::{FieldRead, field};
+use cards::fields::Cursor;
 use cli::input;
 use cli::input::Loaded;
 
@@ -27,7 +27,11 @@ pub fn load(rt: HostRuntime, i: usize, out: &mut [u8]) -> Loaded
 pub fn count(sheet: &[u8]) -> u32
     ensures { result < 65536 }
 {
-    let FieldRead::Value(n, _) = field(sheet, 0, 16) else {
+    let mut cursor = Cursor {
+        bytes: sheet,
+        at: 0,
+    };
+    let Ok(n) = cursor.field(16) else {
         return 0;
     };
     n

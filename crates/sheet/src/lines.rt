@@ -4,12 +4,11 @@ ghost use Rattle.std.specs.Prelude.{◌<◌};
 
 use cards::station::Station;
 use chain::pipeline;
-use chain::pipeline::Question;
 use cli::says::text;
 use cli::stream::STDERR_FILENO;
-use num::size::{Size, area};
+use num::refusal::Refusal;
+use num::size::Size;
 use sheets::event::Event;
-use sheets::play::Turn;
 
 // A digit below sixteen, in capitals.
 fn digit(d: u32) -> u8
@@ -40,10 +39,7 @@ fn pixels(words: &[u32]) {
 // A size of picture: no side is above 1,024. Of any other size it is 0 by 0.
 fn sized(width: usize, height: usize) -> Size {
     if 1024 < width || 1024 < height {
-        return Size {
-            width: 0,
-            height: 0,
-        };
+        return Size::NOTHING;
     }
     Size {
         width: width as u16,
@@ -54,7 +50,7 @@ fn sized(width: usize, height: usize) -> Size {
 // The picture of an accepted frame, at the start of the framebuffer.
 fn frame(size: Size, words: &[u32]) {
     text(b"F");
-    let count = area(size);
+    let count = size.area();
     if count <= words.len() {
         pixels(&words[..count]);
     }
@@ -69,51 +65,37 @@ fn numbered(letter: &[u8], n: u8) {
 }
 
 // The preset after a step.
-fn step(station: Station) {
+fn step(station: &Station) {
     match pipeline::preset(station) {
-        Question::Number(p) => numbered(b"L ", p),
-        Question::Refused(k) => numbered(b"E ", k),
+        Ok(preset) => numbered(b"L ", preset),
+        Err(k) => numbered(b"E ", k.number()),
     }
 }
 
 // An event that was accepted, with the station and the framebuffer after it.
-fn accepted(e: Event, station: Station, words: &[u32]) {
+fn accepted(e: Event, station: &Station, words: &[u32]) {
     match e {
-        Event::Frame {
-            width,
-            height,
-            at: _,
-        } => frame(sized(width, height), words),
+        Event::Frame { width, height, .. } => frame(sized(width, height), words),
         Event::Reset => text(b"R\n"),
-        Event::Switch { kind: _, on: _ } => text(b"S\n"),
+        Event::Switch { .. } => text(b"S\n"),
         Event::Step => step(station),
-        Event::Ask { kind: _, on: _ } => text(b"A\n"),
+        Event::Ask { .. } => text(b"A\n"),
         Event::Commit => text(b"C\n"),
     }
 }
 
-// An event, after its turn.
-pub fn event(e: Event, turn: Turn, words: &[u32]) {
-    if turn.ok {
-        let station = turn.station;
-        accepted(e, station, words);
-    } else {
-        numbered(b"E ", turn.refusal);
+// An event, after it was made.
+pub fn event(e: Event, made: Result<(), Refusal>, station: &Station, words: &[u32]) {
+    match made {
+        Ok(()) => accepted(e, station, words),
+        Err(k) => numbered(b"E ", k.number()),
     }
 }
 
 // The size of the last picture after an event: that of a frame, where it was accepted.
 pub fn last_size(e: Event, ok: bool, before: Size) -> Size {
-    if !ok {
-        return before;
+    match e {
+        Event::Frame { width, height, .. } if ok => sized(width, height),
+        _ => before,
     }
-    let Event::Frame {
-        width,
-        height,
-        at: _,
-    } = e
-    else {
-        return before;
-    };
-    sized(width, height)
 }

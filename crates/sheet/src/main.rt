@@ -15,7 +15,7 @@ mod pack; // events of program `station` as those of a sheet
 mod record; // a sheet written
 
 use cards::reader;
-use cards::station::{Answer, Station};
+use cards::station::Station;
 use cli::stream::STDERR_FILENO;
 use cli::{input, output};
 
@@ -88,12 +88,9 @@ fn played(rt: HostRuntime, at: usize, count: usize, named: usize, file: &mut [u8
         return;
     }
     let n = loaded.length;
-    let opened = reader::open(&card[..n]);
-    let answer = opened.answer;
-    let station = opened.station;
-    match answer {
-        Answer::Accepted => lend(rt, station, at + 1, named, file),
-        Answer::Refused(k) => says::card(rt, at, &card[..n], k),
+    match reader::open(&card[..n]) {
+        Ok(station) => lend(rt, station, at + 1, named, file),
+        Err(k) => says::card(rt, at, &card[..n], k.number()),
     }
 }
 

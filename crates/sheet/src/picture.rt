@@ -4,7 +4,7 @@ ghost use Rattle.std.specs.Prelude.{◌≤◌, length};
 use crate::show::{number, text};
 use cli::memory;
 use cli::output::end;
-use num::size::{Size, area};
+use num::size::Size;
 use raster::pixels::pack;
 use std::io::Error;
 
@@ -29,7 +29,7 @@ fn pixels(rt: HostRuntime, words: &[u32]) -> Result<(), Error>
 // The picture at the start of the framebuffer; none where a side is 0. Whether its end was written, or why not: a disk that fills up within the header has
 // no room for the pixels either.
 fn shown(rt: HostRuntime, size: Size, words: &[u32]) -> Result<(), Error> {
-    let count = area(size);
+    let count = size.area();
     if count == 0 {
         return Ok(());
     }

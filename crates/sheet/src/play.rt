@@ -3,17 +3,19 @@ ghost use Rattle.std.specs.Prelude.{◌<◌, ◌≤◌};
 ghost use Rattle.sheets.specs.Promises.{Within};
 
 use crate::{files, lines, memory, picture, says};
+use cards::fields::Cursor;
 use cards::station::Station;
 use cli::output::told;
 use cli::says::text;
 use cli::stream::STDERR_FILENO;
+use num::refusal::Refusal;
 use num::size::Size;
-use sheets::event::{Event, EventRead, is_whole, read};
-use sheets::play::{Turn, make};
+use sheets::event::{Event, is_whole, read};
+use sheets::play::make;
 
 // One event, made and told.
 fn turn(
-    station: Station,
+    station: &mut Station,
     sheet: &[u8],
     event: Event,
     words: &mut [u32; 61440],
@@ -21,19 +23,12 @@ fn turn(
     floats: &mut [f32; 187392],
     ints: &mut [u32; 61440],
     curve: &[f32],
-) -> Turn
+) -> Result<(), Refusal>
     requires { Within sheet.now event }
 {
-    let turn = make(station, sheet, event, words, history, floats, ints, curve);
-    lines::event(event, turn, words);
-    turn
-}
-
-// 1 for an event that was accepted.
-fn one_if(ok: bool) -> u32
-    ensures { result ≤ 1 }
-{
-    if ok { 1 } else { 0 }
+    let made = make(station, sheet, event, words, history, floats, ints, curve);
+    lines::event(event, made, station, words);
+    made
 }
 
 // How many events were accepted, and the size of the last picture, with both sides 0 for none.
@@ -45,7 +40,7 @@ struct Played {
 
 // Plays the n events of a sheet that is whole.
 fn all(
-    station: Station,
+    station: &mut Station,
     sheet: &[u8],
     n: u32,
     words: &mut [u32; 61440],
@@ -57,24 +52,21 @@ fn all(
     requires { n < 65536 }
     ensures { result.accepted ≤ n }
 {
-    let mut last = station;
     let mut accepted: u32 = 0;
-    let mut size = Size {
-        width: 0,
-        height: 0,
+    let mut size = Size::NOTHING;
+    let mut cursor = Cursor {
+        bytes: sheet,
+        at: 16,
     };
-    let mut next: usize = 16;
-    let mut i: u32 = 0;
-    while i < n {
-        let EventRead::Value(event, after) = read(sheet, next) else {
+    for _ in 0..n {
+        let Some(event) = read(&mut cursor) else {
             return Played { accepted, size };
         };
-        let turn = turn(last, sheet, event, words, history, floats, ints, curve);
-        last = turn.station;
-        accepted += one_if(turn.ok);
-        size = lines::last_size(event, turn.ok, size);
-        next = after;
-        i += 1;
+        let made = turn(station, sheet, event, words, history, floats, ints, curve);
+        if made.is_ok() {
+            accepted += 1;
+        }
+        size = lines::last_size(event, made.is_ok(), size);
     }
     Played { accepted, size }
 }
@@ -89,14 +81,14 @@ fn tally(accepted: u32, refused: u32) {
 }
 
 // Plays a sheet that is whole, writes the last picture, and tells how many events were accepted; where it cannot be written, that is said in their place.
-fn run(rt: HostRuntime, station: Station, sheet: &[u8], curve: &[f32]) {
+fn run(rt: HostRuntime, mut station: Station, sheet: &[u8], curve: &[f32]) {
     let mut words = cli::memory::words();
     let mut history = memory::history();
     let mut floats = memory::floats();
     let mut ints = memory::ints();
     let n = files::count(sheet);
     let played = all(
-        station,
+        &mut station,
         sheet,
         n,
         &mut words,

@@ -2,7 +2,6 @@
 // which and why, and nothing is written.
 use crate::{files, memory, pack, says};
 use cards::reader;
-use cards::station::Answer;
 use cli::output::{end, told};
 use events::event::head_wanted;
 
@@ -25,11 +24,9 @@ fn behind_card(rt: HostRuntime, i: usize, file: &[u8]) {
         says::no_card(rt, i);
         return;
     }
-    let opened = reader::open(&file[1..end]);
-    let answer = opened.answer;
-    match answer {
-        Answer::Accepted => written(rt, i, &file[end..]),
-        Answer::Refused(k) => says::card_in(rt, i, &file[1..end], k),
+    match reader::open(&file[1..end]) {
+        Ok(_) => written(rt, i, &file[end..]),
+        Err(k) => says::card_in(rt, i, &file[1..end], k.number()),
     }
 }
 

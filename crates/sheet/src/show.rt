@@ -7,7 +7,8 @@ use cli::names;
 use cli::output::end;
 use cli::says::argument;
 use cli::stream::STDOUT_FILENO;
-use sheets::event::{Event, EventRead, is_whole, read};
+use cards::fields::Cursor;
+use sheets::event::{Event, is_whole, read};
 use std::io::Error;
 
 pub fn text(words: &[u8]) {
@@ -40,11 +41,7 @@ fn switch(kind: u8, on: bool) {
 
 fn event(e: Event) {
     match e {
-        Event::Frame {
-            width,
-            height,
-            at: _,
-        } => {
+        Event::Frame { width, height, .. } => {
             text(b"frame, ");
             number(width);
             text(b" by ");
@@ -77,13 +74,15 @@ fn line(rt: HostRuntime, i: u32, e: Event) -> Result<(), Error> {
 fn lines(rt: HostRuntime, sheet: &[u8], n: u32) -> Result<(), Error>
     requires { n < 65536 }
 {
-    let mut next: usize = 16;
+    let mut cursor = Cursor {
+        bytes: sheet,
+        at: 16,
+    };
     for i in 0..n {
-        let EventRead::Value(e, after) = read(sheet, next) else {
+        let Some(e) = read(&mut cursor) else {
             return Ok(());
         };
         line(rt, i + 1, e)?;
-        next = after;
     }
     Ok(())
 }

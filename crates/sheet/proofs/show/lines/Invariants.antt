@@ -3,4 +3,4 @@ use Rattle.std.proofs.Common.{◌+◌, ◌*◌, ◌≤◌}
 use Rattle.sheet.proofs.show.lines.Given as goal
 
 abbrev pub invariant-loop-i : goal.invariant-loop-i
-invariant-loop-i l = l.next ≤ 16 + l.i * 100565041
+invariant-loop-i l = l.cursor.at ≤ 16 + l.i * 100565041
