@@ -116,7 +116,7 @@ fn show(
     picture_line(answer, words, out)
 }
 
-// A frame without fault, in the first words of the framebuffer.
+// A frame without fault, in the first words of the framebuffer. The buffers come one by one: a part of a `Workspace`'s field can not be lent beside the others.
 fn frame(
     station: &mut Station,
     bytes: &[u8],
@@ -194,6 +194,7 @@ pub fn begin(bytes: &[u8], out: &mut [u8; 7170]) -> Result<Station, usize>
     ensures short { IfErr result (λ n. n ≤ 7170) }
     ensures line { Begins (open_of (card_in bytes.now)) result out.old out.new }
 {
+    // not `map_err`: of a closure that writes the line its promise would not be known
     match open(bytes) {
         Ok(station) => Ok(station),
         Err(refusal) => Err(refusal_line(refusal, out)),

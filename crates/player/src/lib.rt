@@ -51,7 +51,10 @@ fn fetch(input: &mut [u8], is_card: bool) -> usize
 }
 
 impl Player {
-    pub fn new() -> Player {
+    // A run begins as `events` says that it does: with a framebuffer and a history of zeros.
+    pub fn new() -> Player
+        ensures { (result.work.framebuffer ≡ replicate 1024 0) × (result.work.history ≡ replicate 8192 0) }
+    {
         Player {
             input: io::buffer(),
             work: Workspace {
