@@ -4,8 +4,8 @@ ghost use Rattle.texts.specs.Numbers.{decimal_of};
 ghost use Rattle.texts.specs.Read.{made_of};
 ghost use Rattle.probe.specs.Texts.{answer_of, bytes_of, place_of, flag, nearest_of};
 
+use super::card::told;
 use cards::writer;
-use cards::writer::Writing;
 use texts::numbers::number_of;
 use texts::read;
 use texts::read::Misread;
@@ -24,12 +24,7 @@ pub extern "C" fn probe_text(text: &[u8], out: &mut [u8], place: &mut [usize; 4]
         }
         Ok(station) => {
             *place = [0; 4];
-            let written = writer::write(station, out);
-            let told = written.answer;
-            match told {
-                Writing::Length(n) => n,
-                Writing::Refused(k) => 256 + k as usize,
-            }
+            told(writer::write(&station, out))
         }
     }
 }

@@ -1,62 +1,20 @@
 -- Settings in words: each test of the code, and what the definition then gives. Assumes nothing.
-use Prim.Native.Nat.{ℕ, ◌+◌, ◌*◌, ◌≤◌, ◌<◌}
-use mathlib.Core.Bool.{Bool, true, false, cond, ◌||◌}
+use Prim.Native.Nat.{ℕ, ◌+◌, ◌*◌}
+use mathlib.Core.Bool.{Bool, true, false, cond}
 use mathlib.Core.List.{List}
 use mathlib.Core.Path.{◌≡◌, refl, sym, ap, ◌∙◌}
-use borrow.Author.Tests.{lt-ltb, le-ltb}
 use lib.Dec.{ltb}
-use lib.Ieee.{Float, lt}
 use Rattle.std.specs.Prelude.{Option, Some, None, Result, Ok, Err}
 use Rattle.num.specs.Laws.Bools.{false_true}
-use Rattle.num.specs.Steps.{limit_of}
 use Rattle.inspect.specs.declared.settings.Setting.{Setting}
 use Rattle.inspect.specs.declared.settings.Setting.TheVariants as S
 use Rattle.texts.specs.Names.{preset_names, setting_name, found, below}
 use Rattle.texts.specs.Numbers.{decimal_of}
-use Rattle.texts.specs.Settings.{slot_of, real_of, whole_of, preset_of, value_of, placed, setting_at, setting_in}
+use Rattle.texts.specs.Settings.{slot_of, whole_of, preset_of, value_of, placed, setting_at, setting_in}
 use Rattle.texts.specs.Words.{is, word_of}
 use Rattle.texts.specs.declared.mistake.Mistake.{Mistake}
-use Rattle.texts.specs.declared.mistake.Mistake.TheVariants.{OtherName, NoNumber, OutOfRange}
-use Rattle.texts.specs.declared.numbers.Decimal.{Decimal}
+use Rattle.texts.specs.declared.mistake.Mistake.TheVariants.{OtherName}
 use Rattle.texts.specs.declared.settings.Slot.{Slot}
-
-module _ (low high : Float) {o : Option Decimal} where
-  pub no_real : o ≡ None → Err NoNumber ≡ real_of low high o
-  unfolding real_of
-  no_real e = rw e refl
-
-  module _ (d : Decimal) (e : o ≡ Some d) where
-    pub out_of_range : lt d.nearest low || lt high d.nearest ≡ true → Err OutOfRange ≡ real_of low high o
-    unfolding real_of
-    out_of_range f = rw (e, f) refl
-
-    pub a_real : {x : Float} → lt d.nearest low ≡ false → lt high d.nearest ≡ false → x ≡ limit_of d.nearest low high → Ok (S.Real x) ≡ real_of low high o
-    unfolding real_of
-    a_real f g h = rw (e, f, g, h) refl
-
-module _ (least most : ℕ) {o : Option Decimal} where
-  pub no_count : o ≡ None → Err NoNumber ≡ whole_of least most o
-  unfolding whole_of
-  no_count e = rw e refl
-
-  module _ (d : Decimal) (e : o ≡ Some d) where
-    pub not_plain : d.plain ≡ false → Err NoNumber ≡ whole_of least most o
-    unfolding whole_of
-    not_plain p = rw (e, p) refl
-
-    module _ (p : d.plain ≡ true) where
-      pub too_little : d.whole < least → Err OutOfRange ≡ whole_of least most o
-      unfolding whole_of
-      too_little l = rw (e, p, lt-ltb d.whole least l) refl
-
-      module _ (l : least ≤ d.whole) where
-        pub too_much : most < d.whole → Err OutOfRange ≡ whole_of least most o
-        unfolding whole_of
-        too_much h = rw (e, p, le-ltb d.whole least l, lt-ltb most d.whole h) refl
-
-        pub a_count : d.whole ≤ most → Ok (S.Whole d.whole) ≡ whole_of least most o
-        unfolding whole_of
-        a_count h = rw (e, p, le-ltb d.whole least l, le-ltb most d.whole h) refl
 
 -- a name that is found, or none
 pub named : {A : Type 0} (n k f : ℕ) (make : ℕ → A) (other : A) → below n f ≡ Some k → make k ≡ cond (ltb f n) (make f) other

@@ -51,13 +51,11 @@ fn numbered(d: Option<Decimal>) -> Option<u8>
 }
 
 // A pass by its name or its number: its kind, 0 for a chain without one.
+#[tactic(auto, unfolding(crate::specs::Lines::kind_in))]
 fn kind_in(word: &[u8]) -> Option<u8>
     ensures { result ≡ kind_in word.now }
 {
-    match find_kind(word) {
-        Some(kind) => Some(kind),
-        None => numbered(number_of(word)),
-    }
+    find_kind(word).or_else(|| numbered(number_of(word)))
 }
 
 // Whether a word is on or off, if it is either.

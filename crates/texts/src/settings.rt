@@ -92,24 +92,22 @@ fn slot_of(kind: u8, j: usize) -> Option<Slot>
     }
 }
 
+#[tactic(auto, unfolding(crate::specs::Settings::real_of))]
 fn real_of(low: f32, high: f32, d: Option<Decimal>) -> Result<Setting, Mistake>
     ensures { result ≡ real_of low high d }
 {
-    let Some(d) = d else {
-        return Err(Mistake::NoNumber);
-    };
+    let d = d.ok_or(Mistake::NoNumber)?;
     if d.nearest < low || high < d.nearest {
         return Err(Mistake::OutOfRange);
     }
     Ok(Setting::Real(limit(d.nearest, low, high)))
 }
 
+#[tactic(auto, unfolding(crate::specs::Settings::whole_of))]
 fn whole_of(least: u8, most: u8, d: Option<Decimal>) -> Result<Setting, Mistake>
     ensures { result ≡ whole_of least most d }
 {
-    let Some(d) = d else {
-        return Err(Mistake::NoNumber);
-    };
+    let d = d.ok_or(Mistake::NoNumber)?;
     if !d.plain {
         return Err(Mistake::NoNumber);
     }

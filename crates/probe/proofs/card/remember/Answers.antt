@@ -8,13 +8,9 @@ use lib.Seq.{set_out}
 use Rattle.cards.specs.Laws.Twelve.{unmapped}
 use Rattle.cards.specs.declared.station.Record.{Record}
 use Rattle.probe.proofs.card.remember.Goals as goal
-use Rattle.probe.proofs.card.remember.Lts as lts
-use Rattle.probe.proofs.card.remember.Reads as reads
 
-long : (c : lts.Start reads.Pre reads.Post) → length c.args.station.records ≡ 12
-long c = search (unmapped, rules)
-
-pub returns-then-at-ge12 : goal.returns-then-at-ge12
-returns-then-at-ge12 c = let a = c.args in
-    ap (λ (rs : List Record). record { records = rs; n = a.station.n; pending = a.station.pending })
-    (sym (set_out a.station.records a.«at» _ (omega (arith, long c.before, c.if-at-ge12.true))))
+pub returns-else-at-lt12 : goal.returns-else-at-lt12
+returns-else-at-lt12 c =
+    let s = c.args.station in
+    let long : length s.records ≡ 12 = search (unmapped, rules) in
+    ap (λ (rs : List Record). record { records = rs; n = s.n; pending = s.pending }) (sym (set_out s.records c.args.«at» _ (omega (arith, long, c.if-at-lt12.false))))
