@@ -12,7 +12,7 @@ mod files; // frames read, looked at and shown
 mod says; // why something is refused
 
 use cards::reader;
-use cards::station::{Answer, Station};
+use cards::station::Station;
 use cli::input;
 use cli::stream::STDERR_FILENO;
 
@@ -30,7 +30,7 @@ fn usage() {
 // Whether every argument from the first frame on names a frame that can be taken.
 fn all_taken(rt: HostRuntime, first: usize, count: usize, file: &mut [u8]) -> bool {
     for i in first..count {
-        if files::taken(rt, i, file) == 0 {
+        if files::taken(rt, i, file).is_none() {
             return false;
         }
     }
@@ -40,7 +40,7 @@ fn all_taken(rt: HostRuntime, first: usize, count: usize, file: &mut [u8]) -> bo
 // Shows the frames in a row, as long as they can be read and written.
 fn show_all(
     rt: HostRuntime,
-    station: Station,
+    station: &mut Station,
     first: usize,
     count: usize,
     tell: bool,
@@ -51,11 +51,10 @@ fn show_all(
     let mut history = memory::history();
     let mut floats = memory::floats();
     let mut ints = memory::ints();
-    let mut now = station;
     for i in first..count {
-        let turn = files::play(
+        let written = files::play(
             rt,
-            now,
+            station,
             i,
             tell,
             file,
@@ -65,17 +64,16 @@ fn show_all(
             &mut ints,
             curve,
         );
-        if !turn.more {
+        if !written {
             return;
         }
-        now = turn.station;
     }
 }
 
 // A single frame, in these bytes.
 fn show_one(
     rt: HostRuntime,
-    station: Station,
+    station: &mut Station,
     first: usize,
     tell: bool,
     curve: &[f32],
@@ -100,13 +98,12 @@ fn show_one(
 }
 
 // A single frame is read once, so it may come from a pipe. Several are read twice: all are looked at before the first picture is written.
-fn run(rt: HostRuntime, station: Station, first: usize, count: usize, tell: bool, curve: &[f32])
+fn run(rt: HostRuntime, station: &mut Station, first: usize, count: usize, tell: bool, curve: &[f32])
     requires { first ≤ 5 }
 {
     let mut file = cli::memory::file();
     if count == first + 1 {
-        let n = files::taken(rt, first, &mut file);
-        if 0 < n {
+        if let Some(n) = files::taken(rt, first, &mut file) {
             show_one(rt, station, first, tell, curve, &mut file[..n]);
         }
         return;
@@ -116,22 +113,28 @@ fn run(rt: HostRuntime, station: Station, first: usize, count: usize, tell: bool
     }
 }
 
-// With the curve that argument `named` names; 0 for none.
-fn lend(rt: HostRuntime, station: Station, first: usize, count: usize, tell: bool, named: usize)
+// With the curve that argument `named` names, if one does.
+fn lend(
+    rt: HostRuntime,
+    station: &mut Station,
+    first: usize,
+    count: usize,
+    tell: bool,
+    named: Option<usize>,
+)
     requires { first ≤ 5 }
 {
-    if named == 0 {
-        let none: [f32; 0] = [];
-        run(rt, station, first, count, tell, &none);
+    let Some(i) = named else {
+        run(rt, station, first, count, tell, &[]);
         return;
-    }
-    if let Some(curve) = input::curve(rt, named) {
+    };
+    if let Some(curve) = input::curve(rt, i) {
         run(rt, station, first, count, tell, &curve);
     }
 }
 
 // The card at place `at` among the arguments, and the frames behind it.
-fn play(rt: HostRuntime, at: usize, count: usize, tell: bool, named: usize)
+fn play(rt: HostRuntime, at: usize, count: usize, tell: bool, named: Option<usize>)
     requires { at ≤ 4 }
 {
     if count < at + 2 || input::is_option(rt, at) {
@@ -144,46 +147,49 @@ fn play(rt: HostRuntime, at: usize, count: usize, tell: bool, named: usize)
         return;
     }
     let n = loaded.length;
-    let opened = reader::open(&card[..n]);
-    let answer = opened.answer;
-    let station = opened.station;
-    match answer {
-        Answer::Accepted => lend(rt, station, at + 1, count, tell, named),
-        Answer::Refused(k) => says::card(rt, at, &card[..n], k),
+    match reader::open(&card[..n]) {
+        Ok(mut station) => lend(rt, &mut station, at + 1, count, tell, named),
+        Err(why) => says::card(rt, at, &card[..n], why),
     }
 }
 
-// Which option argument i is: 1 for --counts, 2 for --curve, 0 for none.
-fn option(rt: HostRuntime, i: usize) -> u8 {
+#[derive(Clone, Copy, Debug, PartialEq, Eq)]
+enum Choice {
+    Counts,
+    Curve,
+}
+
+// Which option argument i is.
+fn option(rt: HostRuntime, i: usize) -> Option<Choice> {
     let mut name = io::buffer();
     let n = input::given(rt, i, &mut name);
     if check::same(&name[..n], b"--counts") {
-        return 1;
+        return Some(Choice::Counts);
     }
     if check::same(&name[..n], b"--curve") {
-        return 2;
+        return Some(Choice::Curve);
     }
-    0
+    None
 }
 
 // The options come before the card, in either order, each once.
 fn main(rt: HostRuntime) {
     let count = input::count(rt);
     match option(rt, 1) {
-        1 => {
-            if option(rt, 2) == 2 {
-                play(rt, 4, count, true, 3);
+        Some(Choice::Counts) => {
+            if option(rt, 2) == Some(Choice::Curve) {
+                play(rt, 4, count, true, Some(3));
             } else {
-                play(rt, 2, count, true, 0);
+                play(rt, 2, count, true, None);
             }
         }
-        2 => {
-            if option(rt, 3) == 1 {
-                play(rt, 4, count, true, 2);
+        Some(Choice::Curve) => {
+            if option(rt, 3) == Some(Choice::Counts) {
+                play(rt, 4, count, true, Some(2));
             } else {
-                play(rt, 3, count, false, 2);
+                play(rt, 3, count, false, Some(2));
             }
         }
-        _ => play(rt, 1, count, false, 0),
+        None => play(rt, 1, count, false, None),
     }
 }

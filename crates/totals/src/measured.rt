@@ -3,8 +3,7 @@ ghost use Rattle.std.specs.Prelude.{◌≡◌, ◌≤◌, length};
 
 use cli::stream::STDERR_FILENO;
 use cli::{input, says, words};
-use frames::judge;
-use frames::judge::NoTotals;
+use frames::{NotTaken, judge};
 use raster::ppm::NotAFrame;
 
 // Three totals for each of 64 areas.
@@ -18,7 +17,7 @@ pub fn room() -> [u64; 192]
 fn leaves(file: &[u8], words: &mut [u32], area: &[u16]) -> bool {
     let mut totals = room();
     let judged = judge::totals(file, words, area, &mut totals);
-    matches!(judged, Err(NoTotals::Refused(_)))
+    matches!(judged, Err(NotTaken::Refused(_)))
 }
 
 // Says behind argument k, an area, that it leaves the picture that argument i names.
@@ -70,11 +69,11 @@ pub fn totals(
     }
     match judge::totals(&file[..n], words, areas, res) {
         Ok(read) => Some(read),
-        Err(NoTotals::NoFrame(why)) => {
+        Err(NotTaken::NoFrame(why)) => {
             no_frame(rt, i, why);
             None
         }
-        Err(NoTotals::Refused(_)) => {
+        Err(NotTaken::Refused(_)) => {
             outside(rt, i, first, &file[..n], words, areas);
             None
         }
