@@ -185,3 +185,6 @@ module _ (words file : List ℕ) {w h start : ℕ} (e : Parsed.Frame w h start �
 
   pub room : Room (h * w) (take (h * w) words) (take (length file - start) (drop start file))
   room = record { words_room = lent; pixels_room = ap length pixels ∙ simp length-drop (omega (arith, whole.ends)) }
+
+-- what the check asks of both functions that take a file's frame
+pub ruleset takings = (whole, few, lent, room)

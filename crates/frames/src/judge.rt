@@ -25,6 +25,7 @@ fn measure(
 
 // How many words were read. Three totals for each rectangle, at the front of the result. A frame may have as many pixels as there
 // are words; the first of them are the frame's then.
+#[tactic(auto, using(crate::proofs::Parts::takings), unfolding(crate::specs::Judge::in_file))]
 pub fn totals(
     file: &[u8],
     words: &mut [u32],

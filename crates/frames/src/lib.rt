@@ -45,6 +45,7 @@ impl From<Refusal> for NotTaken {
 }
 
 // A frame: its pixels and its words, just as many as it has. They are written once the station takes it.
+#[tactic(auto, using(crate::proofs::Parts::unshown))]
 fn show(
     station: &mut Station,
     pixels: &mut [u8],
@@ -95,6 +96,7 @@ pub fn fault(file: &[u8], more: bool, most: usize) -> Option<NotAFrame>
 
 // Filters the frame that the file holds, and counts as the call on it does. A frame may have as many pixels as there are words. Where no picture is shown,
 // the station stays, and all that is lent.
+#[tactic(auto, using(crate::proofs::Parts::takings, crate::proofs::Parts::no_frame))]
 pub fn filter(
     station: &mut Station,
     file: &mut [u8],

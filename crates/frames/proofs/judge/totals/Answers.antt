@@ -20,27 +20,5 @@ module _ (words file areas result : List ℕ) where
   measured {w} {h} e part g =
       ap (among (h * w) words) g ∙ ap (λ (xs : List ℕ). among (h * w) words (measured_of w h xs areas result)) part ∙ by-parsed e
 
-pub returns-in_err-width : goal.returns-in_err-width
-returns-in_err-width c = let p = err_from_is_err_and c.from_residual.result c.from_residual.ensures.1 in
-    rw (p.1, p.2) (by-parsed _ _ _ _ c.in_err-width.ensures)
-
-pub overflow_mul-count : goal.overflow_mul-count
-overflow_mul-count c = omega (arith, few _ _ c.in_ok-width.ensures)
-
-pub slice_bounds-measure-count : goal.slice_bounds-measure-count
-slice_bounds-measure-count c = omega (arith, (whole _ _ c.in_ok-width.ensures).ends)
-
-pub slice_bounds-measure-start : goal.slice_bounds-measure-start
-slice_bounds-measure-start c = omega (arith, (whole _ _ c.in_ok-width.ensures).ends)
-
-pub slice_bounds-measure-end-2 : goal.slice_bounds-measure-end-2
-slice_bounds-measure-end-2 c = (whole _ _ c.in_ok-width.ensures).few
-
-pub slice_bounds-measure-end-3 : goal.slice_bounds-measure-end-3
-slice_bounds-measure-end-3 c = sym (lent _ _ c.in_ok-width.ensures)
-
-pub measure-requires : goal.measure-requires
-measure-requires c = room _ _ c.in_ok-width.ensures
-
 pub returns : goal.returns
 returns c = measured _ _ _ _ c.in_ok-width.ensures (pixels _ _ c.in_ok-width.ensures) c.measure.ensures
