@@ -1,7 +1,8 @@
 -- A station in the 134 bytes that a host lends: the length of its card, the card followed by zeros to 83 bytes, for each of the twelve places of the station
 -- the width and the height that it holds by two bytes each, most significant first, the kind and the position of the switch that is asked for. Assumes
 -- nothing.
-use Rattle.std.specs.Prelude.{ℕ, ◌+◌, ◌-◌, ◌*◌, ◌/◌, ◌%◌, Bool, true, false, ◌&&◌, cond, List, [], ◌∷◌, ◌++◌, eqb, length, get_or, take, drop, replicate, Result, Ok, Err}
+use Rattle.std.specs.Prelude.{ℕ, ◌+◌, ◌-◌, ◌*◌, ◌/◌, ◌%◌, Bool, true, false, ◌&&◌, cond, List, [], ◌∷◌, ◌++◌, eqb, length, get_or, take, drop, replicate}
+use Rattle.std.specs.Prelude.{Result, Ok, Err}
 use Rattle.num.specs.Held.{Held, sized}
 use Rattle.num.specs.declared.refusal.Refusal.{Refusal}
 use Rattle.num.specs.declared.refusal.Refusal.TheVariants.{BadStation}

@@ -12,7 +12,7 @@ use Rattle.chain.specs.Calls.{stops, refusing_frame, frame_reply}
 use Rattle.num.specs.Refusals.{number_of}
 use Rattle.num.specs.declared.refusal.Refusal.{Refusal}
 use Rattle.passes.specs.declared.blur.Counts.{Counts}
-use Rattle.std.specs.Prelude.{Result, Ok, Err}
+use Rattle.std.specs.Prelude.{Result, Err}
 use Rattle.cabinet.specs.Source.{source_stops, enlarged_at, enlarged}
 use Rattle.cabinet.specs.Cabinet.{cabinet_reply}
 use Rattle.cabinet.specs.Promises.{Shows}

@@ -1,10 +1,10 @@
 -- What is asked of the kinds of records, as the library's words for lists. Assumes nothing.
-use Rattle.std.specs.Prelude.{ℕ, zero, suc, ◌+◌, ◌≡◌, refl, Bool, true, false, cond, ◌||◌, ◌&&◌, List, [], ◌∷◌, length, get_or, eqb}
+use Rattle.std.specs.Prelude.{ℕ, zero, suc, ◌+◌, ◌≡◌, refl, Bool, true, false, cond, List, [], ◌∷◌, length, get_or, eqb}
 use Rattle.std.specs.List.{count_by}
-use Rattle.std.proofs.Common.{ap, arith}
+use Rattle.std.proofs.Common.{arith}
 use Rattle.std.proofs.lemmas.List.Recursion.{is_count_by}
 use Rattle.cards.specs.Passes.{kind_of}
-use Rattle.cards.specs.Records.{kinds, among, last_of, times}
+use Rattle.cards.specs.Records.{kinds, last_of, times}
 use Rattle.cards.specs.declared.station.Record.{Record}
 
 one_more : (b : Bool) (n : ℕ) → cond b 1 0 + n ≡ cond b (1 + n) n

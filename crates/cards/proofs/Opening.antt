@@ -7,7 +7,7 @@ use mathlib.Core.Bool.{Bool, true, false}
 use mathlib.Core.List.{List, [], ◌∷◌, ◌++◌}
 use lib.ListN.{length, take, drop, set, replicate, length-set, take-append-drop}
 use lib.Seq.{take-suc-set, drop-set-lt, drop-drop, length-take-le}
-use Rattle.cards.specs.Step.{Refusal, Step, took, refused, and_then, stop, refuse_if}
+use Rattle.cards.specs.Step.{Refusal, took, refused, and_then, stop, refuse_if}
 use Rattle.cards.specs.Bits.{field_at}
 use Rattle.cards.specs.Records.{kinds, record_at}
 use Rattle.cards.specs.Card.{unused, station_of, header_at, records_at, ends_at, end_at, station_at}

@@ -6,7 +6,6 @@ use mathlib.Core.Path.{◌≡◌, refl, ap, ap₂, sym, ◌∙◌}
 use mathlib.Core.List.{List, [], ◌∷◌, ◌++◌}
 use lib.ListN.{replicate, length, get_or, drop, length-append, get_or-append, get_or-eq_default}
 use lib.Seq.{drop-drop, get_or-drop, get_or-append-add}
-use native.Mathlib.Nat.{le_of_suc-le-suc, not-suc-le-zero}
 use lib.Pow.{shr-shr}
 use Rattle.num.specs.Rewrite.{rewrite}
 use Rattle.num.specs.Laws.Rewrite.{rewrite_ext}

@@ -1,6 +1,6 @@
 -- The padding of a card that has just the bytes for it is one field, which is not torn. Assumes nothing.
-use Rattle.std.specs.Prelude.{ℕ, ◌+◌, ◌-◌, ◌*◌, ◌/◌, ◌≡◌, true, List, length, eqb, Result, Ok}
-use Rattle.std.proofs.Common.{arith, sym, ◌∙◌, eq-eqb}
+use Rattle.std.specs.Prelude.{ℕ, ◌+◌, ◌-◌, ◌*◌, ◌/◌, ◌≡◌, List, length, eqb, Result, Ok}
+use Rattle.std.proofs.Common.{arith, ◌∙◌, eq-eqb}
 use Rattle.cards.specs.Step.{step}
 use Rattle.cards.specs.Bits.{value_at, field_at}
 use Rattle.cards.specs.Card.{ends_at}

@@ -15,7 +15,7 @@ use Rattle.cards.specs.Laws.Good.{good}
 use Rattle.cards.proofs.Packed.{length-bits, length-pack, pack_same, blank-bits}
 use Rattle.cards.proofs.Chain.{chain-bits}
 use Rattle.cards.proofs.Laying.{records_short}
-use Rattle.cards.specs.Answers.{Reply, reply, refusal, acceptance}
+use Rattle.cards.specs.Answers.{reply, refusal, acceptance}
 use Rattle.cards.specs.Write.{write_reply, write_into}
 use Rattle.cards.specs.declared.station.Record.{Record}
 use borrow.Author.Tests.{le-leb, lt-leb}

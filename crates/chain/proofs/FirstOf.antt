@@ -1,15 +1,14 @@
 -- The first record of a kind: how it is found, and what changing it in its place does to the chain. Assumes nothing.
 use Prim.Native.Nat.{ℕ, zero, suc, ◌+◌, ◌≤◌, ◌<◌, zero-le, suc-le-suc}
 use native.Mathlib.Nat.{le_of_suc-le-suc, not-suc-le-zero}
-use native.Mathlib.Numerals.{add-one}
 use native.Mathlib.Omega.{arith}
 use mathlib.Core.Path.{◌≡◌, refl, sym, ap, subst, ◌∙◌}
 use mathlib.Core.Bool.{Bool, true, false, true≢false, ◌||◌, cond}
 use mathlib.Core.List.{List, [], ◌∷◌, ◌++◌, append-nil}
 use borrow.Author.Tests.{eqb-true, eqb-false, eq-eqb, ne_eqb}
 use lib.Dec.{eqb}
-use lib.ListN.{length, take, drop, get_or, set, drop_of_length-le, take-append-drop}
-use lib.Seq.{slice-cons, length-take-le}
+use lib.ListN.{length, take, drop, get_or, set, take-append-drop}
+use lib.Seq.{length-take-le}
 use Rattle.std.specs.List.{position, position_from}
 use Rattle.std.specs.Option.{is_some}
 use Rattle.std.proofs.Common.{Some}
@@ -23,7 +22,7 @@ use Rattle.cards.specs.Normal.{normal_chain}
 use Rattle.cards.specs.Passes.{kind_of}
 use Rattle.cards.specs.Records.{kinds, among}
 use Rattle.cards.specs.declared.station.Record.{Record}
-use Rattle.num.specs.Laws.Bools.{neither, false_true, or-first_only, or-second_only}
+use Rattle.num.specs.Laws.Bools.{neither}
 use Rattle.cards.specs.Laws.Good.{headed, no_second}
 use Rattle.chain.proofs.PassCases.{no_lut}
 use Rattle.cards.specs.Laws.Scans.{past}

@@ -31,7 +31,6 @@ use Rattle.cards.specs.declared.station.Pass.{Pass}
 use Rattle.cards.specs.declared.station.Pass.TheVariants.{Ntsc, Bloom, Persistence, ColorCorrection}
 use Rattle.cards.specs.declared.station.Record.{Record}
 use Rattle.cards.specs.Laws.Scans.{past as past-end}
-use Rattle.cards.specs.declared.station.Station.{Station}
 use Rattle.chain.proofs.Depths.{depth_more, depth_less}
 use Rattle.chain.proofs.Taken.{count-fine, bleed_few, radius_few, Summed, summed_none, summed_fits, summed_more, summed_all}
 use Rattle.chain.proofs.PassCases.{by_memory, over-few, over_paints, Painter, no_depth, not-persistence}

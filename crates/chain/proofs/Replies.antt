@@ -7,7 +7,7 @@ use mathlib.Core.List.{List, [], ◌∷◌, ◌++◌}
 use borrow.Author.Tests.{eq-eqb, ne_eqb, lt-ltb, le-ltb}
 use lib.Dec.{eqb}
 use lib.ListN.{length, take, drop, get_or, set}
-use Rattle.num.specs.Held.{Held, nothing, area}
+use Rattle.num.specs.Held.{nothing, area}
 use Rattle.num.specs.Refusals.{unless}
 use Rattle.num.specs.Laws.Refusals.{accepts}
 use Rattle.cards.specs.Alike.{chain_of}
@@ -17,7 +17,7 @@ use Rattle.chain.specs.Calls.{ask_reply, switch_reply, stepped, stepped_pass, pr
 use Rattle.chain.specs.Calls.{framed, refusing_frame, first_held, first_depth, forget, depth_stops, deep_pass, with_depth, redepth, depth_reply}
 use Rattle.chain.specs.Chain.{depth_of}
 use Rattle.passes.specs.Plain.Persistence.{resized}
-use Rattle.chain.specs.Lent.{First, Found, put_at}
+use Rattle.chain.specs.Lent.{Found, put_at}
 use Rattle.cards.specs.Normal.{askable, good_station}
 use Rattle.cards.specs.Records.{kinds, among}
 use Rattle.cards.specs.Settings.{one_at_least}

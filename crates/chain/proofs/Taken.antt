@@ -8,7 +8,7 @@ use mathlib.Core.List.{List}
 use borrow.Author.Tests.{leb-true}
 use lib.Dec.{leb, eqb}
 use lib.Ieee.{Float}
-use lib.ListN.{length, take, get_or}
+use lib.ListN.{length, get_or}
 use Rattle.num.specs.Const.{c0_0, c1_0}
 use Rattle.num.specs.Laws.Bools.{both}
 use Rattle.passes.specs.Samples.{samples, ntsc_samples, bloom_samples}

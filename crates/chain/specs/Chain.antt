@@ -1,5 +1,5 @@
 -- The way of a frame through the chain: the passes that are on, in the card's order, each persistence on its own part of the history. Assumes nothing.
-use Rattle.std.specs.Prelude.{ℕ, ◌+◌, ◌*◌, Bool, false, ◌||◌, cond, List, [], ◌∷◌, ◌++◌, map, Float, take, drop}
+use Rattle.std.specs.Prelude.{ℕ, ◌+◌, ◌*◌, Bool, false, cond, List, [], ◌∷◌, ◌++◌, map, Float, take, drop}
 use Rattle.std.specs.List.{list_any}
 use Rattle.num.specs.Held.{Held, sized}
 use Rattle.passes.specs.Arith.{Arith, plain}

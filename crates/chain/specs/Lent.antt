@@ -1,5 +1,5 @@
 -- What the inner functions of the calls rely on: what is lent to a pass, and where a record stands. Assumes nothing.
-use Rattle.std.specs.Prelude.{ℕ, ◌*◌, ◌≤◌, ◌<◌, ◌≡◌, true, List, [], length, get_or, set, Float}
+use Rattle.std.specs.Prelude.{ℕ, ◌*◌, ◌≤◌, ◌<◌, ◌≡◌, true, List, length, get_or, set, Float}
 use Rattle.num.specs.Held.{area}
 use Rattle.num.specs.declared.size.Size.{Size}
 use Rattle.passes.specs.Rows.{Frame}

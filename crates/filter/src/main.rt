@@ -98,7 +98,14 @@ fn show_one(
 }
 
 // A single frame is read once, so it may come from a pipe. Several are read twice: all are looked at before the first picture is written.
-fn run(rt: HostRuntime, station: &mut Station, first: usize, count: usize, tell: bool, curve: &[f32])
+fn run(
+    rt: HostRuntime,
+    station: &mut Station,
+    first: usize,
+    count: usize,
+    tell: bool,
+    curve: &[f32],
+)
     requires { first ≤ 5 }
 {
     let mut file = cli::memory::file();

@@ -3,11 +3,11 @@
 ghost use Rattle.std.specs.Prelude.{◌<◌};
 
 use crate::{files, says};
+use cards::fields::Cursor;
 use cli::names;
 use cli::output::end;
 use cli::says::argument;
 use cli::stream::STDOUT_FILENO;
-use cards::fields::Cursor;
 use sheets::event::{Event, is_whole, read};
 use std::io::Error;
 

@@ -1,5 +1,6 @@
 -- What the functions promise: an event as it is read, and what playing leaves of all that is lent. Assumes nothing.
-use Rattle.std.specs.Prelude.{ℕ, zero, suc, ◌+◌, ◌*◌, ◌-◌, ◌^◌, ◌≤◌, ◌<◌, ◌≡◌, Bool, true, false, List, [], ◌∷◌, length, drop, Float, Option, Some, None, Result, Ok, Err}
+use Rattle.std.specs.Prelude.{ℕ, zero, suc, ◌+◌, ◌*◌, ◌-◌, ◌^◌, ◌≤◌, ◌<◌, ◌≡◌, Bool, true, false, List, [], ◌∷◌, length, drop, Float}
+use Rattle.std.specs.Prelude.{Option, Some, None, Result}
 use Rattle.std.specs.Result.{is_ok}
 use Rattle.num.specs.Refusals.{code}
 use Rattle.num.specs.declared.refusal.Refusal.{Refusal}
@@ -73,8 +74,8 @@ refused_by (refusal k) = k
 refused_by (acceptance r) = 0
 
 -- of one event, made from the beginning b: it was accepted, or refused by that number
-pub record Turns (l : Lent) (e : Events.Event) (b : Playing) (r : Result (Unit {0}) Refusal) (s' : Station) (words' past' : List ℕ) (floats floats' : List Float)
-    (ints ints' : List ℕ) : Type 0 where
+pub record Turns (l : Lent) (e : Events.Event) (b : Playing) (r : Result (Unit {0}) Refusal) (s' : Station) (words' past' : List ℕ)
+    (floats floats' : List Float) (ints ints' : List ℕ) : Type 0 where
   pub leaves : Leaves (turn l e b) s' words' past' floats floats' ints ints'
   pub answers : (is_ok r ≡ ok (answer_of l e b)) × (code r ≡ refused_by (answer_of l e b))
 
@@ -82,6 +83,7 @@ abbrev pub reported_play : Result Played Refusal → Report
 reported_play = reported_by (λ p. p.accepted ∷ p.refused ∷ [])
 
 -- of a sheet
-pub record Plays (o : Outcome) (r : Result Played Refusal) (s' : Station) (words' past' : List ℕ) (floats floats' : List Float) (ints ints' : List ℕ) : Type 0 where
+pub record Plays (o : Outcome) (r : Result Played Refusal) (s' : Station) (words' past' : List ℕ) (floats floats' : List Float)
+    (ints ints' : List ℕ) : Type 0 where
   pub leaves : Leaves o.playing s' words' past' floats floats' ints ints'
   pub answers : reported_play r ≡ o.answer

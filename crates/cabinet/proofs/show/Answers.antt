@@ -1,10 +1,9 @@
 -- `cabinet::show` meets its contract: the source's refusal, the station's, or the enlarged frame under the chain. Assumes nothing.
-use Rattle.std.proofs.Common.{rules, ◌≡◌, ◌*◌, ◌≤◌, length, Err}
+use Rattle.std.proofs.Common.{rules, ◌≡◌, ◌*◌, ◌≤◌, Err}
 use mathlib.Core.Path.{sym}
 use native.Mathlib.Nat.{mul-le-mul}
 use native.Mathlib.Omega.{arith}
 use lib.Seq.{length-take-le}
-use Rattle.std.specs.Result.{IsErr}
 use Rattle.chain.proofs.Goes.{goes}
 use Rattle.cabinet.proofs.Sources.{fine}
 use Rattle.cabinet.proofs.Shown.{bad_source_lem, refused, shown, written}

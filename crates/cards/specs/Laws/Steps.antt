@@ -1,6 +1,6 @@
 -- Laws of the code's answers as steps. Assumes nothing.
-use Rattle.std.specs.Prelude.{ℕ, ◌≡◌, refl, Result, Ok, Err}
-use Rattle.cards.specs.Step.{Step, took, refused, step}
+use Rattle.std.specs.Prelude.{ℕ, ◌≡◌, Result, Ok, Err}
+use Rattle.cards.specs.Step.{took, step}
 use Rattle.cards.specs.declared.fields.Stop.{Stop}
 
 -- a value that was taken is the code's

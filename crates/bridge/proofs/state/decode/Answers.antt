@@ -1,8 +1,7 @@
 -- `bridge::state::decode` meets its contract: no card, other bytes, or a state. Assumes nothing.
-use Rattle.std.proofs.Common.{rules, ◌≡◌, ℕ, ◌-◌, length, List}
+use Rattle.std.proofs.Common.{ℕ, List}
 use mathlib.Core.Path.{sym, ap, ◌∙◌}
-use lib.ListN.{take, drop}
-use Rattle.bridge.specs.State.{card_in, same_bytes}
+use Rattle.bridge.specs.State.{same_bytes}
 use Rattle.bridge.proofs.Decoding.{card_part, no_card, other-bytes, same_bytes_lem}
 use Rattle.bridge.proofs.state.decode.Goals as goal
 

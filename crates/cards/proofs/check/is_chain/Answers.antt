@@ -1,6 +1,6 @@
 -- `cards::check::is_chain` meets its contract: a record that is not normalised, or of a kind that may not come once more or below the last, decides;
 -- any other leaves it to those after it. Assumes nothing.
-use Rattle.std.specs.Prelude.{ℕ, suc, ◌<◌, ◌≡◌, Bool, ◌&&◌, not, List, ◌∷◌, [], length, take, get_or, ltb}
+use Rattle.std.specs.Prelude.{ℕ, suc, ◌<◌, ◌≡◌, ◌&&◌, not, List, ◌∷◌, [], length, take, get_or, ltb}
 use Rattle.std.proofs.Common.{arith, ap, sym, ◌∙◌}
 use mathlib.Core.Path.{ap₂}
 use borrow.Author.Tests.{lt-ltb, le-ltb}

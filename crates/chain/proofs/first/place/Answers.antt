@@ -1,6 +1,6 @@
 -- `chain::first::place` meets its contract. Assumes nothing.
-use Rattle.std.specs.Prelude.{ℕ, ◌≡◌, ◌≤◌, ◌<◌, true, Option, length, IfOk}
-use Rattle.std.proofs.Common.{Some, None, sym, ap, ◌∙◌, rules, arith}
+use Rattle.std.specs.Prelude.{ℕ, ◌≡◌, true, Option, length, IfOk}
+use Rattle.std.proofs.Common.{Some, None, sym, ap, ◌∙◌, arith}
 use Rattle.std.specs.List.{position}
 use Rattle.std.specs.Option.{ok_or}
 use Rattle.num.specs.Refusals.{code}

@@ -1,7 +1,7 @@
 -- `chain::pipeline::apply` meets its contract. A refused frame touches nothing. Past the refusals the buffers are long enough, so that the chain runs on
 -- the first words of each, its promise is the reply, and the words behind them stay. Assumes nothing.
-use Rattle.std.specs.Prelude.{◌≡◌, ◌*◌, ◌≤◌, length}
-use Rattle.std.proofs.Common.{Err, rules, arith, sym, refl, ◌∙◌}
+use Rattle.std.specs.Prelude.{◌≡◌}
+use Rattle.std.proofs.Common.{Err, rules, arith, sym, refl}
 use Rattle.std.proofs.lemmas.List.{length-take-le}
 use Rattle.num.specs.Laws.Refusals.{number-some, area-fine}
 use Rattle.chain.proofs.Goes.{goes, lends, chain_long, stays, refused_frame, shown_frame}

@@ -1,5 +1,4 @@
 -- `chain::pipeline::commit` meets its contract: the switch that is asked for is there, and `set_enabled` makes it. Assumes nothing.
-use Rattle.std.specs.Prelude.{◌≡◌}
 use Rattle.std.proofs.Common.{sym, ◌∙◌}
 use Rattle.chain.proofs.Replies.{bad_committed, none_committed, commits, commits_always}
 use Rattle.chain.proofs.pipeline.commit.Goals as goal

@@ -1,10 +1,7 @@
 -- `chain::pipeline::cycle_lut` meets its contract: the LUT is found, and changed in its place. Assumes nothing.
 use Rattle.std.specs.Prelude.{◌≡◌}
-use Rattle.std.proofs.Common.{Err, rules, arith, sym, ap, ◌∙◌}
+use Rattle.std.proofs.Common.{Err, rules, sym}
 use Rattle.num.specs.Laws.Refusals.{number-some, refuses}
-use Rattle.cards.specs.Laws.Scans.{past}
-use Rattle.cards.specs.Passes.{kind_of}
-use Rattle.chain.proofs.PassCases.{stepped_kind}
 use Rattle.chain.proofs.Replies.{cycles}
 use Rattle.chain.proofs.pipeline.cycle_lut.Goals as goal
 

@@ -1,6 +1,6 @@
 -- `chain::pipeline::enabled` meets its contract: the record is found, and asked. Assumes nothing.
 use Rattle.std.specs.Prelude.{◌≡◌}
-use Rattle.std.proofs.Common.{Err, rules, arith, sym, refl}
+use Rattle.std.proofs.Common.{Err, rules, sym, refl}
 use Rattle.num.specs.Laws.Refusals.{number-some, refuses}
 use Rattle.chain.specs.Calls.{switch_of}
 use Rattle.chain.proofs.Replies.{tells}

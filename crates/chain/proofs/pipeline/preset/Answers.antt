@@ -1,6 +1,6 @@
 -- `chain::pipeline::preset` meets its contract: the LUT is found, and asked. Assumes nothing.
 use Rattle.std.specs.Prelude.{◌≡◌}
-use Rattle.std.proofs.Common.{Err, rules, arith, sym}
+use Rattle.std.proofs.Common.{Err, rules, sym}
 use Rattle.num.specs.Laws.Refusals.{number-some, refuses}
 use Rattle.chain.specs.Calls.{preset_of}
 use Rattle.chain.proofs.Replies.{tells}

@@ -1,6 +1,6 @@
 -- `chain::pipeline::reset` meets its contract: where persistence is found, all records are forgotten. Assumes nothing.
 use Rattle.std.specs.Prelude.{◌≡◌}
-use Rattle.std.proofs.Common.{Err, rules, sym, refl}
+use Rattle.std.proofs.Common.{Err, rules, refl}
 use Rattle.num.specs.Laws.Refusals.{number-some, refuses, accepts}
 use Rattle.chain.proofs.pipeline.reset.Goals as goal
 

@@ -1,7 +1,7 @@
 -- `chain::pipeline::set_depth` meets its contract: the first persistence is found, the history follows its new depth, it is changed in its place, and
 -- with another depth those behind it are forgotten. Assumes nothing.
 use Rattle.std.specs.Prelude.{◌≡◌, suc, ◌-◌}
-use Rattle.std.proofs.Common.{Err, rules, arith, sym, ap, ◌∙◌, add-one}
+use Rattle.std.proofs.Common.{Err, rules, arith, sym, add-one}
 use Rattle.num.specs.Laws.Refusals.{number-some}
 use Rattle.chain.proofs.Deeper.{depth_known}
 use Rattle.chain.proofs.Replies.{depth_lacks, depth_far, depth_short, redepths_same, redepths_other}

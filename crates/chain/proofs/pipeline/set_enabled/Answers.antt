@@ -1,6 +1,6 @@
 -- `chain::pipeline::set_enabled` meets its contract: the record is found, and changed in its place. Assumes nothing.
 use Rattle.std.specs.Prelude.{◌≡◌}
-use Rattle.std.proofs.Common.{Err, rules, arith, sym}
+use Rattle.std.proofs.Common.{Err, rules, sym}
 use Rattle.num.specs.Laws.Refusals.{number-some, refuses}
 use Rattle.chain.proofs.Replies.{switches}
 use Rattle.chain.proofs.pipeline.set_enabled.Goals as goal

@@ -1,9 +1,8 @@
 -- `chain::refusals::depth` meets its contract: the sum of the first i depths. Assumes nothing.
-use Rattle.std.specs.Prelude.{ℕ, ◌≡◌, ◌+◌, List, take}
+use Rattle.std.specs.Prelude.{ℕ, ◌≡◌, ◌+◌, take}
 use Rattle.std.proofs.Common.{arith, refl, sym, ap, add-one, ◌∙◌}
 use lib.Seq.{take_all}
 use Rattle.cards.specs.Laws.Scans.{past}
-use Rattle.cards.specs.declared.station.Record.{Record}
 use Rattle.chain.specs.Chain.{depth}
 use Rattle.chain.proofs.Depths.{depth_more}
 use Rattle.chain.proofs.refusals.depth.Goals as goal

@@ -1,13 +1,11 @@
 -- `frames::judge::totals` meets its contract: a frame that is taken lies whole in the file, and its words in the scratch. Assumes nothing.
 use Prim.Native.Nat.{ℕ, ◌*◌}
 use mathlib.Core.List.{List, ◌++◌}
-use mathlib.Core.Path.{◌≡◌, sym, ap, ◌∙◌}
-use native.Mathlib.Omega.{arith}
+use mathlib.Core.Path.{◌≡◌, ap, ◌∙◌}
 use lib.ListN.{length, drop}
-use Rattle.std.proofs.lemmas.Result.{err_from_is_err_and}
 use Rattle.raster.specs.Ppm.{Parsed, parse_of}
 use Rattle.frames.specs.Judge.{Judged, measured_of, among, by_frame, in_file}
-use Rattle.frames.proofs.Parts.{whole, few, lent, pixels, room}
+use Rattle.frames.proofs.Parts.{pixels}
 use Rattle.frames.proofs.judge.totals.Goals as goal
 
 module _ (words file areas result : List ℕ) where

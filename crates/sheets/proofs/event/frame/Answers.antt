@@ -1,11 +1,10 @@
 -- `sheets::event::frame` meets its contract: two sides, and as many words as they say. Assumes nothing.
-use Rattle.std.proofs.Common.{◌≡◌, ℕ, ◌+◌, ◌*◌, List, Bor, None}
+use Rattle.std.proofs.Common.{◌≡◌, ℕ, List, Bor, None}
 use mathlib.Core.Path.{sym, ap, ◌∙◌}
 use native.Mathlib.Omega.{arith}
 use lib.ListN.{length}
-use Rattle.sheets.specs.Events.{frame_at}
 use Rattle.cards.specs.Bits.{field_at}
-use Rattle.sheets.specs.Promises.{Reads, is_taken}
+use Rattle.sheets.specs.Promises.{is_taken}
 use Rattle.sheets.proofs.Reading.{answer_took, answer_not, no_width, no_height, no_words, whole_frame, count, behind}
 use Rattle.sheets.proofs.event.frame.Goals as goal
 
@@ -51,8 +50,7 @@ pub returns-clause-value : goal.returns-clause-value
 returns-clause-value c =
     let wide = answer_took _ _ _ _ c.field.ensures.value (sym c.ok.ensures.value ∙ c.in_ok-width.was) in
     let same = ap (λ (b : Bor (List ℕ)). b.now) c.field.ensures.place.0 in
-    let high = ap (λ (b : List ℕ). field_at 11 b c.field.new.self.at) (sym same) ∙ answer_took _ _ _ _ c.field-2.ensures.value (sym c.ok-2.ensures.value ∙ c.in_ok-height.was) in
-    (
+    let high = ap (λ (b : List ℕ). field_at 11 b c.field.new.self.at) (sym same) ∙ answer_took _ _ _ _ c.field-2.ensures.value (sym c.ok-2.ensures.value ∙ c.in_ok-height.was) in (
       whole_frame _ _ wide high (omega (arith, c.if-sheet-end.false, ap length same, ap (λ (b : Bor (List ℕ)). length b.now) c.field-2.ensures.place.0)),
       (omega (arith, behind _ _ wide high), omega (arith, c.if-sheet-end.false, ap length same, ap (λ (b : Bor (List ℕ)). length b.now) c.field-2.ensures.place.0), omega (arith, behind _ _ wide high, c.requires)),
       omega (arith, count _ _ wide high, behind _ _ wide high),

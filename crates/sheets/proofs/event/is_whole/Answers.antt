@@ -1,14 +1,12 @@
 -- `sheets::event::is_whole` meets its contract: after each event the rest of the sheet tells as much as all of it. Assumes nothing.
-use Rattle.std.proofs.Common.{◌≡◌, ℕ, suc, ◌+◌, ◌-◌, Bor, List, not}
+use Rattle.std.proofs.Common.{ℕ, ◌+◌, ◌-◌, Bor, List, not}
 use mathlib.Core.Path.{sym, ap, ◌∙◌}
 use native.Mathlib.Omega.{arith}
 use Rattle.std.specs.Result.{result_ok}
-use Rattle.cards.specs.Bits.{field_at}
-use Rattle.cards.specs.Step.{took}
-use Rattle.sheets.specs.Events.{sheet_at, rest_at}
+use Rattle.sheets.specs.Events.{rest_at}
 use Rattle.sheets.specs.Promises.{is_taken}
 use Rattle.sheets.proofs.Events.{one_more, none_left, last_event, no_count, counted}
-use Rattle.sheets.proofs.Reading.{answer_took, answer_not, small, next}
+use Rattle.sheets.proofs.Reading.{answer_took, answer_not, small}
 use Rattle.sheets.proofs.event.is_whole.Goals as goal
 
 pub returns-in_default : goal.returns-in_default
@@ -28,8 +26,8 @@ read-requires c = omega (arith, c.loop.invariant.0, c.loop.invariant.1, c.loop-t
 pub returns-then-is_none : goal.returns-then-is_none
 returns-then-is_none c =
     sym (
-      c.loop.invariant.2 ∙ ap (λ (k : ℕ). is_taken (rest_at k c.loop.cursor.bytes.now c.loop.cursor.at)) (omega (arith, c.loop-test.true))
-      ∙ none_left c.loop.cursor.bytes.now (c.in-Ok.n - (c.loop.counter + 1)) c.loop.cursor.at _ _ c.read.result (c.is_none.ensures ∙ ap not c.if-is_none.true) c.read.ensures.value
+    c.loop.invariant.2 ∙ ap (λ (k : ℕ). is_taken (rest_at k c.loop.cursor.bytes.now c.loop.cursor.at)) (omega (arith, c.loop-test.true))
+    ∙ none_left c.loop.cursor.bytes.now (c.in-Ok.n - (c.loop.counter + 1)) c.loop.cursor.at _ _ c.read.result (c.is_none.ensures ∙ ap not c.if-is_none.true) c.read.ensures.value
     )
 
 pub loop-preserved : goal.loop-preserved
@@ -49,6 +47,6 @@ pub returns : goal.returns
 returns c =
     c.is_at_end.ensures
     ∙ sym (
-      c.loop.invariant.2 ∙ ap (λ (k : ℕ). is_taken (rest_at k c.loop.cursor.bytes.now c.loop.cursor.at)) (omega (arith, c.loop.auto.counter-end, c.loop-test.false))
-      ∙ last_event c.loop.cursor.bytes.now c.loop.cursor.at
+    c.loop.invariant.2 ∙ ap (λ (k : ℕ). is_taken (rest_at k c.loop.cursor.bytes.now c.loop.cursor.at)) (omega (arith, c.loop.auto.counter-end, c.loop-test.false))
+    ∙ last_event c.loop.cursor.bytes.now c.loop.cursor.at
     )

@@ -1,13 +1,12 @@
 -- `sheets::event::read` meets its contract: the number, and what stands behind it. Assumes nothing.
-use Rattle.std.proofs.Common.{◌≡◌, ℕ, ◌+◌, ◌≤◌, List, Bor, Bool, false, None, Option}
+use Rattle.std.proofs.Common.{◌≡◌, ℕ, ◌+◌, List, Bor, None}
 use mathlib.Core.Path.{refl, sym, ap, ◌∙◌, subst}
 use native.Mathlib.Omega.{arith}
 use lib.ListN.{get_or}
 use Rattle.cards.specs.Bits.{field_at}
-use Rattle.cards.specs.Step.{Step, refuse, took}
-use Rattle.sheets.specs.Events.{Event, by_number, event_at, frame_at, switch_at, switch, ask}
+use Rattle.cards.specs.Step.{refuse, took}
+use Rattle.sheets.specs.Events.{by_number, event_at, frame_at, switch_at, switch, ask}
 use Rattle.sheets.specs.Promises.{Reads, is_taken}
-use Rattle.sheets.specs.declared.event.Event as Declared
 use Rattle.sheets.proofs.Reading.{answer_took, answer_not, no_number_lem, by_number_lem, next, unknown, same_read}
 use Rattle.sheets.proofs.event.read.Goals as goal
 

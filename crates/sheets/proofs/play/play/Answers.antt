@@ -1,8 +1,7 @@
 -- `sheets::play::play` meets its contract: the station and the whole sheet are looked at before the first event. Assumes nothing.
-use Rattle.std.proofs.Common.{rules, ◌≡◌, ℕ, List, Bor}
-use mathlib.Core.Path.{refl, sym, ap, ◌∙◌}
+use Rattle.std.proofs.Common.{ℕ, List, Bor}
+use mathlib.Core.Path.{sym, ap, ◌∙◌}
 use Rattle.std.specs.Result.{result_ok}
-use Rattle.cards.specs.Bits.{field_at}
 use Rattle.chain.specs.Agree.{opened}
 use Rattle.sheets.specs.Events.{rest_at}
 use Rattle.sheets.specs.Play.{begun, played_of}

@@ -1,13 +1,11 @@
 -- `sheets::play::play_all` meets its contract: event after event, while the rest of the sheet tells what all of it does. Assumes nothing.
-use Rattle.std.proofs.Common.{◌≡◌, ℕ, suc, ◌+◌, ◌-◌, ◌≤◌, ◌<◌, length, List, Bor, Bool, cond}
+use Rattle.std.proofs.Common.{◌≡◌, ℕ, suc, ◌+◌, ◌-◌, ◌<◌, List, Bor, Bool, cond}
 use mathlib.Core.Path.{refl, sym, ap, ◌∙◌, subst}
 use native.Mathlib.Omega.{arith}
-use Rattle.chain.specs.Agree.{opened}
-use Rattle.sheets.specs.Events.{rest_at, event_at}
-use Rattle.sheets.specs.Play.{Outcome, begun, played_of}
+use Rattle.sheets.specs.Events.{event_at}
 use Rattle.sheets.specs.Promises.{Reads, lent_of}
 use Rattle.sheets.proofs.Reading.{read_took}
-use Rattle.sheets.proofs.Playing.{Going, going, recount, as_number, at_most, is_there, goes_on, lent_alike, few, ended}
+use Rattle.sheets.proofs.Playing.{going, recount, as_number, at_most, is_there, goes_on, lent_alike, few, ended}
 use Rattle.sheets.proofs.play.play_all.Goals as goal
 
 pub loop-init : goal.loop-init

@@ -1,5 +1,5 @@
 -- `sheets::play::play_all` meets its contract: event after event, while the rest of the sheet tells what all of it does. Assumes nothing.
-use Rattle.std.proofs.Common.{◌≡◌, ◌≤◌, ◌*◌, ◌+◌, ◌-◌, length}
+use Rattle.std.proofs.Common.{◌≡◌, ◌≤◌, ◌*◌, ◌+◌, ◌-◌}
 use Rattle.chain.specs.Agree.{opened}
 use Rattle.sheets.specs.Events.{rest_at}
 use Rattle.sheets.specs.Play.{begun, played_of}

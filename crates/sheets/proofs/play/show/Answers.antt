@@ -1,15 +1,13 @@
 -- `sheets::play::show` meets its contract: the station's refusal, or the words and the call. Assumes nothing.
-use Rattle.std.proofs.Common.{rules, ◌≡◌, true, false, ◌≤◌, ◌*◌, ℕ, length, List, ◌++◌, Ok, Err}
+use Rattle.std.proofs.Common.{rules, ◌≡◌, ◌*◌, Ok, Err}
 use native.Mathlib.Omega.{arith}
-use mathlib.Core.Path.{refl, sym, ap, ◌∙◌}
-use lib.ListN.{take, drop}
+use mathlib.Core.Path.{refl, sym, ap}
 use lib.Seq.{length-take-le}
-use Rattle.std.specs.Result.{is_ok, IsErr}
-use Rattle.num.specs.Refusals.{code, number_of}
+use Rattle.std.specs.Result.{is_ok}
+use Rattle.num.specs.Refusals.{code}
 use Rattle.num.specs.Laws.Refusals.{number-some}
 use Rattle.chain.proofs.Goes.{goes}
 use Rattle.sheets.specs.Promises.{values_at}
-use Rattle.sheets.specs.Play.{laid}
 use Rattle.sheets.proofs.Turning.{unshown, shows, values_length, laid_by}
 use Rattle.sheets.proofs.play.show.Goals as goal
 

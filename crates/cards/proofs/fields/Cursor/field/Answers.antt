@@ -2,7 +2,7 @@
 use Rattle.std.specs.Prelude.{ℕ, suc, ◌+◌, ◌*◌, ◌^◌, ◌≤◌, ◌<◌, List}
 use Rattle.std.proofs.Common.{arith, refl, add-one}
 use lib.Pow.{pow_mono}
-use Rattle.cards.specs.Bits.{bit_at, value_at}
+use Rattle.cards.specs.Bits.{value_at}
 use Rattle.cards.proofs.Bits.{bit_at_lt, value_at_lt}
 use Rattle.cards.proofs.fields.Cursor.field.Goals as goal
 

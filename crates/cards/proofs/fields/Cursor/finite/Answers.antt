@@ -1,5 +1,5 @@
 -- `cards::fields::Cursor::finite` meets its contract: the exponent's field tells whether it is finite. Assumes nothing.
-use Rattle.std.proofs.Common.{sym, ◌∙◌}
+use Rattle.std.proofs.Common.{sym}
 use borrow.Author.Tests.{eq-eqb, ne_eqb}
 use Rattle.cards.specs.Step.{refuse_if}
 use Rattle.cards.specs.Settings.{finite_at}

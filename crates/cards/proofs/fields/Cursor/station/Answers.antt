@@ -1,6 +1,6 @@
 -- `cards::fields::Cursor::station` meets its contract: each exit cites a law of `Opening`; the loop's invariant is `Done`. Assumes nothing.
-use Rattle.std.specs.Prelude.{◌≡◌, ℕ, not}
-use Rattle.std.proofs.Common.{arith, rules, sym, ap, ◌∙◌}
+use Rattle.std.specs.Prelude.{◌≡◌, not}
+use Rattle.std.proofs.Common.{rules, sym, ap, ◌∙◌}
 use borrow.Author.Tests.{not-true, not-false}
 use Rattle.num.specs.Refusals.{number_of}
 use Rattle.cards.specs.Step.{Refusal, took, refused, stop, step, refuse_if}

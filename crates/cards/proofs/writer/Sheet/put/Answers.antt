@@ -8,7 +8,6 @@ use lib.ListN.{length, set}
 use borrow.Author.Rules.{rules}
 use lib.Seq.{paste, paste-zero, paste-suc}
 use Rattle.cards.specs.Written.{bits as bits_of}
-use Rattle.cards.specs.declared.writer.Sheet.{Sheet}
 use Rattle.cards.proofs.Packed.{length-bits}
 use Rattle.cards.proofs.Sheets.{bits_at, laid}
 use Rattle.cards.proofs.writer.Sheet.put.Goals as goal
