@@ -191,6 +191,11 @@ function items(from, to, mod,    name) {
             need("{")
             while (T[p] != "}") {
                 skip_attributes()
+                if (T[p] == "const" && T[p + 2] == ":") {
+                    constant_at[name "::" T[p + 1]] = p
+                    skip_past(";")
+                    continue
+                }
                 methods[T[p + 1]] = methods[T[p + 1]] " " name "::" T[p + 1]
                 skip_function(mod, name "::" T[p + 1])
             }
@@ -317,6 +322,7 @@ function constant(name,    was_p, was_end, was_here, was_mod, was_in, entries) {
     end = n
     here = name
     mod = parent_of(name)
+    if (mod in type_of) mod = parent_of(mod)
     need(":")
     entries = type(0)
     if (entries != 1) table(constant_at[name], entries, T[constant_at[name] + 1])
