@@ -16,6 +16,7 @@ pub mod Same
 pub mod Theorems
 pub mod OpensGood
 pub mod Records
+pub mod Widths
 pub mod Sheets
 pub mod Laying
 pub mod Writing

@@ -1,5 +1,5 @@
 // The card: read into a station, and written back from one that is good. Nothing here is assumed, and no public function
-// has a `requires`, but for `fields::byte`, by which fields are read elsewhere too.
+// has a `requires`, but for those of `Cursor`, by which fields are read elsewhere too.
 #![tactic(auto)]
 
 pub mod station; // the passes, the records, the station

@@ -1,8 +1,8 @@
 // What a station is: the records in chain order, each a pass with its settings, its switch and, for persistence, the size that
 // its history holds; the pending switch. And what is asked of kinds.
-ghost use Rattle.std.specs.Prelude.{◌≡◌, ◌≤◌, length};
+ghost use Rattle.std.specs.Prelude.{◌≡◌, ◌≤◌, [], length};
 ghost use Rattle.cards.specs.Alike.{chain_of};
-ghost use Rattle.cards.specs.Card.{unused};
+ghost use Rattle.cards.specs.Card.{unused, station_of};
 ghost use Rattle.cards.specs.Passes.{kind_of};
 ghost use Rattle.cards.specs.Records.{kinds, among, last_of, often as oftenOf, times as times_of, full};
 
@@ -110,6 +110,17 @@ pub struct Station {
 }
 
 impl Station {
+    // The empty chain: what stands where a card is refused.
+    pub fn empty() -> Station
+        ensures { result ≡ station_of [] }
+    {
+        Station {
+            records: [Record::filler(); 12],
+            n: 0,
+            pending: Pending::Nothing,
+        }
+    }
+
     // The records of its chain: no more than twelve are there, whatever n says.
     pub fn chain(&self) -> &[Record]
         ensures chain { result.now ≡ chain_of self.now }

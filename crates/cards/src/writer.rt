@@ -22,9 +22,9 @@ pub fn real_bits(x: f32) -> u32
 
 // Bits laid down one after another, a bit in a byte: `at` of them so far. Twelve records of at most 133 bits have room.
 #[derive(Clone, Copy)]
-struct Sheet {
-    bits: [u8; 1608],
-    at: usize,
+pub struct Sheet {
+    pub bits: [u8; 1608],
+    pub at: usize,
 }
 
 impl Sheet {
