@@ -2,10 +2,10 @@
 use Rattle.std.specs.Prelude.{ℕ, ◌*◌, ◌≤◌, ◌≡◌, Bool, true, List, [], Float, length, drop, Result, Ok, Err}
 use Rattle.std.specs.Result.{is_ok}
 use Rattle.cards.specs.Answers.{ok, Reply}
-use Rattle.cards.specs.Card.{station_of}
 use Rattle.cards.specs.declared.station.Station.{Station}
 use Rattle.events.specs.Buffers.{Printed}
 use Rattle.events.specs.Play.{Outcome, open_text}
+use Rattle.events.specs.declared.play.NotOpened.{NotOpened}
 use Rattle.events.specs.declared.play.Played.{Played}
 
 pub record Says (text : List ℕ) (more : Bool) (r : Played) (out out' : List ℕ) : Type 0 where
@@ -16,17 +16,17 @@ pub record Says (text : List ℕ) (more : Bool) (r : Played) (out out' : List �
 abbrev pub went_on : ℕ → Played
 went_on n = record { length = n; more = true }
 
--- of opening: the station, for which the empty one stands where the card is refused, and the length of the line, of which an accepted card has none
-abbrev pub station_from : Result Station ℕ → Station
+-- of opening: the station, where the card is refused too, and the length of the line, of which an accepted card has none
+abbrev pub station_from : Result Station NotOpened → Station
 station_from (Ok s) = s
-station_from (Err n) = station_of []
+station_from (Err k) = k.station
 
-abbrev pub length_from : Result Station ℕ → ℕ
+abbrev pub length_from : Result Station NotOpened → ℕ
 length_from (Ok s) = 0
-length_from (Err n) = n
+length_from (Err k) = k.length
 
 -- opening a card: what the definition replies, and its line
-pub record Begins (o : Reply) (r : Result Station ℕ) (out out' : List ℕ) : Type 0 where
+pub record Begins (o : Reply) (r : Result Station NotOpened) (out out' : List ℕ) : Type 0 where
   pub station : station_from r ≡ o.station
   pub goes_on : is_ok r ≡ ok o.answer
   pub prints : Printed (open_text o.answer) (length_from r) out out'

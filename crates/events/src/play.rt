@@ -1,8 +1,8 @@
 // What the card and the events do to a station, and the lines that are printed of it.
-ghost use Rattle.std.specs.Prelude.{◌≡◌, true, ◌*◌, ◌≤◌, ◌<◌, length, IfErr};
+ghost use Rattle.std.specs.Prelude.{◌≡◌, true, ◌*◌, ◌≤◌, ◌<◌, [], length, IfErr};
 ghost use Rattle.cards.specs.Answers.{reported};
 ghost use Rattle.chain.specs.Answers.{reported_frame, reported_number};
-ghost use Rattle.cards.specs.Card.{open_of, opened};
+ghost use Rattle.cards.specs.Card.{open_of, opened, station_of};
 ghost use Rattle.events.specs.Events.{card_in, Whole, event_fault as faultOf};
 ghost use Rattle.events.specs.Play.{spoken, pictured, refusal_line as refusedLine, show_played, frame_played, called as calledOf, played_of};
 ghost use Rattle.events.specs.Buffers.{Printed};
@@ -26,6 +26,13 @@ pub struct Played {
     pub length: usize,
     // Whether the next event is read.
     pub more: bool,
+}
+
+// A card that is refused: the empty chain, which stands until the next card, and how many bytes its line has.
+#[derive(Clone, Copy)]
+pub struct NotOpened {
+    pub station: Station,
+    pub length: usize,
 }
 
 // What is lent to each frame: its words, those of older frames, and scratch.
@@ -188,16 +195,20 @@ fn open(bytes: &[u8]) -> Result<Station, Refusal>
     reader::open(&bytes[1..end])
 }
 
-// Opens the card. A refused one prints its line, whose length is answered, and ends the reading.
+// Opens the card. A refused one prints its line, and ends the reading.
 #[tactic(auto, using(crate::specs::Laws::Buffers::fits))]
-pub fn begin(bytes: &[u8], out: &mut [u8; 7170]) -> Result<Station, usize>
-    ensures short { IfErr result (λ n. n ≤ 7170) }
+pub fn begin(bytes: &[u8], out: &mut [u8; 7170]) -> Result<Station, NotOpened>
+    ensures short { IfErr result (λ k. k.length ≤ 7170) }
+    ensures empty { IfErr result (λ k. k.station ≡ station_of []) }
     ensures line { Begins (open_of (card_in bytes.now)) result out.old out.new }
 {
     // not `map_err`: of a closure that writes the line its promise would not be known
     match open(bytes) {
         Ok(station) => Ok(station),
-        Err(refusal) => Err(refusal_line(refusal, out)),
+        Err(refusal) => Err(NotOpened {
+            station: Station::empty(),
+            length: refusal_line(refusal, out),
+        }),
     }
 }
 

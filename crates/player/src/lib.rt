@@ -2,11 +2,12 @@
 // what it does and what is printed of it is said by crate `events`.
 #![tactic(auto)]
 
-ghost use Rattle.std.specs.Prelude.{◌≡◌, ◌+◌, ◌≤◌, cond, length, take, replicate, IfErr};
+ghost use Rattle.std.specs.Prelude.{◌≡◌, ◌+◌, ◌≤◌, [], cond, length, take, replicate, IfErr};
+ghost use Rattle.cards.specs.Card.{station_of};
 ghost use Rattle.events.specs.Events.{head_wanted, event_wanted};
 
 use cards::station::Station;
-use events::play::{Played, Workspace};
+use events::play::{NotOpened, Played, Workspace};
 use events::{event, play};
 
 // Standard input by its number, which the functions of `io` take.
@@ -67,9 +68,10 @@ impl Player {
         }
     }
 
-    // Reads the card and opens it. A refused one is answered by the length of its line.
-    pub fn begin(&mut self) -> Result<Station, usize>
-        ensures { IfErr result (λ n. n ≤ 7170) }
+    // Reads the card and opens it. A refused one leaves the empty chain, and its line.
+    pub fn begin(&mut self) -> Result<Station, NotOpened>
+        ensures short { IfErr result (λ k. k.length ≤ 7170) }
+        ensures empty { IfErr result (λ k. k.station ≡ station_of []) }
     {
         let n = fetch(&mut self.input, true);
         play::begin(&self.input[..n], &mut self.out)

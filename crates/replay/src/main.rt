@@ -3,14 +3,12 @@
 // significant first. Prints how many answers were replayed, and how many differ.
 #![tactic(auto)]
 
-ghost use Rattle.std.specs.Prelude.{◌≡◌, ◌≤◌};
-ghost use Rattle.cards.specs.Card.{station_of};
-ghost use Rattle.std.specs.Prelude.{[]};
+ghost use Rattle.std.specs.Prelude.{◌≤◌};
 
 mod adler; // the checksum
 
 use adler::adler;
-use cards::station::{Pending, Record, Station};
+use cards::station::Station;
 use player::{Player, STDIN_FILENO};
 
 // Standard output by its number, which the functions of `io` take.
@@ -57,17 +55,6 @@ impl Tally {
     }
 }
 
-// The empty chain: until the first card, and after one that is refused.
-fn empty() -> Station
-    ensures { result ≡ station_of [] }
-{
-    Station {
-        records: [Record::filler(); 12],
-        n: 0,
-        pending: Pending::Nothing,
-    }
-}
-
 // Begins a station where the letter is `N`, and else plays an event. Answers the length of the line.
 fn turn(player: &mut Player, letter: u8, station: &mut Station) -> usize
     ensures { result ≤ 7170 }
@@ -75,22 +62,18 @@ fn turn(player: &mut Player, letter: u8, station: &mut Station) -> usize
     if letter != b'N' {
         return player.turn(station).length;
     }
-    match player.begin() {
-        Ok(begun) => {
-            *station = begun;
-            0
-        }
-        Err(length) => {
-            *station = empty();
-            length
-        }
-    }
+    let (begun, length) = match player.begin() {
+        Ok(begun) => (begun, 0),
+        Err(refused) => (refused.station, refused.length),
+    };
+    *station = begun;
+    length
 }
 
 // A proved loop has to end, and nothing says that an input does: it counts its turns, up to a number that no run reaches.
 fn main() {
     let mut player = Player::new();
-    let mut station = empty();
+    let mut station = Station::empty();
     let mut tally = Tally::default();
     for _ in 0..u64::MAX {
         let Some(letter) = next() else {

@@ -12,8 +12,8 @@ fn main() {
     let mut player = Player::new();
     let mut station = match player.begin() {
         Ok(station) => station,
-        Err(length) => {
-            io::write_all(STDOUT_FILENO, player.line(length));
+        Err(refused) => {
+            io::write_all(STDOUT_FILENO, player.line(refused.length));
             return;
         }
     };
