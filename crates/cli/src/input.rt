@@ -178,7 +178,7 @@ pub fn curve(rt: HostRuntime, i: usize) -> Option<[f32; 256]> {
         Err(why) => {
             if loaded.ok {
                 says::name(rt, STDERR_FILENO, i);
-                words::no_curve(STDERR_FILENO, why);
+                words::no_curve(STDERR_FILENO, why.number());
             }
             None
         }

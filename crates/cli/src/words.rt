@@ -1,9 +1,7 @@
 // Refusals in words, and why a file is no frame, or holds no curve.
 use super::{names, output};
 use cards::reader;
-use frames::curve::NoCurve;
 use inspect::layout::{Field, field_at};
-use raster::ppm::NotAFrame;
 use std::io::Error;
 
 // The trade's word of a refusal, as the papers have it. By its number: `refused` takes any number, and may ask no more of those that call it.
@@ -78,39 +76,35 @@ pub fn refused(rt: HostRuntime, fd: i32, card: &[u8], number: u8) -> Result<(), 
     output::end_at(rt, fd, b"\n")
 }
 
-// Why a file is no frame of 61,440 pixels.
-pub fn no_frame(fd: i32, why: NotAFrame) {
-    match why {
-        NotAFrame::Empty => io::write_all(fd, b"empty file\n"),
-        NotAFrame::OtherFormat => {
-            io::write_all(fd, b"not a binary PPM: it does not begin with P6\n")
-        }
-        NotAFrame::HeaderCut => io::write_all(fd, b"cut off in its header\n"),
-        NotAFrame::BadHeader => io::write_all(
+// Why a file is no frame of 61,440 pixels, by the reason's number. As `refused`, this takes any.
+pub fn no_frame(fd: i32, number: u8) {
+    match number {
+        1 => io::write_all(fd, b"empty file\n"),
+        2 => io::write_all(fd, b"not a binary PPM: it does not begin with P6\n"),
+        3 => io::write_all(fd, b"cut off in its header\n"),
+        4 => io::write_all(
             fd,
             b"bad header: it is P6, width, height, 255 and one white byte\n",
         ),
-        NotAFrame::OtherMaximum => io::write_all(fd, b"a maximum other than 255\n"),
-        NotAFrame::EmptyPicture => io::write_all(fd, b"a width or height of 0\n"),
-        NotAFrame::TooLarge => io::write_all(
+        5 => io::write_all(fd, b"a maximum other than 255\n"),
+        6 => io::write_all(fd, b"a width or height of 0\n"),
+        7 => io::write_all(
             fd,
             b"too large: more than 61440 pixels (256 by 240), or a side above 1024\n",
         ),
-        NotAFrame::PixelsCut => {
-            io::write_all(fd, b"cut off: fewer pixels than its header says\n")
-        }
-        NotAFrame::LeftOver => io::write_all(fd, b"bytes left over after the last pixel\n"),
-        NotAFrame::Unread => { io::write_all(fd, b"more bytes than a frame of 61440 pixels has\n") }
+        8 => io::write_all(fd, b"cut off: fewer pixels than its header says\n"),
+        9 => io::write_all(fd, b"bytes left over after the last pixel\n"),
+        _ => io::write_all(fd, b"more bytes than a frame of 61440 pixels has\n"),
     };
 }
 
-// Why a file holds no curve.
-pub fn no_curve(fd: i32, why: NoCurve) {
-    match why {
-        NoCurve::OtherLength => io::write_all(
+// Why a file holds no curve, by the fault's number. The same.
+pub fn no_curve(fd: i32, number: u8) {
+    match number {
+        1 => io::write_all(
             fd,
             b"no curve: it has not 1024 bytes, which are 256 binary32, the low byte first\n",
         ),
-        NoCurve::Outside => io::write_all(fd, b"no curve: a number in it is not from 0 to 1\n"),
+        _ => io::write_all(fd, b"no curve: a number in it is not from 0 to 1\n"),
     };
 }

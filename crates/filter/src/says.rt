@@ -15,7 +15,7 @@ pub fn card(rt: HostRuntime, i: usize, card: &[u8], why: Refusal) {
 // A file that is no frame.
 pub fn no_frame(rt: HostRuntime, i: usize, why: NotAFrame) {
     name(rt, STDERR_FILENO, i);
-    words::no_frame(STDERR_FILENO, why);
+    words::no_frame(STDERR_FILENO, why.number());
 }
 
 // A frame that the station refused. No station that a card opens refuses a frame with all that is lent here, but by a bad curve where none is named.

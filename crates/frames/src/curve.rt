@@ -1,16 +1,24 @@
 // A file that holds a curve: 256 numbers as binary32, the low byte first.
 ghost use Rattle.std.specs.Prelude.{◌≡◌, ◌+◌, ◌*◌, ◌<◌, ◌≤◌, length};
 ghost use Rattle.num.specs.Rewrite.{fill};
-ghost use Rattle.frames.specs.Curve.{pattern_at, real_of, word_at, empty, loaded, loaded_of};
+ghost use Rattle.frames.specs.Curve.{pattern_at, real_of, word_at, empty, number_of, loaded, loaded_of};
 
 use passes::color_correction::is_good_curve;
 use raster::pixels::at;
 
-// Why a file holds no curve.
+// Why a file holds no curve, each fault with its number (specs/Curve.antt).
 #[derive(Clone, Copy, Debug, PartialEq, Eq)]
 pub enum NoCurve {
-    OtherLength, // another length than 1,024 bytes
+    OtherLength = 1, // another length than 1,024 bytes
     Outside, // a word that is not in 0..1
+}
+
+impl NoCurve {
+    pub fn number(self) -> u8
+        ensures { result ≡ number_of self }
+    {
+        self as u8
+    }
 }
 
 // The bit pattern of the four bytes from i on.

@@ -1,13 +1,13 @@
 // A whole file that should be one frame as binary PPM (netpbm's P6), read: its size and where its pixels start, or why it is refused.
 ghost use Rattle.std.specs.Prelude.{◌≡◌, ◌≤◌, length, false};
 ghost use Rattle.raster.specs.Ppm.{is_white, ends_line, is_digit, in_gap, in_comment, grow, value_of, gap_of, digits_of, number_in, is_p6};
-ghost use Rattle.raster.specs.Ppm.{header_in, parsed, parse_of};
+ghost use Rattle.raster.specs.Ppm.{header_in, parsed, parse_of, number_of};
 ghost use Rattle.raster.specs.Private.{number_step, header_step};
 
-// Why bytes are no frame. specs/Ppm.antt counts the reasons from 1 on.
+// Why bytes are no frame, each reason with its number (specs/Ppm.antt).
 #[derive(Clone, Copy, Debug, PartialEq, Eq)]
 pub enum NotAFrame {
-    Empty, // no byte at all
+    Empty = 1, // no byte at all
     OtherFormat, // not binary PPM: it does not begin with `P6`
     HeaderCut, // the bytes end inside the header
     BadHeader, // no gap where one must be, or no digit, or no white byte after the maximum
@@ -17,6 +17,14 @@ pub enum NotAFrame {
     PixelsCut, // fewer bytes than the pixels have
     LeftOver, // and more
     Unread, // more bytes than were read, of a file that is read up to a limit: `parse` never gives it
+}
+
+impl NotAFrame {
+    pub fn number(self) -> u8
+        ensures { result ≡ number_of self }
+    {
+        self as u8
+    }
 }
 
 // A frame's size, and where its pixels start.
@@ -84,7 +92,7 @@ fn grown(v: usize, d: u8) -> usize
 
 // A number, and where its digits end.
 #[derive(Clone, Copy)]
-struct NumberRead {
+pub struct NumberRead {
     value: usize,
     end: usize,
 }

@@ -43,7 +43,7 @@ fn outside(rt: HostRuntime, i: usize, first: usize, file: &[u8], words: &mut [u3
 // A file that is no frame.
 fn no_frame(rt: HostRuntime, i: usize, why: NotAFrame) {
     says::name(rt, STDERR_FILENO, i);
-    words::no_frame(STDERR_FILENO, why);
+    words::no_frame(STDERR_FILENO, why.number());
 }
 
 // The totals of the picture that argument i names, and how many words were read; or a line that says why there are none.
