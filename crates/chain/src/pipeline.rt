@@ -140,7 +140,15 @@ pub fn commit(station: &mut Station) -> Result<(), Refusal>
 fn next(preset: u8) -> u8
     ensures { result ≡ next_of preset }
 {
-    if preset < 6 { preset + 1 } else { 0 }
+    match preset {
+        0 => 1,
+        1 => 2,
+        2 => 3,
+        3 => 4,
+        4 => 5,
+        5 => 6,
+        _ => 0,
+    }
 }
 
 // A LUT with its next preset; any other pass stays.
