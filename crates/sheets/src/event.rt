@@ -43,7 +43,8 @@ fn frame(sheet: &mut Cursor) -> Option<Event>
     Some(Event::Frame { width, height, at })
 }
 
-// A switch that is made, or asked for, behind its number.
+// A switch that is made, or asked for, behind its number. In line: a sheet is read event by event, and a call for each takes longer.
+#[inline(always)]
 fn switch(sheet: &mut Cursor, ask: bool) -> Option<Event>
     requires { sheet.old.at < 2 ^ 43 + 3 }
     ensures value { Reads sheet.old.bytes.now (sheet.old.at + 5) (switch_at (cond ask asked made) sheet.old.bytes.now sheet.old.at) result sheet.new.at }
