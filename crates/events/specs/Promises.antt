@@ -1,5 +1,5 @@
 -- What the functions promise: the station, the printed line at the start of `out`, and whether to go on. Assumes nothing.
-use Rattle.std.specs.Prelude.{ℕ, ◌*◌, ◌≤◌, ◌≡◌, Bool, true, List, [], Float, length, drop, Result, Ok, Err}
+use Rattle.std.specs.Prelude.{ℕ, ◌*◌, ◌≤◌, ◌≡◌, Bool, true, List, Float, length, drop, Result, Ok, Err}
 use Rattle.std.specs.Result.{is_ok}
 use Rattle.cards.specs.Answers.{ok, Reply}
 use Rattle.cards.specs.declared.station.Station.{Station}
