@@ -1,7 +1,8 @@
 -- What the functions promise: the station, the printed line at the start of `out`, and whether to go on. Assumes nothing.
-use Rattle.std.specs.Prelude.{ℕ, ◌*◌, ◌≤◌, ◌≡◌, Bool, true, List, Float, length, drop, Result, Ok, Err}
+use Rattle.std.specs.Prelude.{ℕ, ◌*◌, ◌≤◌, ◌≡◌, Bool, true, List, [], Float, length, drop, Result, Ok, Err, IfErr}
 use Rattle.std.specs.Result.{is_ok}
 use Rattle.cards.specs.Answers.{ok, Reply}
+use Rattle.cards.specs.Card.{station_of}
 use Rattle.cards.specs.declared.station.Station.{Station}
 use Rattle.events.specs.Buffers.{Printed}
 use Rattle.events.specs.Play.{Outcome, open_text}
@@ -25,9 +26,10 @@ abbrev pub length_from : Result Station NotOpened → ℕ
 length_from (Ok s) = 0
 length_from (Err k) = k.length
 
--- opening a card: what the definition replies, and its line
+-- opening a card: what the definition replies, which of a refused one leaves the empty station, and its line
 pub record Begins (o : Reply) (r : Result Station NotOpened) (out out' : List ℕ) : Type 0 where
   pub station : station_from r ≡ o.station
+  pub empty : IfErr r (λ k. o.station ≡ station_of [])
   pub goes_on : is_ok r ≡ ok o.answer
   pub prints : Printed (open_text o.answer) (length_from r) out out'
 

@@ -2,10 +2,18 @@
 //! the checksum of what the model over the original's pipeline prints of it.
 
 use super::{inputs, model};
+use crate::met::Met;
 use crate::random::Random;
 
 /// How many inputs are recorded, of those whose card is taken.
 const INPUTS: usize = 150;
+
+/// A card of version 2, which is refused, and the card of no pass.
+const REFUSED: &[u8] = &[1, 0x20];
+const EMPTY: &[u8] = &[1, 0x10];
+
+/// What is played after the refused card: a switch, a preset step, a frame.
+const EVENTS: &[u8] = b"S\x0A\x01LF\x01\x01\x12\x34\x56";
 
 pub fn all() -> Vec<u8> {
     let random = &mut Random::named("replay");
@@ -14,13 +22,27 @@ pub fn all() -> Vec<u8> {
     while taken < INPUTS {
         let answers = model::answers(&inputs::input(random.next()));
         for (at, (asked, line)) in answers.iter().enumerate() {
-            bytes.push(if at == 0 { b'N' } else { b'P' });
-            bytes.extend(asked);
-            bytes.extend(adler(line).to_be_bytes());
+            add(if at == 0 { b'N' } else { b'P' }, asked, line, &mut bytes);
         }
         taken += usize::from(!answers.is_empty());
     }
+    refused(&mut bytes);
     bytes
+}
+
+/// A card that is refused, and events on the empty chain that it leaves.
+fn refused(bytes: &mut Vec<u8>) {
+    add(b'N', REFUSED, &model::run(REFUSED, &mut Met::new()), bytes);
+    for (asked, line) in &model::answers(&[EMPTY, EVENTS].concat())[1..] {
+        add(b'P', asked, line, bytes);
+    }
+}
+
+/// An answer, after its letter and what was asked.
+fn add(letter: u8, asked: &[u8], line: &[u8], bytes: &mut Vec<u8>) {
+    bytes.push(letter);
+    bytes.extend(asked);
+    bytes.extend(adler(line).to_be_bytes());
 }
 
 /// The Adler-32 checksum of RFC 1950.
