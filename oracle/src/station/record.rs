@@ -8,12 +8,13 @@ use crate::random::Random;
 /// How many inputs are recorded, of those whose card is taken.
 const INPUTS: usize = 150;
 
-/// A card of version 2, which is refused, and the card of no pass.
-const REFUSED: &[u8] = &[1, 0x20];
-const EMPTY: &[u8] = &[1, 0x10];
+/// The card of scanlines that document 01 has as its example, one of version 2, which is refused, and the card of no pass.
+const SCANLINES: &[u8] = b"\x06\x11\xA9\xF8\x00\x00\x00";
+const REFUSED: &[u8] = b"\x01\x20";
+const EMPTY: &[u8] = b"\x01\x10";
 
-/// What is played after the refused card: a switch, a preset step, a frame.
-const EVENTS: &[u8] = b"S\x0A\x01LF\x01\x01\x12\x34\x56";
+/// What is played after the refused card: a switch of scanlines, a preset step, a frame.
+const EVENTS: &[u8] = b"S\x0A\x01LF\x01\x02\xFF\xFF\xFF\x64\x64\x64";
 
 pub fn all() -> Vec<u8> {
     let random = &mut Random::named("replay");
@@ -30,8 +31,9 @@ pub fn all() -> Vec<u8> {
     bytes
 }
 
-/// A card that is refused, and events on the empty chain that it leaves.
+/// A card that is refused behind one that is taken, and events on the empty chain that it leaves.
 fn refused(bytes: &mut Vec<u8>) {
+    add(b'N', SCANLINES, &[], bytes);
     add(b'N', REFUSED, &model::run(REFUSED, &mut Met::new()), bytes);
     for (asked, line) in &model::answers(&[EMPTY, EVENTS].concat())[1..] {
         add(b'P', asked, line, bytes);
