@@ -26,7 +26,7 @@ abbrev pub length_from : Result Station NotOpened → ℕ
 length_from (Ok s) = 0
 length_from (Err k) = k.length
 
--- opening a card: what the definition replies, which of a refused one leaves the empty station, and its line
+-- opening a card: what the definition replies, with the empty station where the card is refused, and its line
 pub record Begins (o : Reply) (r : Result Station NotOpened) (out out' : List ℕ) : Type 0 where
   pub station : station_from r ≡ o.station
   pub empty : IfErr r (λ k. o.station ≡ station_of [])

@@ -8,9 +8,13 @@ use crate::random::Random;
 /// How many inputs are recorded, of those whose card is taken.
 const INPUTS: usize = 150;
 
-/// The card of scanlines that document 01 has as its example, one of version 2, which is refused, and the card of no pass.
+/// The card of document 01's example, which is of scanlines.
 const SCANLINES: &[u8] = b"\x06\x11\xA9\xF8\x00\x00\x00";
+
+/// A card of version 2.
 const REFUSED: &[u8] = b"\x01\x20";
+
+/// The card of no pass.
 const EMPTY: &[u8] = b"\x01\x10";
 
 /// What is played after the refused card: a switch of scanlines, a preset step, a frame.
@@ -33,8 +37,9 @@ pub fn all() -> Vec<u8> {
 
 /// A card that is refused behind one that is taken, and events on the empty chain that it leaves.
 fn refused(bytes: &mut Vec<u8>) {
-    add(b'N', SCANLINES, &[], bytes);
-    add(b'N', REFUSED, &model::run(REFUSED, &mut Met::new()), bytes);
+    for card in [SCANLINES, REFUSED] {
+        add(b'N', card, &model::run(card, &mut Met::new()), bytes);
+    }
     for (asked, line) in &model::answers(&[EMPTY, EVENTS].concat())[1..] {
         add(b'P', asked, line, bytes);
     }
